@@ -1,0 +1,49 @@
+-- Small tests of the laws: identities and values that are proved in place. Nothing cites them.
+use mathlib.Core.Path.{_≡_, refl}
+use mathlib.Core.List.{List, [], _∷_}
+use mathlib.Core.Bool.{Bool, true, false, cond}
+use Prim.Native.Nat.{ℕ, _+_, _<_}
+use native.Mathlib.Omega.{arith}
+use lib.Dec.{ltb, eqb}
+use lib.IntN.{ℤ, pos, negsuc, _+ℤ_, _-ℤ_, _*ℤ_}
+use lib.Signed.{_≤ℤ_, shrZ}
+use Rattle.laws.specs.Least.{least, some}
+use Rattle.laws.specs.Count.{count}
+use Rattle.laws.specs.Tables.{tabulate, overwrite}
+use Rattle.laws.specs.Ring.{x, #, _⊕_, _⊖_, _⊗_, ring}
+use Rattle.laws.specs.Linear.{le-by}
+use Rattle.laws.specs.Floor.{floor-shift}
+
+-- the least number above 2, and none above 9 below 5
+found : least 5 (λ i. ltb 2 i) ≡ 3
+unfolding least
+found = refl
+
+missing : least 5 (λ i. ltb 9 i) ≡ 5
+unfolding least
+missing = refl
+
+counted : count 10 (λ i. ltb i 4) ≡ 4
+unfolding count
+counted = refl
+
+kept-behind : overwrite (tabulate 2 (λ i. i + 7)) (1 ∷ 2 ∷ 3 ∷ []) ≡ 7 ∷ 8 ∷ 3 ∷ []
+unfolding overwrite tabulate
+kept-behind = refl
+
+squares : (a b : ℤ) → (a +ℤ b) *ℤ (a -ℤ b) ≡ a *ℤ a -ℤ b *ℤ b
+squares a b = ring (a ∷ b ∷ []) ((x 0 ⊕ x 1) ⊗ (x 0 ⊖ x 1)) (x 0 ⊗ x 0 ⊖ x 1 ⊗ x 1) tt
+
+-- the shoelace sum of two points does not change when both are moved along the line through them
+shear : (a b c d : ℤ) → (a +ℤ c) *ℤ d -ℤ c *ℤ (b +ℤ d) ≡ a *ℤ d -ℤ c *ℤ b
+shear a b c d = ring (a ∷ b ∷ c ∷ d ∷ []) ((x 0 ⊕ x 2) ⊗ x 3 ⊖ x 2 ⊗ (x 1 ⊕ x 3)) (x 0 ⊗ x 3 ⊖ x 2 ⊗ x 1) tt
+
+-- floor division goes down for negative numbers
+down : shrZ (negsuc 0) 2 ≡ negsuc 0
+down = refl
+
+shifted : (z : ℤ) → shrZ (z +ℤ pos 5 *ℤ pos 3) 3 ≡ shrZ z 3 +ℤ pos 5
+shifted z = floor-shift z 3 (pos 5) (omega arith)
+
+ordered : (a : ℤ) → (a -ℤ pos 1) ≤ℤ a
+ordered a = le-by (a ∷ []) (x 0 ⊖ # (pos 1)) (x 0) (omega arith)

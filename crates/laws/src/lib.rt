@@ -1,0 +1,1 @@
+// Lemmas for the crates above; see specs/. The product has no function here.

@@ -1,0 +1,5 @@
+pub mod Corners
+pub mod Order
+pub mod OrderLaws
+pub mod Refusals
+pub mod Tests

@@ -1,0 +1,40 @@
+// Leaves over corners and vertices: internal, with what the tests before them establish as their `requires`.
+ghost use mathlib.Core.Path.{_≡_};
+ghost use Prim.Native.Nat.{ℕ, _<_};
+ghost use Rattle.mesh.specs.Corners.{nextCorner, vertexCount};
+ghost use Rattle.mesh.specs.Order.{before};
+
+pub fn wide(x: u32) -> usize
+    ensures { λ r. ⌜ r ≡ x ⌝ }
+{
+    x as usize
+}
+
+// The corner after c in its triangle.
+pub fn next_corner(c: usize) -> usize
+    requires { ⌜ c < 196608 ⌝ }
+    ensures { λ r. ⌜ r ≡ nextCorner c ⌝ }
+{
+    if c % 3 == 2 {
+        return c - 2;
+    }
+    c + 1
+}
+
+// Whether vertex u stands before vertex v: by z, and then by number.
+pub fn comes_before(coords: &[i32], u: usize, v: usize) -> bool
+    requires { ⌜ (u < vertexCount (now coords)) × (v < vertexCount (now coords)) ⌝ }
+    ensures { λ r. ⌜ r ≡ before (now (coords .entry)) u v ⌝ }
+{
+    let i = 3 * u + 2;
+    let j = 3 * v + 2;
+    let a = coords[i];
+    let b = coords[j];
+    if a < b {
+        return true;
+    }
+    if b < a {
+        return false;
+    }
+    u < v
+}
