@@ -86,3 +86,22 @@ some-at n fits e = let h = ltb-true (least n fits) n e in (h, least-fits n fits 
 pub some-none : (n : ℕ) (fits : ℕ → Bool) → some n fits ≡ false → (i : ℕ) → i < n → fits i ≡ false
 unfolding some
 some-none n fits e = none-fits n fits (ltb-false (least n fits) n e)
+
+-- ---- a loop that searches in ascending order: nothing fits before i
+
+pub record Scanned (n : ℕ) (fits : ℕ → Bool) (i : ℕ) : Type 0 where
+  pub upto : i ≤ n
+  pub clear : (k : ℕ) → k < i → fits k ≡ false
+
+pub scan-start : {n : ℕ} {fits : ℕ → Bool} → Scanned n fits 0
+scan-start = record { upto = omega arith; clear = λ k l. absurd (not-suc-le-zero l) }
+
+module _ {n : ℕ} {fits : ℕ → Bool} {i : ℕ} (s : Scanned n fits i) where
+  pub scan-hit : i < n → fits i ≡ true → i ≡ least n fits
+  scan-hit l e = sym (least-is n fits i l e (s .clear))
+
+  pub scan-miss : i < n → fits i ≡ false → Scanned n fits (i + 1)
+  scan-miss l e = record { upto = omega arith; clear = λ k h. ⊎-elim (λ m. s .clear k m) (λ m. let q : k ≡ i = omega arith in rw q e) (split-lt k i) }
+
+  pub scan-end : n ≤ i → i ≡ least n fits
+  scan-end h = let q : i ≡ n = omega (arith, s .upto) in q ∙ sym (least-none n fits (λ k l. s .clear k (omega arith)))

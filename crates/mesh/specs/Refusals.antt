@@ -66,7 +66,6 @@ _then_ Fine w = w
 _then_ (Refused r) w = Refused r
 
 infixr 20 _then_
-
 -- the first condition that fits, at its least place
 unfoldable pub verdict : List Condition → Verdict
 verdict [] = Fine

@@ -1,5 +1,6 @@
 -- The refusals that several operations share: 1, 2, 3, 4, 7 and 8 of document 01.
-use Prim.Native.Nat.{ℕ, _+_, _*_, _/_, _%_}
+use Prim.Native.Nat.{ℕ, _+_, _*_, _/_, _%_, _≤_}
+use mathlib.Core.Path.{_≡_}
 use mathlib.Core.Bool.{Bool, not, _&&_, _||_}
 use mathlib.Core.List.{List, [], _∷_}
 use lib.Dec.{ltb, leb, eqb}
@@ -17,6 +18,11 @@ sizesFit coords corners = eqb (coords % 3) 0 && eqb (corners % 3) 0 && leb (coor
 
 abbrev pub size : List ℤ → List ℕ → Condition
 size coords corners = whole Size (not (sizesFit (length coords) (length corners)))
+
+-- what 1 establishes of a table of n corners
+pub record Whole (n : ℕ) : Type 0 where
+  pub threes : n % 3 ≡ 0
+  pub few : n ≤ 196608
 
 -- ---- 2: a coordinate out of range, its position
 
@@ -62,16 +68,22 @@ pairedAt corners pairing c =
     && ltb (pairOf pairing c) (length pairing)
     && eqb (pairOf pairing (pairOf pairing c)) c
 
+abbrev pub unpaired : List ℕ → List ℕ → ℕ → Bool
+unpaired corners pairing c = not (pairedAt corners pairing c)
+
 abbrev pub pairs : List ℕ → List ℕ → Condition
-pairs corners pairing = record { refusal = Pairing; places = length corners; fits = λ c. not (pairedAt corners pairing c) }
+pairs corners pairing = record { refusal = Pairing; places = length corners; fits = unpaired corners pairing }
 
 -- ---- 8: the least position where the order table is missing an entry or wrong
 
 unfoldable pub orderedAt : List ℤ → List ℕ → ℕ → Bool
 orderedAt coords order i = ltb i (length order) && eqb (getD order i 0) (getD (orderOf coords) i 0)
 
+abbrev pub disordered : List ℤ → List ℕ → ℕ → Bool
+disordered coords order i = not (orderedAt coords order i)
+
 abbrev pub ordered : List ℤ → List ℕ → Condition
-ordered coords order = record { refusal = Order; places = vertexCount coords; fits = λ i. not (orderedAt coords order i) }
+ordered coords order = record { refusal = Order; places = vertexCount coords; fits = disordered coords order }
 
 -- ---- 2, 3 and 4 together
 

@@ -1,1 +1,231 @@
+// The tests of tables that several operations share. Each answers a verdict, the least place first.
+ghost use mathlib.Core.Path.{_≡_};
+ghost use mathlib.Core.List.{[], _∷_};
+ghost use Prim.Native.Nat.{ℕ, _+_, _*_, _/_, _<_};
+ghost use lib.ListN.{length};
+ghost use Rattle.laws.specs.Least.{least};
+ghost use Rattle.mesh.specs.Corners.{vertexCount, triangleCount};
+ghost use Rattle.mesh.specs.Refusals.{test, verdict};
+ghost use Rattle.mesh.specs.Tests.{sizesFit, size, outOfRange, range, namesNone, vertex, namesTwice, triangle, Whole, reverse, pairedAt, unpaired, pairs, mesh};
+use crate::Refusal;
+use crate::Verdict;
+use crate::corners::next_corner;
+use crate::corners::wide;
 
+// Whether tables of these lengths hold whole vertices and triangles, within the limits.
+fn sizes_fit(coords: usize, corners: usize) -> bool
+    ensures { λ r. ⌜ r ≡ sizesFit coords corners ⌝ }
+{
+    if coords % 3 != 0 {
+        return false;
+    }
+    if corners % 3 != 0 {
+        return false;
+    }
+    if 32768 < coords / 3 {
+        return false;
+    }
+    corners / 3 <= 65536
+}
+
+// Refusal 1.
+pub fn size_test(coords: &[i32], corners: &[u32]) -> Verdict
+    ensures { λ r. ⌜ r ≡ test (size (now (coords .entry)) (now (corners .entry))) ⌝ }
+{
+    if sizes_fit(coords.len(), corners.len()) {
+        return Verdict::Fine;
+    }
+    Verdict::Refused(Refusal::Size(0))
+}
+
+// Whether the number at position i is no coordinate.
+fn out_of_range(coords: &[i32], i: usize) -> bool
+    requires { ⌜ i < length (now coords) ⌝ }
+    ensures { λ r. ⌜ r ≡ outOfRange (now (coords .entry)) i ⌝ }
+{
+    let z = coords[i];
+    if z < -1048576 {
+        return true;
+    }
+    1048576 < z
+}
+
+// The least position with no coordinate, else the table's length.
+fn first_out(coords: &[i32]) -> usize
+    ensures { λ r. ⌜ r ≡ least (length (now (coords .entry))) (outOfRange (now (coords .entry))) ⌝ }
+{
+    let mut i: usize = 0;
+    while i < coords.len() {
+        if out_of_range(coords, i) {
+            return i;
+        }
+        i += 1;
+    }
+    i
+}
+
+// Refusal 2.
+pub fn range_test(coords: &[i32]) -> Verdict
+    ensures { λ r. ⌜ r ≡ test (range (now (coords .entry))) ⌝ }
+{
+    let i = first_out(coords);
+    if i < coords.len() {
+        return Verdict::Refused(Refusal::Range(i));
+    }
+    Verdict::Fine
+}
+
+// Whether corner c names no vertex.
+fn names_none(vertices: usize, corners: &[u32], c: usize) -> bool
+    requires { ⌜ c < length (now corners) ⌝ }
+    ensures { λ r. ⌜ r ≡ namesNone vertices (now (corners .entry)) c ⌝ }
+{
+    vertices <= wide(corners[c])
+}
+
+// The least corner that names no vertex, else the number of corners.
+fn first_stray(vertices: usize, corners: &[u32]) -> usize
+    ensures { λ r. ⌜ r ≡ least (length (now (corners .entry))) (namesNone vertices (now (corners .entry))) ⌝ }
+{
+    let mut c: usize = 0;
+    while c < corners.len() {
+        if names_none(vertices, corners, c) {
+            return c;
+        }
+        c += 1;
+    }
+    c
+}
+
+// Refusal 3.
+pub fn vertex_test(vertices: usize, corners: &[u32]) -> Verdict
+    ensures { λ r. ⌜ r ≡ test (vertex vertices (now (corners .entry))) ⌝ }
+{
+    let c = first_stray(vertices, corners);
+    if c < corners.len() {
+        return Verdict::Refused(Refusal::Vertex(c));
+    }
+    Verdict::Fine
+}
+
+// Whether triangle t names a vertex twice.
+fn names_twice(corners: &[u32], t: usize) -> bool
+    requires { ⌜ t < triangleCount (now corners) ⌝ }
+    ensures { λ r. ⌜ r ≡ namesTwice (now (corners .entry)) t ⌝ }
+{
+    let i = 3 * t;
+    let j = i + 1;
+    let k = i + 2;
+    let a = corners[i];
+    let b = corners[j];
+    let c = corners[k];
+    if a == b {
+        return true;
+    }
+    if b == c {
+        return true;
+    }
+    c == a
+}
+
+// The least triangle that names a vertex twice, else the number of triangles.
+fn first_degenerate(corners: &[u32]) -> usize
+    ensures { λ r. ⌜ r ≡ least (triangleCount (now (corners .entry))) (namesTwice (now (corners .entry))) ⌝ }
+{
+    let n = corners.len() / 3;
+    let mut t: usize = 0;
+    while t < n {
+        if names_twice(corners, t) {
+            return t;
+        }
+        t += 1;
+    }
+    t
+}
+
+// Refusal 4.
+pub fn triangle_test(corners: &[u32]) -> Verdict
+    ensures { λ r. ⌜ r ≡ test (triangle (now (corners .entry))) ⌝ }
+{
+    let t = first_degenerate(corners);
+    if t < corners.len() / 3 {
+        return Verdict::Refused(Refusal::Triangle(3 * t));
+    }
+    Verdict::Fine
+}
+
+// Refusals 2, 3 and 4.
+pub fn mesh_test(coords: &[i32], corners: &[u32]) -> Verdict
+    ensures { λ r. ⌜ r ≡ verdict (mesh (now (coords .entry)) (now (corners .entry))) ⌝ }
+{
+    let a = range_test(coords);
+    if let Verdict::Refused(_) = a {
+        return a;
+    }
+    let b = vertex_test(coords.len() / 3, corners);
+    if let Verdict::Refused(_) = b {
+        return b;
+    }
+    triangle_test(corners)
+}
+
+// Whether corners c and d stand for reverse edges.
+fn is_reverse(corners: &[u32], c: usize, d: usize) -> bool
+    requires { ⌜ Whole (length (now corners)) ⌝ ∗ ⌜ (c < length (now corners)) × (d < length (now corners)) ⌝ }
+    ensures { λ r. ⌜ r ≡ reverse (now (corners .entry)) c d ⌝ }
+{
+    let i = next_corner(c);
+    let j = next_corner(d);
+    if corners[d] != corners[i] {
+        return false;
+    }
+    corners[j] == corners[c]
+}
+
+// Whether corner c has an entry that is a corner with the reverse edge and is paired back.
+fn is_paired(corners: &[u32], pairing: &[u32], c: usize) -> bool
+    requires { ⌜ Whole (length (now corners)) ⌝ ∗ ⌜ c < length (now corners) ⌝ }
+    ensures { λ r. ⌜ r ≡ pairedAt (now (corners .entry)) (now (pairing .entry)) c ⌝ }
+{
+    if pairing.len() <= c {
+        return false;
+    }
+    let d = wide(pairing[c]);
+    if corners.len() <= d {
+        return false;
+    }
+    if !is_reverse(corners, c, d) {
+        return false;
+    }
+    if pairing.len() <= d {
+        return false;
+    }
+    wide(pairing[d]) == c
+}
+
+// The least corner that is not paired rightly, else the number of corners.
+fn first_unpaired(corners: &[u32], pairing: &[u32]) -> usize
+    requires { ⌜ Whole (length (now corners)) ⌝ }
+    ensures { λ r. ⌜ r ≡ least (length (now (corners .entry))) (unpaired (now (corners .entry)) (now (pairing .entry))) ⌝ }
+{
+    let mut c: usize = 0;
+    while c < corners.len() {
+        if !is_paired(corners, pairing, c) {
+            return c;
+        }
+        c += 1;
+    }
+    c
+}
+
+// Refusal 7.
+pub fn pairing_test(corners: &[u32], pairing: &[u32]) -> Verdict
+    requires { ⌜ Whole (length (now corners)) ⌝ }
+    ensures { λ r. ⌜ r ≡ test (pairs (now (corners .entry)) (now (pairing .entry))) ⌝ }
+{
+    let c = first_unpaired(corners, pairing);
+    if c < corners.len() {
+        return Verdict::Refused(Refusal::Pairing(c));
+    }
+    Verdict::Fine
+}

@@ -1,0 +1,38 @@
+//! Safe interface to the proved mesh library.
+//!
+//! A mesh is a table of coordinates (x, y and z per vertex, in micrometres) and a table of corners
+//! (three vertex numbers per triangle, counterclockwise seen from outside). It has at most
+//! [`MAX_VERTICES`] vertices and [`MAX_TRIANGLES`] triangles; none of either is allowed, and so are
+//! unused vertices. No coordinate is farther than [`MAX_COORDINATE`] from zero.
+//!
+//! Corner `3 * t + k` (`k` = 0, 1, 2) stands for the directed edge from its vertex to that of the
+//! next corner of triangle `t`, the last leading back to the first.
+//!
+//! The operations work on tables that the caller lends them, and allocate nothing. Each answers
+//! with its values or with a [`Refusal`]. They keep no state between calls, so several threads may
+//! call them at the same time.
+//!
+//! # Linking
+//!
+//! The library is the archive `target/staticlib/libwadroles.a` at the root of the repository, made
+//! there by `rt staticlib wadroles`. To link an archive from elsewhere, give the absolute path of
+//! its directory in the environment variable `WADROLES_LIB_DIR`.
+
+#![warn(unsafe_op_in_unsafe_fn)]
+
+mod answer;
+mod check;
+pub mod raw;
+mod refusal;
+
+pub use check::check;
+pub use refusal::Refusal;
+
+/// The most vertices a mesh may have.
+pub const MAX_VERTICES: usize = 32_768;
+
+/// The most triangles a mesh may have.
+pub const MAX_TRIANGLES: usize = 65_536;
+
+/// The farthest a coordinate may be from zero, on either side.
+pub const MAX_COORDINATE: i32 = 1_048_576;
