@@ -3,6 +3,7 @@ use Prim.Native.Nat.{ℕ, zero, suc, _+_, _≤_, _<_}
 use mathlib.Core.Path.{_≡_, refl, sym, ap, _∙_}
 use mathlib.Core.Bool.{Bool, true, false, cond}
 use native.Mathlib.Omega.{arith}
+use native.Mathlib.Numerals.{add-one}
 use native.Mathlib.Decide.{ℕ-discrete}
 use native.Mathlib.Nat.{not-suc-le-zero}
 use Rattle.laws.specs.Booleans.{clash}
@@ -41,3 +42,17 @@ count-bound (suc n) t = by (t n) (count-bound n t)
     by : (b : Bool) → count n t ≤ n → cond b 1 0 + count n t ≤ suc n
     by true h = omega arith
     by false h = omega arith
+
+-- ---- a loop that counts
+
+pub count-start : (t : ℕ → Bool) → 0 ≡ count 0 t
+unfolding count
+count-start t = refl
+
+pub count-one : (n : ℕ) (t : ℕ → Bool) → t n ≡ true → count n t + 1 ≡ count (n + 1) t
+unfolding count
+count-one n t e = rw (add-one n, e) (omega arith)
+
+pub count-none : (n : ℕ) (t : ℕ → Bool) → t n ≡ false → count n t ≡ count (n + 1) t
+unfolding count
+count-none n t e = rw (add-one n, e) (omega arith)

@@ -1,6 +1,10 @@
 pub mod Corners
 pub mod Order
 pub mod OrderLaws
+pub mod RankLaws
+pub mod Rising
+pub mod RisingLaws
+pub mod OrderTableLaws
 pub mod Refusals
 pub mod RefusalLaws
 pub mod Tests

@@ -6,11 +6,10 @@ ghost use lib.ListN.{length};
 ghost use Rattle.laws.specs.Least.{least};
 ghost use Rattle.mesh.specs.Corners.{vertexCount, triangleCount};
 ghost use Rattle.mesh.specs.Refusals.{test, verdict};
-ghost use Rattle.mesh.specs.Tests.{sizesFit, size, outOfRange, range, namesNone, vertex, namesTwice, triangle, Whole, reverse, pairedAt, unpaired, pairs, mesh};
+ghost use Rattle.mesh.specs.Tests.{sizesFit, size, outOfRange, range, namesNone, vertex, namesTwice, triangle, mesh};
 use crate::Refusal;
 use crate::Verdict;
-use crate::corners::next_corner;
-use crate::corners::wide;
+use crate::internal::wide;
 
 // Whether tables of these lengths hold whole vertices and triangles, within the limits.
 fn sizes_fit(coords: usize, corners: usize) -> bool
@@ -167,65 +166,4 @@ pub fn mesh_test(coords: &[i32], corners: &[u32]) -> Verdict
         return b;
     }
     triangle_test(corners)
-}
-
-// Whether corners c and d stand for reverse edges.
-fn is_reverse(corners: &[u32], c: usize, d: usize) -> bool
-    requires { ⌜ Whole (length (now corners)) ⌝ ∗ ⌜ (c < length (now corners)) × (d < length (now corners)) ⌝ }
-    ensures { λ r. ⌜ r ≡ reverse (now (corners .entry)) c d ⌝ }
-{
-    let i = next_corner(c);
-    let j = next_corner(d);
-    if corners[d] != corners[i] {
-        return false;
-    }
-    corners[j] == corners[c]
-}
-
-// Whether corner c has an entry that is a corner with the reverse edge and is paired back.
-fn is_paired(corners: &[u32], pairing: &[u32], c: usize) -> bool
-    requires { ⌜ Whole (length (now corners)) ⌝ ∗ ⌜ c < length (now corners) ⌝ }
-    ensures { λ r. ⌜ r ≡ pairedAt (now (corners .entry)) (now (pairing .entry)) c ⌝ }
-{
-    if pairing.len() <= c {
-        return false;
-    }
-    let d = wide(pairing[c]);
-    if corners.len() <= d {
-        return false;
-    }
-    if !is_reverse(corners, c, d) {
-        return false;
-    }
-    if pairing.len() <= d {
-        return false;
-    }
-    wide(pairing[d]) == c
-}
-
-// The least corner that is not paired rightly, else the number of corners.
-fn first_unpaired(corners: &[u32], pairing: &[u32]) -> usize
-    requires { ⌜ Whole (length (now corners)) ⌝ }
-    ensures { λ r. ⌜ r ≡ least (length (now (corners .entry))) (unpaired (now (corners .entry)) (now (pairing .entry))) ⌝ }
-{
-    let mut c: usize = 0;
-    while c < corners.len() {
-        if !is_paired(corners, pairing, c) {
-            return c;
-        }
-        c += 1;
-    }
-    c
-}
-
-// Refusal 7.
-pub fn pairing_test(corners: &[u32], pairing: &[u32]) -> Verdict
-    requires { ⌜ Whole (length (now corners)) ⌝ }
-    ensures { λ r. ⌜ r ≡ test (pairs (now (corners .entry)) (now (pairing .entry))) ⌝ }
-{
-    let c = first_unpaired(corners, pairing);
-    if c < corners.len() {
-        return Verdict::Refused(Refusal::Pairing(c));
-    }
-    Verdict::Fine
 }

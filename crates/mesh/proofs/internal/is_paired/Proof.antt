@@ -1,4 +1,4 @@
--- `tests::is_paired` meets its contract.
+-- `internal::is_paired` meets its contract.
 use mathlib.Core.Path.{sym, ap, _∙_}
 use Prim.Native.Nat.{ℕ}
 use native.Mathlib.Omega.{arith}
@@ -8,8 +8,8 @@ use Rattle.laws.specs.Booleans.{clash}
 use Rattle.mesh.specs.Tests.{pairOf, reverse}
 use Rattle.mesh.specs.TestLaws.{not-paired, paired-last}
 use borrow.Author.Needs.{needs}
-use Rattle.mesh.proofs.tests.is_paired.Statement.{statement}
-use Rattle.mesh.proofs.tests.is_paired.Tie as tie
+use Rattle.mesh.proofs.internal.is_paired.Statement.{statement}
+use Rattle.mesh.proofs.internal.is_paired.Tie as tie
 
 returns : tie.Need-returns
 returns c = not-paired _ _ _ (λ p. omega (arith, p .there, c .if1 .taken))

@@ -1,4 +1,4 @@
--- `tests::first_unpaired` meets its contract. The invariant: nothing that fits was passed.
+-- `internal::first_unpaired` meets its contract. The invariant: nothing that fits was passed.
 use mathlib.Core.Path.{_≡_, refl, sym, _∙_}
 use Prim.Native.Nat.{_-_}
 use native.Mathlib.Omega.{arith}
@@ -6,8 +6,8 @@ use lib.ListN.{length}
 use Rattle.laws.specs.LeastLaws.{Scanned, scan-start, scan-hit, scan-miss, scan-end}
 use Rattle.mesh.specs.Tests.{unpaired}
 use Rattle.mesh.specs.TestLaws.{unpaired-is}
-use Rattle.mesh.proofs.tests.first_unpaired.Statement.{statement}
-use Rattle.mesh.proofs.tests.first_unpaired.Tie as tie
+use Rattle.mesh.proofs.internal.first_unpaired.Statement.{statement}
+use Rattle.mesh.proofs.internal.first_unpaired.Tie as tie
 
 abbrev Inv-loop : tie.InvT-loop
 Inv-loop corners pairing c₀ c = Scanned (length corners) (unpaired corners pairing) c

@@ -1,8 +1,8 @@
--- `tests::is_reverse` meets its contract.
+-- `internal::is_reverse` meets its contract.
 use Rattle.mesh.specs.TestLaws.{reverse-no, reverse-as}
 use borrow.Author.Needs.{needs}
-use Rattle.mesh.proofs.tests.is_reverse.Statement.{statement}
-use Rattle.mesh.proofs.tests.is_reverse.Tie as tie
+use Rattle.mesh.proofs.internal.is_reverse.Statement.{statement}
+use Rattle.mesh.proofs.internal.is_reverse.Tie as tie
 
 next-corner-requires : tie.Need-next-corner-requires
 next-corner-requires c κs = search needs

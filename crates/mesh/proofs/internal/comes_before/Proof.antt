@@ -1,9 +1,9 @@
--- `corners::comes_before` meets its contract.
+-- `internal::comes_before` meets its contract.
 use Rattle.mesh.specs.OrderLaws.{before-lower, before-higher, before-level}
 use denote.Ref.{now}
 use borrow.Author.Needs.{needs}
-use Rattle.mesh.proofs.corners.comes_before.Statement.{statement}
-use Rattle.mesh.proofs.corners.comes_before.Tie as tie
+use Rattle.mesh.proofs.internal.comes_before.Statement.{statement}
+use Rattle.mesh.proofs.internal.comes_before.Tie as tie
 
 mul-i : tie.Need-mul-i
 mul-i c = search needs

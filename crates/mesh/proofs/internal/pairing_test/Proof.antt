@@ -1,8 +1,8 @@
--- `tests::pairing_test` meets its contract.
+-- `internal::pairing_test` meets its contract.
 use Rattle.mesh.specs.RefusalLaws.{test-refused, test-fine}
 use borrow.Author.Needs.{needs}
-use Rattle.mesh.proofs.tests.pairing_test.Statement.{statement}
-use Rattle.mesh.proofs.tests.pairing_test.Tie as tie
+use Rattle.mesh.proofs.internal.pairing_test.Statement.{statement}
+use Rattle.mesh.proofs.internal.pairing_test.Tie as tie
 
 first-unpaired-requires : tie.Need-first-unpaired-requires
 first-unpaired-requires c κs = search needs
