@@ -1,3 +1,5 @@
 pub mod Edges
 pub mod Threads
 pub mod Joins
+pub mod Pairs
+pub mod Checks

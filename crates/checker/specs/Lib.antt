@@ -1,1 +1,4 @@
+pub mod Check
+pub mod CheckLaws
 pub mod Joining
+pub mod Worked

@@ -1,1 +1,58 @@
-// Check.
+// Check: whether a mesh is closed, with its pairing and its order.
+ghost use mathlib.Core.Path.{_≡_};
+ghost use mathlib.Core.List.{_∷_};
+ghost use lib.ListN.{length};
+ghost use Rattle.mesh.specs.Corners.{vertexCount};
+ghost use Rattle.mesh.specs.Refusals.{test, verdict};
+ghost use Rattle.mesh.specs.Tests.{size, mesh};
+ghost use Rattle.checker.specs.Check.{roomFor, room, Checks};
+
+mod pairing;
+
+use crate::pairing::fill;
+use crate::pairing::pair_corners;
+use mesh::Refusal;
+use mesh::Verdict;
+use mesh::tests::mesh_test;
+use mesh::tests::size_test;
+
+// What Check answers.
+pub enum Checked {
+    Accepted,
+    Refused(Refusal),
+}
+
+// Whether tables of these lengths have an entry for each corner and each vertex.
+fn room_for(corners: usize, vertices: usize, pairing: usize, order: usize) -> bool
+    ensures { λ r. ⌜ r ≡ roomFor corners vertices pairing order ⌝ }
+{
+    if pairing < corners {
+        return false;
+    }
+    vertices <= order
+}
+
+// Refusal 9.
+fn room_test(corners: usize, vertices: usize, pairing: usize, order: usize) -> Verdict
+    ensures { λ r. ⌜ r ≡ test (room corners vertices pairing order) ⌝ }
+{
+    if room_for(corners, vertices, pairing, order) {
+        return Verdict::Fine;
+    }
+    Verdict::Refused(Refusal::Room(0))
+}
+
+// Refusals 1, 9, 2, 3 and 4, for lent tables of these lengths.
+fn table_test(coords: &[i32], corners: &[u32], pairing: usize, order: usize) -> Verdict
+    ensures { λ r. ⌜ r ≡ verdict (size (now (coords .entry)) (now (corners .entry)) ∷ room (length (now (corners .entry))) (vertexCount (now (coords .entry))) pairing order ∷ mesh (now (coords .entry)) (now (corners .entry))) ⌝ }
+{
+    let a = size_test(coords, corners);
+    if let Verdict::Refused(_) = a {
+        return a;
+    }
+    let b = room_test(corners.len(), coords.len() / 3, pairing, order);
+    if let Verdict::Refused(_) = b {
+        return b;
+    }
+    mesh_test(coords, corners)
+}

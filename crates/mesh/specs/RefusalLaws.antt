@@ -155,3 +155,15 @@ fine-none (k ∷ ks) e = by (test k) refl e (fine-none ks)
     by : (v : Verdict) → test k ≡ v → (v then verdict ks) ≡ Fine → (verdict ks ≡ Fine → None ks) → None (k ∷ ks)
     by Fine p q rest = more (fine-nowhere k p) (rest q)
     by (Refused s) p q rest = refused-apart q
+
+-- what holds of every refusal of the list holds of the one that is answered
+abbrev pub Every : (Refusal → Type 0) → List Condition → Type 0
+Every P [] = Unit {0}
+Every P (k ∷ ks) = ((i : ℕ) → P (k .refusal i)) × Every P ks
+
+pub first-every : (P : Refusal → Type 0) (ks : List Condition) (r : Refusal) → Every P ks → First ks r → P r
+first-every P ks r every (here i l e f) = every .0 i
+first-every P ks r every (later {ks = ls} h rest) = first-every P ls r (every .1) rest
+
+pub refused-every : (P : Refusal → Type 0) (ks : List Condition) (r : Refusal) → Every P ks → verdict ks ≡ Refused r → P r
+refused-every P ks r every e = first-every P ks r every (refused-first ks r e)

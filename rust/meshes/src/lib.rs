@@ -5,6 +5,8 @@
 
 mod closed;
 mod damage;
+#[cfg(test)]
+mod measure;
 mod mesh;
 mod random;
 pub mod shapes;

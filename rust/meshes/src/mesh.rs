@@ -84,7 +84,8 @@ impl Mesh {
     pub fn join(&mut self, other: &Mesh) {
         let offset = self.vertex_count() as u32;
         self.coords.extend(&other.coords);
-        self.corners.extend(other.corners.iter().map(|v| v + offset));
+        self.corners
+            .extend(other.corners.iter().map(|v| v + offset));
     }
 
     /// Moves all points by the same distances.

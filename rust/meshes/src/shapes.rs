@@ -101,11 +101,13 @@ fn split_in_four(mesh: &Mesh, radius: i32) -> Mesh {
     let mut middles: BTreeMap<(u32, u32), u32> = BTreeMap::new();
     for [a, b, c] in mesh.triangles() {
         let [ab, bc, ca] = [(a, b), (b, c), (c, a)].map(|(from, to)| {
-            *middles.entry((from.min(to), from.max(to))).or_insert_with(|| {
-                let middle = middle_on_sphere(mesh.point(from), mesh.point(to), radius);
-                split.coords.extend(middle);
-                split.vertex_count() as u32 - 1
-            })
+            *middles
+                .entry((from.min(to), from.max(to)))
+                .or_insert_with(|| {
+                    let middle = middle_on_sphere(mesh.point(from), mesh.point(to), radius);
+                    split.coords.extend(middle);
+                    split.vertex_count() as u32 - 1
+                })
         });
         let triangles = [[a, ab, ca], [b, bc, ab], [c, ca, bc], [ab, bc, ca]];
         split.corners.extend(triangles.concat());
@@ -136,36 +138,7 @@ fn split_quad([a, b, c, d]: [u32; 4]) -> [Triangle; 2] {
 #[cfg(test)]
 mod tests {
     use super::*;
-    use std::collections::BTreeSet;
-
-    /// By sorting, so that it shares nothing with the maps from edge to corner used elsewhere: no
-    /// directed edge occurs twice, and the reverse edges are the same edges.
-    fn is_closed(mesh: &Mesh) -> bool {
-        let mut edges: Vec<_> = mesh.edges().collect();
-        let mut reverse: Vec<_> = edges.iter().map(|&(from, to)| (to, from)).collect();
-        edges.sort();
-        reverse.sort();
-        edges.windows(2).all(|pair| pair[0] != pair[1]) && edges == reverse
-    }
-
-    /// Vertices less edges plus triangles: 2 for a ball, 0 for a torus.
-    fn euler_number(mesh: &Mesh) -> i64 {
-        let edges: BTreeSet<_> = mesh.edges().map(|(a, b)| (a.min(b), a.max(b))).collect();
-        mesh.vertex_count() as i64 - edges.len() as i64 + mesh.triangle_count() as i64
-    }
-
-    /// Six times the enclosed volume: above zero if the triangles are counterclockwise seen from
-    /// outside.
-    fn volume(mesh: &Mesh) -> i128 {
-        mesh.triangles()
-            .map(|triangle| {
-                let [a, b, c] = triangle.map(|v| mesh.point(v).map(i128::from));
-                a[0] * (b[1] * c[2] - b[2] * c[1])
-                    + a[1] * (b[2] * c[0] - b[0] * c[2])
-                    + a[2] * (b[0] * c[1] - b[1] * c[0])
-            })
-            .sum()
-    }
+    use crate::measure::{euler_number, is_closed, volume};
 
     #[test]
     fn shapes_are_closed_round_solids() {

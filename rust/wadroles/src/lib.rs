@@ -8,9 +8,8 @@
 //! Corner `3 * t + k` (`k` = 0, 1, 2) stands for the directed edge from its vertex to that of the
 //! next corner of triangle `t`, the last leading back to the first.
 //!
-//! The operations work on tables that the caller lends them, and allocate nothing. Each answers
-//! with its values or with a [`Refusal`]. They keep no state between calls, so several threads may
-//! call them at the same time.
+//! The operations work on tables that the caller lends them. Each answers with its values or with
+//! a [`Refusal`]. They keep no state between calls, so several threads may call them at once.
 //!
 //! # Linking
 //!

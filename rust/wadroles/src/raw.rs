@@ -4,7 +4,7 @@
 //! functions of this crate call these; prefer them.
 
 extern "C" {
-    /// Tests a mesh and writes its pairing and order, as [`crate::check`] does.
+    /// Tests a mesh and writes its pairing and order, as [`crate::check()`] does.
     ///
     /// # Safety
     ///

@@ -1,0 +1,41 @@
+-- The worked pieces of document 01 on Check, by computation from the definitions.
+use mathlib.Core.Path.{_≡_, refl}
+use mathlib.Core.Bool.{Bool}
+use mathlib.Core.List.{List, [], _∷_}
+use Prim.Native.Nat.{ℕ}
+use lib.IntN.{ℤ, pos}
+use Rattle.laws.specs.Least.{least, some}
+use Rattle.laws.specs.Tables.{tabulate, overwrite}
+use Rattle.mesh.specs.Order.{before, place, orderUpTo, orderOf}
+use Rattle.mesh.specs.Refusals.{test, _then_, verdict}
+use Rattle.mesh.specs.Tests.{sizesFit, outOfRange, namesNone, namesTwice, reverse}
+use Rattle.mesh.specs.declared.Refusal.the-variants.{Open}
+use Rattle.mesh.specs.declared.Verdict.the-variants.{Fine, Refused}
+use Rattle.checker.specs.Check.{roomFor, twin, doubledAt, openAt, refusals, partnerOf, pairingOf, after}
+
+-- part P
+abbrev coords : List ℤ
+coords = pos 0 ∷ pos 0 ∷ pos 0 ∷ pos 10 ∷ pos 0 ∷ pos 0 ∷ pos 0 ∷ pos 10 ∷ pos 0 ∷ pos 0 ∷ pos 0 ∷ pos 10 ∷ []
+
+abbrev corners : List ℕ
+corners = 0 ∷ 2 ∷ 1 ∷ 0 ∷ 1 ∷ 3 ∷ 0 ∷ 3 ∷ 2 ∷ 1 ∷ 2 ∷ 3 ∷ []
+
+abbrev zeros : List ℕ
+zeros = 0 ∷ 0 ∷ 0 ∷ 0 ∷ 0 ∷ 0 ∷ 0 ∷ 0 ∷ 0 ∷ 0 ∷ 0 ∷ 0 ∷ []
+
+accepted : verdict (refusals coords corners zeros zeros) ≡ Fine
+unfolding verdict _then_ test some least sizesFit roomFor outOfRange namesNone namesTwice twin doubledAt openAt reverse
+accepted = refl
+
+pairing : pairingOf corners ≡ 8 ∷ 9 ∷ 3 ∷ 2 ∷ 11 ∷ 6 ∷ 5 ∷ 10 ∷ 0 ∷ 1 ∷ 7 ∷ 4 ∷ []
+unfolding pairingOf partnerOf tabulate least reverse
+pairing = refl
+
+order : orderOf coords ≡ 0 ∷ 1 ∷ 2 ∷ 3 ∷ []
+unfolding orderOf orderUpTo place before
+order = refl
+
+-- P without triangle 3: refusal 6, place 1
+opened : verdict (refusals coords (0 ∷ 2 ∷ 1 ∷ 0 ∷ 1 ∷ 3 ∷ 0 ∷ 3 ∷ 2 ∷ []) zeros zeros) ≡ Refused (Open 1)
+unfolding verdict _then_ test some least sizesFit roomFor outOfRange namesNone namesTwice twin doubledAt openAt reverse
+opened = refl

@@ -1,0 +1,122 @@
+/*
+ * wadroles.h - the proved mesh library.
+ *
+ * A mesh is a table of coordinates (x, y and z per vertex, in micrometres) and
+ * a table of corners (three vertex numbers per triangle, counterclockwise seen
+ * from outside). It has at most WADROLES_MAX_VERTICES vertices and
+ * WADROLES_MAX_TRIANGLES triangles; none of either is allowed, and so are
+ * unused vertices. Coordinates are from -WADROLES_MAX_COORDINATE to
+ * WADROLES_MAX_COORDINATE.
+ *
+ * Corner 3 t + k (k = 0, 1, 2) stands for the directed edge from its vertex to
+ * that of the next corner of triangle t, the last leading back to the first.
+ *
+ * Rules for every function:
+ *
+ * - It returns 0, or the number of a refusal (enum wadroles_refusal).
+ * - `out` has 4 entries. A refusal writes its place, the least that fits, into
+ *   out[0]. Success writes the function's values, if it has any, into the first
+ *   entries. The other entries are left alone.
+ * - A table is a pointer and, right after it, a length in elements (not bytes).
+ *   The pointer of an empty table may be null.
+ * - It keeps no state between calls. Several threads may call at the same time
+ *   if none writes a table that another one uses.
+ *
+ * What the caller owes, and no function can test:
+ *
+ * - Each table really has the length given, and is aligned for its elements.
+ * - A table that the function writes (one whose pointer is not const), and
+ *   `out`, overlap no other table.
+ */
+#ifndef WADROLES_H
+#define WADROLES_H
+
+#include <stddef.h>
+#include <stdint.h>
+
+#ifdef __cplusplus
+extern "C" {
+#endif
+
+/* The most vertices and triangles a mesh may have. */
+#define WADROLES_MAX_VERTICES 32768
+#define WADROLES_MAX_TRIANGLES 65536
+
+/* The farthest a coordinate may be from zero, on either side. */
+#define WADROLES_MAX_COORDINATE 1048576
+
+/* The refusals, by number. */
+enum wadroles_refusal {
+    /* A length not a multiple of three (points: two), or a count too big. */
+    WADROLES_SIZE = 1,
+    /* A coordinate out of range. */
+    WADROLES_RANGE = 2,
+    /* A corner naming no vertex. */
+    WADROLES_VERTEX = 3,
+    /* A triangle naming a vertex twice. */
+    WADROLES_TRIANGLE = 4,
+    /* A corner whose directed edge occurs at another corner too. */
+    WADROLES_DOUBLED = 5,
+    /* A corner whose reverse edge occurs nowhere. */
+    WADROLES_OPEN = 6,
+    /* A corner whose pairing entry is missing or wrong, or not paired back. */
+    WADROLES_PAIRING = 7,
+    /* A position where the order table is missing an entry or wrong. */
+    WADROLES_ORDER = 8,
+    /* A table to be written is too short. */
+    WADROLES_ROOM = 9,
+    /* More passed than vertices. */
+    WADROLES_PASSED = 10,
+    /* A corner whose ring entry is missing or wrong for the passed count. */
+    WADROLES_RING = 11,
+    /* A passed vertex at or above the height, or heights that do not rise. */
+    WADROLES_HEIGHT = 12,
+    /* A file with a malformed or forbidden value, or with a byte left over. */
+    WADROLES_FILE = 13,
+    /* Output shorter than the file. */
+    WADROLES_OUTPUT = 14,
+    /* No layer of that number. */
+    WADROLES_LAYER = 15,
+    /* A walk meeting a crossing already used that is not its start. */
+    WADROLES_USED = 16
+};
+
+/*
+ * Tests a mesh, and writes its pairing and its order into the first entries of
+ * two lent tables:
+ *
+ *   pairing  one entry per corner: the corner with the reverse edge
+ *   order    each vertex once, by z and then by vertex number
+ *
+ * Later entries of both tables stay. Success has no values: `out` stays.
+ *
+ * The tests, in this sequence; the first that fails is the refusal:
+ *
+ *   WADROLES_SIZE      coords_len or corners_len is not a multiple of three, or
+ *                      there are more vertices or triangles than allowed;
+ *                      place 0
+ *   WADROLES_ROOM      pairing_len is less than corners_len, or order_len less
+ *                      than the number of vertices; place 0
+ *   WADROLES_RANGE     a coordinate is out of range; place its position in
+ *                      coords
+ *   WADROLES_VERTEX    a corner names no vertex; place the corner
+ *   WADROLES_TRIANGLE  a triangle names a vertex twice; place its first corner
+ *   WADROLES_DOUBLED   a corner's directed edge occurs at another corner too;
+ *                      place the corner
+ *   WADROLES_OPEN      a corner's reverse edge occurs nowhere; place the corner
+ *
+ * After WADROLES_DOUBLED and WADROLES_OPEN the entries of pairing and order
+ * that success would fill are zero, and later ones stay. After the other
+ * refusals both tables are as before.
+ */
+uint32_t wadroles_check(const int32_t *coords, size_t coords_len,
+                        const uint32_t *corners, size_t corners_len,
+                        uint32_t *pairing, size_t pairing_len,
+                        uint32_t *order, size_t order_len,
+                        uint64_t out[4]);
+
+#ifdef __cplusplus
+}
+#endif
+
+#endif /* WADROLES_H */

@@ -1,0 +1,10 @@
+//! Tests of the library through its Rust wrapper, against the oracle and against worked cases.
+//!
+//! Run them by `cargo test --release`. The random tests print their seed, and a failure names seed
+//! and round. The environment variable `WADROLES_SEED` gives another seed, and `WADROLES_ROUNDS`
+//! another number of rounds.
+
+mod check;
+mod header;
+mod runs;
+mod tally;
