@@ -84,12 +84,13 @@ order-right coords table long are = nowhere-fine (ordered coords table) (λ i l.
 
 -- ---- Check
 
-accepted-fine : (v : Verdict) → Accepted ≡ answer v → v ≡ Fine
+-- what an answer says of the verdict
+pub accepted-fine : (v : Verdict) → Accepted ≡ answer v → v ≡ Fine
 unfolding answer
 accepted-fine Fine e = refl
 accepted-fine (Refused r) e = absurd (let z : _≡_ {A = ℕ} 0 1 = cc in omega arith)
 
-turned-refused : (v : Verdict) (r : Refusal) → Turned r ≡ answer v → v ≡ Refused r
+pub turned-refused : (v : Verdict) (r : Refusal) → Turned r ≡ answer v → v ≡ Refused r
 unfolding answer
 turned-refused Fine r e = absurd (let z : _≡_ {A = ℕ} 0 1 = cc in omega arith)
 turned-refused (Refused q) r e = cc

@@ -15,6 +15,7 @@ use mesh::Refusal;
 use mesh::Verdict;
 use mesh::tests::mesh_test;
 use mesh::tests::size_test;
+use order::order_vertices;
 
 // What Check answers.
 pub enum Checked {
@@ -55,4 +56,23 @@ fn table_test(coords: &[i32], corners: &[u32], pairing: usize, order: usize) -> 
         return b;
     }
     mesh_test(coords, corners)
+}
+
+// Tests a mesh, and writes its pairing and its order into the first entries of the lent tables.
+pub fn check(coords: &[i32], corners: &[u32], pairing: &mut [u32], order: &mut [u32]) -> Checked
+    ensures { λ r. ⌜ Checks (now (coords .entry)) (now (corners .entry)) (now (pairing .entry)) (now (order .entry)) r (now (pairing .exit)) (now (order .exit)) ⌝ }
+{
+    let a = table_test(coords, corners, pairing.len(), order.len());
+    if let Verdict::Refused(r) = a {
+        return Checked::Refused(r);
+    }
+    let vertices = coords.len() / 3;
+    let b = pair_corners(corners, vertices, pairing, order);
+    if let Verdict::Refused(r) = b {
+        fill(pairing, corners.len(), 0);
+        fill(order, vertices, 0);
+        return Checked::Refused(r);
+    }
+    order_vertices(coords, order);
+    Checked::Accepted
 }
