@@ -1,5 +1,5 @@
 /*
- * wadroles.h - the proved mesh library.
+ * wadroles.h - the proved layer cutter.
  *
  * A mesh is a table of coordinates (x, y and z per vertex, in micrometres) and
  * a table of corners (three vertex numbers per triangle, counterclockwise seen

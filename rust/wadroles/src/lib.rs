@@ -1,4 +1,4 @@
-//! Safe interface to the proved mesh library.
+//! Safe interface to the proved layer cutter.
 //!
 //! A mesh is a table of coordinates (x, y and z per vertex, in micrometres) and a table of corners
 //! (three vertex numbers per triangle, counterclockwise seen from outside). It has at most
