@@ -1,3 +1,4 @@
+-- Lemmas that belong to no one function.
 pub mod Edges
 pub mod Threads
 pub mod Joins

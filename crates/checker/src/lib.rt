@@ -15,7 +15,7 @@ use mesh::Refusal;
 use mesh::Verdict;
 use mesh::tests::mesh_test;
 use mesh::tests::size_test;
-use order::order_vertices;
+use order::internal::order_vertices;
 
 // What Check answers.
 pub enum Checked {

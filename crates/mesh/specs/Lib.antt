@@ -1,3 +1,4 @@
+-- Meshes: the mesh, its order, refusals and how they are tested.
 pub mod Corners
 pub mod Order
 pub mod OrderLaws

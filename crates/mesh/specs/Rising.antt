@@ -1,4 +1,4 @@
--- Internal: the rising prefix of a table of vertices, each before the next. No public contract cites this file.
+-- Internal: the rising prefix of a table of vertices, each before the next.
 use Prim.Native.Nat.{ℕ, suc, _-_, _<_}
 use mathlib.Core.Path.{_≡_}
 use mathlib.Core.Bool.{Bool, true, not, _&&_, _||_}

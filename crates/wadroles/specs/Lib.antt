@@ -1,1 +1,2 @@
+-- The C interface.
 pub mod Interface
