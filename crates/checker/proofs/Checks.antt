@@ -22,8 +22,9 @@ use Rattle.mesh.specs.declared.Refusal.{Refusal}
 use Rattle.mesh.specs.declared.Verdict.{Verdict}
 use Rattle.mesh.specs.declared.Verdict.the-variants.{Fine, Refused}
 use Rattle.checker.specs.declared.Checked.the-variants.{Accepted, Refused as Turned}
-use Rattle.checker.specs.Check.{roomFor, room, doubledEdge, openEdge, refusals, partnerOf, pairingOf, cleared, after, answer, Checks}
-use Rattle.checker.specs.Joining.{Named, Frame, Long, Paired}
+use Rattle.checker.specs.Check.{roomFor, room, refusals, cleared, after, answer, Checks}
+use Rattle.pairing.specs.Partners.{doubledEdge, openEdge, partnerOf, pairingOf}
+use Rattle.pairing.specs.Joining.{Named, Frame, Long, Paired}
 
 -- the refusals before 5 and 6
 abbrev pub front : List ℤ → List ℕ → ℕ → ℕ → List Condition

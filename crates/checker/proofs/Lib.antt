@@ -1,6 +1,2 @@
 -- Lemmas that belong to no one function.
-pub mod Edges
-pub mod Threads
-pub mod Joins
-pub mod Pairs
 pub mod Checks

@@ -6,16 +6,16 @@ use mathlib.Core.List.{List, [], _∷_}
 use lib.Dec.{leb, eqb}
 use lib.ListN.{length, replicate}
 use lib.IntN.{ℤ}
-use Rattle.laws.specs.Least.{least, some}
-use Rattle.laws.specs.Tables.{tabulate, overwrite}
-use Rattle.mesh.specs.Corners.{vertexCount, startOf, endOf}
+use Rattle.laws.specs.Tables.{overwrite}
+use Rattle.mesh.specs.Corners.{vertexCount}
 use Rattle.mesh.specs.Order.{orderOf}
 use Rattle.mesh.specs.Refusals.{Condition, whole, verdict, numberOf}
-use Rattle.mesh.specs.Tests.{size, range, vertex, triangle, reverse}
+use Rattle.mesh.specs.Tests.{size, range, vertex, triangle}
 use Rattle.mesh.specs.declared.Refusal.{Refusal}
-use Rattle.mesh.specs.declared.Refusal.the-variants.{Doubled, Open, Room}
+use Rattle.mesh.specs.declared.Refusal.the-variants.{Room}
 use Rattle.mesh.specs.declared.Verdict.{Verdict}
 use Rattle.mesh.specs.declared.Verdict.the-variants.{Fine, Refused}
+use Rattle.pairing.specs.Partners.{doubledEdge, openEdge, pairingOf}
 use Rattle.checker.specs.declared.Checked.{Checked}
 use Rattle.checker.specs.declared.Checked.the-variants.{Accepted, Refused as Turned}
 
@@ -26,25 +26,6 @@ roomFor corners vertices pairing order = leb corners pairing && leb vertices ord
 
 abbrev pub room : ℕ → ℕ → ℕ → ℕ → Condition
 room corners vertices pairing order = whole Room (not (roomFor corners vertices pairing order))
-
--- ---- 5: a corner whose directed edge occurs at another corner too
-
-unfoldable pub twin : List ℕ → ℕ → ℕ → Bool
-twin corners c d = not (eqb d c) && (eqb (startOf corners d) (startOf corners c) && eqb (endOf corners d) (endOf corners c))
-
-unfoldable pub doubledAt : List ℕ → ℕ → Bool
-doubledAt corners c = some (length corners) (twin corners c)
-
-abbrev pub doubledEdge : List ℕ → Condition
-doubledEdge corners = record { refusal = Doubled; places = length corners; fits = doubledAt corners }
-
--- ---- 6: a corner whose reverse edge occurs nowhere
-
-unfoldable pub openAt : List ℕ → ℕ → Bool
-openAt corners c = not (some (length corners) (reverse corners c))
-
-abbrev pub openEdge : List ℕ → Condition
-openEdge corners = record { refusal = Open; places = length corners; fits = openAt corners }
 
 -- ---- the refusals in order
 
@@ -60,14 +41,6 @@ refusals coords corners pairing order =
     ∷ []
 
 -- ---- what is written
-
--- the corner with the reverse edge
-unfoldable pub partnerOf : List ℕ → ℕ → ℕ
-partnerOf corners c = least (length corners) (reverse corners c)
-
--- the pairing
-unfoldable pub pairingOf : List ℕ → List ℕ
-pairingOf corners = tabulate (length corners) (partnerOf corners)
 
 -- 5 and 6 leave zeros
 abbrev pub cleared : Refusal → Bool

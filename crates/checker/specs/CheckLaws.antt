@@ -27,7 +27,8 @@ use Rattle.mesh.specs.declared.Verdict.{Verdict}
 use Rattle.mesh.specs.declared.Verdict.the-variants.{Fine, Refused}
 use Rattle.checker.specs.declared.Checked.{Checked}
 use Rattle.checker.specs.declared.Checked.the-variants.{Accepted, Refused as Turned}
-use Rattle.checker.specs.Check.{roomFor, twin, doubledAt, openAt, doubledEdge, openEdge, refusals, partnerOf, pairingOf, after, answer, Checks}
+use Rattle.checker.specs.Check.{roomFor, refusals, after, answer, Checks}
+use Rattle.pairing.specs.Partners.{twin, doubledAt, openAt, doubledEdge, openEdge, partnerOf, pairingOf}
 
 -- ---- a closed mesh: no directed edge twice, and the reverse of each
 

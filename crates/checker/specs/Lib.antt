@@ -1,5 +1,4 @@
 -- Check.
 pub mod Check
 pub mod CheckLaws
-pub mod Joining
 pub mod Worked

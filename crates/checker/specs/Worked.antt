@@ -11,7 +11,8 @@ use Rattle.mesh.specs.Refusals.{test, _then_, verdict}
 use Rattle.mesh.specs.Tests.{sizesFit, outOfRange, namesNone, namesTwice, reverse}
 use Rattle.mesh.specs.declared.Refusal.the-variants.{Open}
 use Rattle.mesh.specs.declared.Verdict.the-variants.{Fine, Refused}
-use Rattle.checker.specs.Check.{roomFor, twin, doubledAt, openAt, refusals, partnerOf, pairingOf, after}
+use Rattle.checker.specs.Check.{roomFor, refusals, after}
+use Rattle.pairing.specs.Partners.{twin, doubledAt, openAt, partnerOf, pairingOf}
 
 -- part P
 abbrev coords : List ℤ

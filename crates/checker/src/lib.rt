@@ -6,16 +6,13 @@ ghost use Rattle.mesh.specs.Corners.{vertexCount};
 ghost use Rattle.mesh.specs.Refusals.{test, verdict};
 ghost use Rattle.mesh.specs.Tests.{size, mesh};
 ghost use Rattle.checker.specs.Check.{roomFor, room, Checks};
-
-mod pairing;
-
-use crate::pairing::fill;
-use crate::pairing::pair_corners;
 use mesh::Refusal;
 use mesh::Verdict;
 use mesh::tests::mesh_test;
 use mesh::tests::size_test;
 use order::internal::order_vertices;
+use pairing::internal::fill;
+use pairing::internal::pair_corners;
 
 // What Check answers.
 pub enum Checked {

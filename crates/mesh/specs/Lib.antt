@@ -3,7 +3,6 @@ pub mod Corners
 pub mod Order
 pub mod OrderLaws
 pub mod RankLaws
-pub mod Rising
 pub mod RisingLaws
 pub mod OrderTableLaws
 pub mod Refusals

@@ -1,13 +1,19 @@
 -- Laws of a rising prefix: ranks rise with it, so where an entry's rank is its place, so is that of each in front of it.
 use Prim.Native.Nat.{ℕ, zero, suc, _+_, _-_, _≤_, _<_}
 use mathlib.Core.Path.{_≡_, ap}
+use mathlib.Core.Bool.{true}
 use mathlib.Core.List.{List}
 use native.Mathlib.Omega.{arith}
 use lib.ListN.{getD}
 use lib.IntN.{ℤ}
 use Rattle.mesh.specs.Corners.{vertexCount}
 use Rattle.mesh.specs.RankLaws.{rank, before-rank, rank-below}
-use Rattle.mesh.specs.Rising.{Rising}
+use Rattle.mesh.specs.Order.{before}
+
+-- the first m entries are vertices, each before the next
+pub record Rising (coords : List ℤ) (order : List ℕ) (m : ℕ) : Type 0 where
+  pub vertex : (i : ℕ) → i < m → getD order i 0 < vertexCount coords
+  pub rises : (i : ℕ) → suc i < m → before coords (getD order i 0) (getD order (suc i) 0) ≡ true
 
 module _ (coords : List ℤ) (order : List ℕ) (m : ℕ) (prefix : Rising coords order m) where
   -- the rank of entry i

@@ -1,7 +1,6 @@
 // Meshes: why a call is refused, and the tests of tables that every operation shares.
 
 pub mod internal;
-pub mod ordering;
 pub mod tests;
 
 // Why a call is refused, by the numbers of document 01. Each case holds its place.

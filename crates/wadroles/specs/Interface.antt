@@ -9,7 +9,8 @@ use Rattle.mesh.specs.Order.{orderOf}
 use Rattle.mesh.specs.Refusals.{numberOf, placeOf, verdict}
 use Rattle.mesh.specs.declared.Verdict.{Verdict}
 use Rattle.mesh.specs.declared.Verdict.the-variants.{Fine, Refused}
-use Rattle.checker.specs.Check.{refusals, pairingOf, after}
+use Rattle.checker.specs.Check.{refusals, after}
+use Rattle.pairing.specs.Partners.{pairingOf}
 
 -- 0, or the refusal's number
 unfoldable pub returned : Verdict → ℕ

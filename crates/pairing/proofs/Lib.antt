@@ -1,0 +1,5 @@
+-- Lemmas that belong to no one function.
+pub mod Edges
+pub mod Threads
+pub mod Joins
+pub mod Pairs

@@ -1,0 +1,3 @@
+-- Refusals 5 and 6, and the pairing.
+pub mod Partners
+pub mod Joining

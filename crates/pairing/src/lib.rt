@@ -1,0 +1,2 @@
+// The partner of every corner: internal, for Check.
+pub mod internal;
