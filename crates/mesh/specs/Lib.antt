@@ -1,7 +1,6 @@
 -- Meshes: the mesh, its order, refusals and how they are tested.
 pub mod Corners
 pub mod Order
-pub mod OrderLaws
 pub mod RankLaws
 pub mod RisingLaws
 pub mod OrderTableLaws

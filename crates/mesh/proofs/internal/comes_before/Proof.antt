@@ -1,5 +1,5 @@
 -- `internal::comes_before` meets its contract.
-use Rattle.mesh.specs.OrderLaws.{before-lower, before-higher, before-level}
+use Rattle.mesh.proofs.Comparisons.{before-lower, before-higher, before-level}
 use denote.Ref.{now}
 use borrow.Author.Needs.{needs}
 use Rattle.mesh.proofs.internal.comes_before.Statement.{statement}

@@ -1,4 +1,4 @@
--- Laws of the order of vertices: what the code's comparisons say of it.
+-- What the code's comparisons of coordinates say of the order of vertices.
 use Prim.Native.Nat.{ℕ, _<_, _^_}
 use mathlib.Core.Path.{_≡_, refl, sym, _∙_}
 use mathlib.Core.Bool.{Bool, true, false}
