@@ -8,10 +8,10 @@ ghost use Rattle.mesh.specs.Tests.{size, mesh};
 ghost use Rattle.checker.specs.Check.{roomFor, room, Checks};
 use mesh::Refusal;
 use mesh::Verdict;
+use mesh::internal::fill;
 use mesh::tests::mesh_test;
 use mesh::tests::size_test;
 use order::internal::order_vertices;
-use pairing::internal::fill;
 use pairing::internal::pair_corners;
 
 // What Check answers.

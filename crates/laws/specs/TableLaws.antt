@@ -1,13 +1,13 @@
 -- Laws of `tabulate`, `overwrite` and `refill`: lengths, entries, one entry more, and equality by entries.
 use Prim.Native.Nat.{ℕ, zero, suc, _+_, _-_, _≤_, _<_}
 use mathlib.Core.Path.{_≡_, refl, sym, ap, _∙_, subst}
-use mathlib.Core.List.{List, [], _∷_, _++_}
+use mathlib.Core.List.{List, [], _∷_, _++_, append-nil}
 use mathlib.Core.Logic.{_⊎_, inl, inr, ⊎-elim}
 use native.Mathlib.Omega.{arith}
 use native.Mathlib.Numerals.{add-one}
-use native.Mathlib.Nat.{not-suc-le-zero, le-of-suc-le-suc}
+use native.Mathlib.Nat.{not-suc-le-zero, le-of-suc-le-suc, add-zero}
 use lib.ListN.{length, getD, set, take, drop, replicate, length-append, length-drop, length-set, length-replicate, getD-replicate, List·getD-append, List·getD-eq-default}
-use lib.Seq.{getD-append-add, getD-drop, drop-cons, append-snoc, set-at, ext-getD, drop-at}
+use lib.Seq.{sets, getD-append-add, getD-drop, drop-cons, append-snoc, set-at, ext-getD, drop-at}
 use Rattle.laws.specs.Booleans.{split-lt}
 use Rattle.laws.specs.Tables.{tabulate, overwrite, refill}
 
@@ -63,6 +63,9 @@ module _ {A : Type 0} where
       ext-getD d t′ (overwrite vs t) (e ∙ sym (length-overwrite vs t h))
       (λ i l. ⊎-elim (λ m. front i m ∙ sym (overwrite-at vs t i d m)) (λ m. back i m ∙ sym (overwrite-past vs t i d m)) (split-lt i (length vs)))
 
+  pub length-snoc : (vs : List A) (v : A) → length (vs ++ (v ∷ [])) ≡ suc (length vs)
+  length-snoc vs v = length-append vs (v ∷ []) ∙ (let e : length vs + 1 ≡ suc (length vs) = omega arith in e)
+
   -- one entry more
   pub overwrite-snoc : (vs t : List A) (v : A) (k : ℕ) → k ≡ length vs → k < length t → set (overwrite vs t) k v ≡ overwrite (vs ++ (v ∷ [])) t
   unfolding overwrite
@@ -71,10 +74,19 @@ module _ {A : Type 0} where
       ∙ ap (λ (l : List A). set (vs ++ l) k v) (drop-cons t k v h)
       ∙ set-at vs (getD t k v) (drop (suc k) t) v k (sym e)
       ∙ sym (append-snoc vs v (drop (suc k) t))
-      ∙ ap (λ (j : ℕ). (vs ++ (v ∷ [])) ++ drop j t) (ap suc e ∙ sym (length-snoc vs))
-    where
-      length-snoc : (us : List A) → length (us ++ (v ∷ [])) ≡ suc (length us)
-      length-snoc us = length-append us (v ∷ []) ∙ (let q : length us + 1 ≡ suc (length us) = omega arith in q)
+      ∙ ap (λ (j : ℕ). (vs ++ (v ∷ [])) ++ drop j t) (ap suc e ∙ sym (length-snoc vs v))
+
+  -- a run of entries more
+  pub overwrite-more : (ws vs t : List A) (k : ℕ) → k ≡ length vs → k + length ws ≤ length t → sets (overwrite vs t) k ws ≡ overwrite (vs ++ ws) t
+  overwrite-more [] vs t k e h = ap (λ (l : List A). overwrite l t) (sym (append-nil vs))
+  overwrite-more (w ∷ ws) vs t k e h =
+      ap (λ (l : List A). sets l (suc k) ws) (overwrite-snoc vs t w k e (omega arith))
+      ∙ overwrite-more ws (vs ++ (w ∷ [])) t (suc k) (ap suc e ∙ sym (length-snoc vs w)) (omega arith)
+      ∙ ap (λ (l : List A). overwrite l t) (append-snoc vs w ws)
+
+  pub sets-snoc : (vs l : List A) (i k : ℕ) (v : A) → k ≡ i + length vs → set (sets l i vs) k v ≡ sets l i (vs ++ (v ∷ []))
+  sets-snoc [] l i k v e = ap (λ (j : ℕ). set l j v) (e ∙ add-zero i)
+  sets-snoc (w ∷ vs) l i k v e = sets-snoc vs (set l i w) (suc i) k v (omega arith)
 
   -- what is overwritten twice
   pub overwrite-twice : (vs ws t : List A) → length vs ≡ length ws → overwrite vs (overwrite ws t) ≡ overwrite vs t

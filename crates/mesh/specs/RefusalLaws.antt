@@ -124,6 +124,13 @@ pub verdict-next : (k : Condition) (ks : List Condition) {v w : Verdict} → v �
 unfolding verdict
 verdict-next k ks {v} {w} e f g = g ∙ then-fine v (verdict ks) f ∙ ap (λ (u : Verdict). u then verdict ks) e
 
+-- the same after the first tests of a list
+pub join-stop : (ks ls : List Condition) {v : Verdict} {r : Refusal} → v ≡ verdict ks → v ≡ Refused r → v ≡ verdict (ks ++ ls)
+join-stop ks ls {v} {r} e f = then-refused v (verdict ls) r f ∙ ap (λ (u : Verdict). u then verdict ls) e ∙ sym (verdict-join ks ls)
+
+pub join-next : (ks ls : List Condition) {v w : Verdict} → v ≡ verdict ks → v ≡ Fine → w ≡ verdict ls → w ≡ verdict (ks ++ ls)
+join-next ks ls {v} {w} e f g = g ∙ then-fine v (verdict ls) f ∙ ap (λ (u : Verdict). u then verdict ls) e ∙ sym (verdict-join ks ls)
+
 -- ---- refused exactly if a listed condition holds
 
 pub first-refused : (ks : List Condition) (r : Refusal) → First ks r → verdict ks ≡ Refused r

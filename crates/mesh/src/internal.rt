@@ -1,6 +1,8 @@
 // Internal: leaves whose `requires` say what the tests before them establish.
 ghost use mathlib.Core.Path.{_≡_};
-ghost use Prim.Native.Nat.{_<_};
+ghost use Prim.Native.Nat.{_<_, _≤_};
+ghost use lib.ListN.{length, replicate};
+ghost use Rattle.laws.specs.Tables.{overwrite};
 ghost use Rattle.mesh.specs.Corners.{nextCorner, vertexCount};
 ghost use Rattle.mesh.specs.Order.{before};
 
@@ -37,4 +39,16 @@ pub fn comes_before(coords: &[i32], u: usize, v: usize) -> bool
         return false;
     }
     u < v
+}
+
+// Sets the first n entries to x.
+pub fn fill(t: &mut [u32], n: usize, x: u32)
+    requires { ⌜ n ≤ length (now t) ⌝ }
+    ensures { λ _. ⌜ now (t .exit) ≡ overwrite (replicate n x) (now (t .entry)) ⌝ }
+{
+    let mut i: usize = 0;
+    while i < n {
+        t[i] = x;
+        i += 1;
+    }
 }

@@ -1,0 +1,4 @@
+-- Lemmas that belong to no one function.
+pub mod Answers
+pub mod Parts
+pub mod Sums

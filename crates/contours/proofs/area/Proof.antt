@@ -1,0 +1,31 @@
+-- `area` meets its contract.
+use mathlib.Core.Path.{_∙_}
+use mir.Syntax.{w64}
+use Rattle.laws.specs.Machine.{same}
+use Rattle.contours.proofs.Answers.{answers-refused, answers-area, tested-run}
+use borrow.Author.Needs.{needs}
+use Rattle.contours.proofs.area.Statement.{statement}
+use Rattle.contours.proofs.area.Tie as tie
+
+points-test-requires : tie.Need-points-test-requires
+points-test-requires c κs = search needs
+
+enum-known-a : tie.Need-enum-known-a
+enum-known-a c = search needs
+
+returns : tie.Need-returns
+returns c = answers-refused (c .before .before .before .before .args .points .now) (c .before .before .before .points-test .ensures) (c .before .a .given .1)
+
+enum-told : tie.Need-enum-told
+enum-told c = search needs
+
+doubled-area-requires : tie.Need-doubled-area-requires
+doubled-area-requires c κs = tested-run _ (c .before .before .points-test .ensures) (c .enum-told .given .1)
+
+returns-2 : tie.Need-returns-2
+returns-2 c = answers-area _ (c .before .before .before .points-test .ensures) (c .before .enum-told .given .1) (same w64 (c .doubled-area .result) (c .doubled-area .ok) ∙ c .doubled-area .ensures)
+
+pub area-spec : {M : Type 1} → statement M
+area-spec =
+    tie.close
+    (tie.spec points-test-requires enum-known-a returns enum-told doubled-area-requires returns-2)

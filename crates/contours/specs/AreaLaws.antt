@@ -1,0 +1,183 @@
+-- What Area promises: it refuses exactly if a listed condition holds, at the least place; its answer is at most 98,304 times the largest cross product; a run without points has area 0; points in range, and contours of such, are never refused.
+use Prim.Native.Nat.{ℕ, zero, suc, _+_, _*_, _/_, _%_, _≤_, _<_}
+use mathlib.Core.Path.{_≡_, refl, sym, ap, _∙_, subst}
+use mathlib.Core.Bool.{Bool, true, false, not, cond}
+use mathlib.Core.List.{List, []}
+use mathlib.Core.Logic.{_⊎_, inl, inr, ⊎-elim, _↔_}
+use native.Mathlib.Omega.{arith}
+use native.Mathlib.Nat.{mul-le-mul, mul-le-mul-right, le-trans}
+use borrow.Author.Tests.{leb-true, eqb-true, le-ltb, le-leb, eq-eqb, ne-eqb, not-false}
+use lib.ListN.{length, getD, List·getD-eq-default}
+use lib.IntN.{ℤ, pos, natAbs, _+ℤ_, _-ℤ_, _*ℤ_}
+use Rattle.laws.specs.Booleans.{and-parts, and-of, split-lt}
+use Rattle.laws.specs.Integers.{abs-add, abs-sub, abs-mul}
+use Rattle.mesh.specs.Corners.{largest}
+use Rattle.mesh.specs.Refusals.{verdict}
+use Rattle.mesh.specs.RefusalLaws.{First, None, more, done, first-refused, refused-first, none-fine, fine-none}
+use Rattle.mesh.specs.Tests.{outOfRange}
+use Rattle.mesh.specs.TestLaws.{in-range}
+use Rattle.mesh.specs.declared.Refusal.{Refusal}
+use Rattle.mesh.specs.declared.Verdict.{Verdict}
+use Rattle.mesh.specs.declared.Verdict.the-variants.{Fine, Refused}
+use Rattle.contours.specs.declared.Measured.the-variants.{Area, Refused as Turned}
+use Rattle.contours.specs.Areas.{mostPoints, pointCount, xOf, yOf, crossOf, nextPoint, sumOf, areaOf, runFits, refusals, answer, measureOf}
+use Rattle.contours.specs.Contours.{priorEnd, ownEnd, spanOf, contourOf}
+use Rattle.contours.specs.ContourLaws.{span-there, span-contour, span-even, length-contour, contour-at}
+use Rattle.contours.specs.Runs.{largestCross, Run}
+
+-- ---- sums
+
+pub sum-same : (n : ℕ) (f g : ℕ → ℤ) → ((i : ℕ) → i < n → f i ≡ g i) → sumOf n f ≡ sumOf n g
+unfolding sumOf
+sum-same zero f g h = refl
+sum-same (suc n) f g h = λ i. sum-same n f g (λ k l. h k (omega arith)) i +ℤ h n (omega arith) i
+
+pub sum-bound : (n B : ℕ) (f : ℕ → ℤ) → ((i : ℕ) → i < n → natAbs (f i) ≤ B) → natAbs (sumOf n f) ≤ n * B
+unfolding sumOf
+sum-bound zero B f h = omega arith
+sum-bound (suc n) B f h = omega (arith, abs-add (sumOf n f) (f n), h n (omega arith), sum-bound n B f (λ i l. h i (omega arith)))
+
+-- ---- the area
+
+-- a run without points
+pub area-none : areaOf [] ≡ pos 0
+unfolding areaOf sumOf
+area-none = refl
+
+-- the next point of a run that goes on, and of its last
+pub next-on : (n i : ℕ) → i + 1 < n → nextPoint n i ≡ i + 1
+unfolding nextPoint
+next-on n i h = ap (λ (b : Bool). cond b 0 (i + 1)) (ne-eqb (i + 1) n (λ e. omega arith))
+
+pub next-round : (n i : ℕ) → i + 1 ≡ n → nextPoint n i ≡ 0
+unfolding nextPoint
+next-round n i e = ap (λ (b : Bool). cond b 0 (i + 1)) (eq-eqb (i + 1) n e)
+
+-- the crosses of neighbours, and that of the last and the first
+pub area-closed : (points : List ℤ) (last : ℕ) → last + 1 ≡ pointCount points → sumOf last (λ i. crossOf points i (i + 1)) +ℤ crossOf points last 0 ≡ areaOf points
+unfolding areaOf sumOf
+area-closed points last e =
+    (λ i. sum-same last (λ k. crossOf points k (k + 1)) f (λ k l. ap (crossOf points k) (sym (next-on (pointCount points) k (omega arith)))) i +ℤ crossOf points last (sym (next-round (pointCount points) last e) i))
+    ∙ ap (λ (n : ℕ). sumOf n f) count
+  where
+    f : ℕ → ℤ
+    f i = crossOf points i (nextPoint (pointCount points) i)
+
+    count : suc last ≡ pointCount points
+    count = omega arith
+
+-- ---- tested points
+
+-- a cross product of four coordinates
+pub cross-le : (x y u v : ℤ) → natAbs x ≤ largest → natAbs y ≤ largest → natAbs u ≤ largest → natAbs v ≤ largest → natAbs (x *ℤ v -ℤ u *ℤ y) ≤ largestCross
+cross-le x y u v hx hy hu hv =
+    let a : natAbs x * natAbs v ≤ largest * largest = mul-le-mul hx hv in
+    let b : natAbs u * natAbs y ≤ largest * largest = mul-le-mul hu hy in
+    omega (arith, abs-sub (x *ℤ v) (u *ℤ y), abs-mul x v, abs-mul u y)
+
+pub cross-bound : (points : List ℤ) → Run points → (i k : ℕ) → natAbs (crossOf points i k) ≤ largestCross
+unfolding crossOf
+cross-bound points r i k =
+    cross-le (xOf points i) (yOf points i) (xOf points k) (yOf points k) (r .ranged (2 * i)) (r .ranged (2 * i + 1)) (r .ranged (2 * k)) (r .ranged (2 * k + 1))
+
+pub run-bound : (points : List ℤ) → Run points → natAbs (areaOf points) ≤ mostPoints * largestCross
+unfolding areaOf
+run-bound points r =
+    let n = pointCount points in
+    le-trans (sum-bound n largestCross (λ i. crossOf points i (nextPoint n i)) (λ i l. cross-bound points r i (nextPoint n i))) (mul-le-mul-right largestCross (r .few))
+
+-- what the tests say of a run, and what passes them
+pub fits-parts : (n : ℕ) → runFits n ≡ true → (n % 2 ≡ 0) × (n / 2 ≤ mostPoints)
+unfolding runFits
+fits-parts n e = let p = and-parts _ _ e in (eqb-true (n % 2) 0 (p .0), leb-true (n / 2) mostPoints (p .1))
+
+pub fits-of : (n : ℕ) → n % 2 ≡ 0 → n / 2 ≤ mostPoints → runFits n ≡ true
+unfolding runFits
+fits-of n g h = and-of (eq-eqb (n % 2) 0 g) (le-leb (n / 2) mostPoints h)
+
+range-passed : (points : List ℤ) (i : ℕ) → natAbs (getD points i (pos 0)) ≤ largest → outOfRange points i ≡ false
+unfolding outOfRange
+range-passed points i h = le-ltb largest (natAbs (getD points i (pos 0))) h
+
+pub run-of : (points : List ℤ) → None (refusals points) → Run points
+run-of points (more s (more r done)) =
+    let p = fits-parts (length points) (not-false _ (s 0 (omega arith))) in
+    record {
+      even = p .0;
+      few = p .1;
+      ranged =
+          λ i. ⊎-elim (λ l. in-range points i (r i l))
+          (λ h. let e : getD points i (pos 0) ≡ pos 0 = List·getD-eq-default points (pos 0) h in omega (arith, ap natAbs e))
+          (split-lt i (length points));
+    }
+
+pub none-of : (points : List ℤ) → Run points → None (refusals points)
+none-of points r =
+    more (λ i l. ap not (fits-of (length points) (r .even) (r .few)))
+    (more (λ i l. range-passed points i (r .ranged i)) done)
+
+-- a contour of points in range, of which there are not too many
+pub contour-run : (points : List ℤ) (ends : List ℕ) (j : ℕ) → ownEnd ends j ≤ mostPoints
+    → ((i : ℕ) → i < 2 * ownEnd ends j → natAbs (getD points i (pos 0)) ≤ largest) → Run (contourOf points ends j)
+contour-run points ends j few ranged =
+    record { even = rw len (span-even n ends j); few = rw len (short (split-lt 0 (spanOf n ends j))); ranged = λ i. at i (split-lt i (spanOf n ends j)) }
+  where
+    n : ℕ
+    n = length points
+
+    len : length (contourOf points ends j) ≡ spanOf n ends j
+    len = length-contour points ends j
+
+    short : (0 < spanOf n ends j) ⊎ (spanOf n ends j ≤ 0) → spanOf n ends j / 2 ≤ mostPoints
+    short (inl h) = omega (arith, span-there n ends j (span-contour n ends j h))
+    short (inr h) = omega arith
+
+    at : (i : ℕ) → (i < spanOf n ends j) ⊎ (spanOf n ends j ≤ i) → natAbs (getD (contourOf points ends j) i (pos 0)) ≤ largest
+    at i (inl h) =
+        let c = span-contour n ends j (omega arith) in
+        rw (contour-at points ends j i (pos 0) h) (ranged (2 * priorEnd ends j + i) (omega (arith, span-there n ends j c, c .rises)))
+    at i (inr h) =
+        let e : getD (contourOf points ends j) i (pos 0) ≡ pos 0 = List·getD-eq-default (contourOf points ends j) (pos 0) (omega (arith, len)) in
+        omega (arith, ap natAbs e)
+
+-- ---- Area
+
+-- what an answer says of the verdict
+turned-refused : (v : Verdict) (a : ℤ) (r : Refusal) → answer v a ≡ Turned r → v ≡ Refused r
+unfolding answer
+turned-refused Fine a r e = absurd (let z : _≡_ {A = ℕ} 0 1 = cc in omega arith)
+turned-refused (Refused q) a r e = cc
+
+area-fine : (v : Verdict) (a b : ℤ) → answer v a ≡ Area b → (v ≡ Fine) × (a ≡ b)
+unfolding answer
+area-fine Fine a b e = (refl, cc)
+area-fine (Refused q) a b e = absurd (let z : _≡_ {A = ℕ} 0 1 = cc in omega arith)
+
+module _ (points : List ℤ) where
+  -- refused exactly if a listed condition holds, the first that fits, at the least place
+  pub refused-exactly : (r : Refusal) → (measureOf points ≡ Turned r) ↔ First (refusals points) r
+  unfolding answer
+  refused-exactly r = (
+    (λ e. refused-first (refusals points) r (turned-refused (verdict (refusals points)) (areaOf points) r e)),
+    (λ f. ap (λ (v : Verdict). answer v (areaOf points)) (first-refused (refusals points) r f)),
+  )
+
+  -- measured exactly if none holds
+  pub measured-exactly : (measureOf points ≡ Area (areaOf points)) ↔ None (refusals points)
+  unfolding answer
+  measured-exactly = (
+    (λ e. fine-none (refusals points) (area-fine (verdict (refusals points)) (areaOf points) (areaOf points) e .0)),
+    (λ n. ap (λ (v : Verdict). answer v (areaOf points)) (none-fine (refusals points) n)),
+  )
+
+  pub run-measured : Run points → measureOf points ≡ Area (areaOf points)
+  run-measured r = measured-exactly .1 (none-of points r)
+
+  -- an area that is answered is the area, and at most 98,304 × 2 × 2 ^ 40
+  pub area-is : (a : ℤ) → measureOf points ≡ Area a → a ≡ areaOf points
+  area-is a e = sym (area-fine (verdict (refusals points)) (areaOf points) a e .1)
+
+  pub area-bound : (a : ℤ) → measureOf points ≡ Area a → natAbs a ≤ mostPoints * largestCross
+  area-bound a e =
+      let f = area-fine (verdict (refusals points)) (areaOf points) a e in
+      subst (λ (z : ℤ). natAbs z ≤ mostPoints * largestCross) (f .1) (run-bound points (run-of points (fine-none (refusals points) (f .0))))

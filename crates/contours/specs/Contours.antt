@@ -1,0 +1,32 @@
+-- "Contour j" of document 01: where it lies in a table of points (two numbers for each, x and y), and what it holds. An end counts points.
+use Prim.Native.Nat.{ℕ, zero, suc, _-_, _*_}
+use mathlib.Core.Bool.{Bool, cond, _&&_}
+use mathlib.Core.List.{List}
+use lib.Dec.{ltb, leb}
+use lib.ListN.{length, getD, take, drop}
+use lib.IntN.{ℤ}
+
+-- the previous end, 0 for the first contour
+unfoldable pub priorEnd : List ℕ → ℕ → ℕ
+priorEnd ends zero = 0
+priorEnd ends (suc j) = getD ends j 0
+
+-- its own end
+abbrev pub ownEnd : List ℕ → ℕ → ℕ
+ownEnd ends j = getD ends j 0
+
+-- j has an end, and the two ends neither fall nor pass a table of n numbers
+unfoldable pub isContour : ℕ → List ℕ → ℕ → Bool
+isContour n ends j = ltb j (length ends) && leb (priorEnd ends j) (ownEnd ends j) && leb (2 * ownEnd ends j) n
+
+-- how many numbers it has: none where it is no contour
+unfoldable pub spanOf : ℕ → List ℕ → ℕ → ℕ
+spanOf n ends j = cond (isContour n ends j) (2 * (ownEnd ends j - priorEnd ends j)) 0
+
+-- the position of its first number: 0 where it has none
+unfoldable pub firstOf : ℕ → List ℕ → ℕ → ℕ
+firstOf n ends j = cond (ltb 0 (spanOf n ends j)) (2 * priorEnd ends j) 0
+
+-- contour j: the part of the points from there, or the empty part
+unfoldable pub contourOf : List ℤ → List ℕ → ℕ → List ℤ
+contourOf points ends j = take (spanOf (length points) ends j) (drop (firstOf (length points) ends j) points)

@@ -1,0 +1,7 @@
+-- Contours in a table of points, and their areas.
+pub mod Contours
+pub mod ContourLaws
+pub mod Areas
+pub mod Runs
+pub mod AreaLaws
+pub mod Worked

@@ -1,0 +1,18 @@
+-- Internal: a run of points that Area does not refuse, and how large its cross products are, for functions that are handed tested points.
+use Prim.Native.Nat.{ℕ, _*_, _%_, _≤_}
+use mathlib.Core.Path.{_≡_}
+use mathlib.Core.List.{List}
+use lib.ListN.{length, getD}
+use lib.IntN.{ℤ, pos, natAbs}
+use Rattle.mesh.specs.Corners.{largest}
+use Rattle.contours.specs.Areas.{mostPoints, pointCount}
+
+-- the largest cross product of two points in range
+abbrev pub largestCross : ℕ
+largestCross = 2 * (largest * largest)
+
+-- an even length, not too many points, every number in range
+pub record Run (points : List ℤ) : Type 0 where
+  pub even : length points % 2 ≡ 0
+  pub few : pointCount points ≤ mostPoints
+  pub ranged : (i : ℕ) → natAbs (getD points i (pos 0)) ≤ largest

@@ -1,0 +1,103 @@
+-- Worked values: the areas of document 01's part P at heights 5 and 10, and contours of small tables, by computation from the definitions.
+use mathlib.Core.Path.{_≡_, refl}
+use mathlib.Core.List.{List, [], _∷_}
+use Prim.Native.Nat.{ℕ}
+use lib.IntN.{ℤ, pos, negsuc}
+use Rattle.laws.specs.Least.{least, some}
+use Rattle.mesh.specs.Refusals.{test, _then_, verdict}
+use Rattle.mesh.specs.Tests.{outOfRange}
+use Rattle.mesh.specs.declared.Refusal.the-variants.{Size, Range}
+use Rattle.contours.specs.declared.Measured.the-variants.{Area, Refused as Turned}
+use Rattle.contours.specs.Areas.{crossOf, nextPoint, sumOf, areaOf, runFits, answer, measureOf}
+use Rattle.contours.specs.Contours.{priorEnd, isContour, spanOf, firstOf, contourOf}
+
+-- ---- areas
+
+-- P at height 5: (5,0), (0,5), (0,0)
+abbrev five : List ℤ
+five = pos 5 ∷ pos 0 ∷ pos 0 ∷ pos 5 ∷ pos 0 ∷ pos 0 ∷ []
+
+at-five : measureOf five ≡ Area (pos 25)
+unfolding answer verdict _then_ test some least runFits outOfRange areaOf sumOf crossOf nextPoint
+at-five = refl
+
+-- P at height 10: three times (0,0)
+at-ten : measureOf (pos 0 ∷ pos 0 ∷ pos 0 ∷ pos 0 ∷ pos 0 ∷ pos 0 ∷ []) ≡ Area (pos 0)
+unfolding answer verdict _then_ test some least runFits outOfRange areaOf sumOf crossOf nextPoint
+at-ten = refl
+
+-- no points
+no-points : measureOf [] ≡ Area (pos 0)
+unfolding answer verdict _then_ test some least runFits areaOf sumOf
+no-points = refl
+
+-- the other way round
+turned-round : areaOf (pos 0 ∷ pos 0 ∷ pos 0 ∷ pos 5 ∷ pos 5 ∷ pos 0 ∷ []) ≡ negsuc 24
+unfolding areaOf sumOf crossOf nextPoint
+turned-round = refl
+
+-- odd length
+odd : measureOf (pos 5 ∷ []) ≡ Turned (Size 0)
+unfolding answer verdict _then_ test some least runFits
+odd = refl
+
+-- the largest coordinate passes, one more does not
+largest-passes : measureOf (pos 0 ∷ pos 1048576 ∷ []) ≡ Area (pos 0)
+unfolding answer verdict _then_ test some least runFits outOfRange areaOf sumOf crossOf nextPoint
+largest-passes = refl
+
+too-large : measureOf (pos 0 ∷ negsuc 1048576 ∷ []) ≡ Turned (Range 1)
+unfolding answer verdict _then_ test some least runFits outOfRange
+too-large = refl
+
+-- ---- contours
+
+-- five points, with the numbers 10, 11, 20, 21, ..
+abbrev points : List ℤ
+points = pos 10 ∷ pos 11 ∷ pos 20 ∷ pos 21 ∷ pos 30 ∷ pos 31 ∷ pos 40 ∷ pos 41 ∷ pos 50 ∷ pos 51 ∷ []
+
+abbrev ends : List ℕ
+ends = 3 ∷ 5 ∷ []
+
+first-contour : contourOf points ends 0 ≡ pos 10 ∷ pos 11 ∷ pos 20 ∷ pos 21 ∷ pos 30 ∷ pos 31 ∷ []
+unfolding contourOf firstOf spanOf isContour priorEnd
+first-contour = refl
+
+second-contour : contourOf points ends 1 ≡ pos 40 ∷ pos 41 ∷ pos 50 ∷ pos 51 ∷ []
+unfolding contourOf firstOf spanOf isContour priorEnd
+second-contour = refl
+
+-- it starts at position 6
+second-first : firstOf 10 ends 1 ≡ 6
+unfolding firstOf spanOf isContour priorEnd
+second-first = refl
+
+-- j has no end
+without-end : contourOf points ends 2 ≡ []
+unfolding contourOf firstOf spanOf isContour priorEnd
+without-end = refl
+
+-- the ends fall
+falling : contourOf points (3 ∷ 2 ∷ []) 1 ≡ []
+unfolding contourOf firstOf spanOf isContour priorEnd
+falling = refl
+
+-- the ends are one: an empty part, at position 0
+level : firstOf 10 (3 ∷ 3 ∷ []) 1 ≡ 0
+unfolding firstOf spanOf isContour priorEnd
+level = refl
+
+-- its own end passes the table
+past : contourOf points (3 ∷ 6 ∷ []) 1 ≡ []
+unfolding contourOf firstOf spanOf isContour priorEnd
+past = refl
+
+-- the largest end there is
+far-past : contourOf points (4294967295 ∷ []) 0 ≡ []
+unfolding contourOf firstOf spanOf isContour priorEnd
+far-past = refl
+
+-- the last point of a table of odd length lacks its y
+half-point : contourOf (pos 10 ∷ pos 11 ∷ pos 20 ∷ []) (2 ∷ []) 0 ≡ []
+unfolding contourOf firstOf spanOf isContour priorEnd
+half-point = refl

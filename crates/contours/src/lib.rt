@@ -1,0 +1,114 @@
+// Contours of a layer: where each lies in the table of points, and its area.
+ghost use mathlib.Core.Path.{_≡_};
+ghost use Prim.Native.Nat.{_<_};
+ghost use lib.ListN.{length};
+ghost use Rattle.mesh.specs.Refusals.{test, verdict};
+ghost use Rattle.contours.specs.Areas.{run, refusals, measureOf};
+ghost use Rattle.contours.specs.Contours.{priorEnd, firstOf, spanOf, contourOf};
+use crate::internal::doubled_area;
+use mesh::Refusal;
+use mesh::Verdict;
+use mesh::internal::wide;
+use mesh::tests::range_test;
+
+pub mod internal;
+
+// Where a contour lies in a table of points: the position of its first number, 0 where it has none, and how many it has.
+pub struct Part {
+    pub first: usize,
+    pub length: usize,
+}
+
+// What Area answers: the doubled signed area, or why there is none.
+pub enum Measured {
+    Area(i64),
+    Refused(Refusal),
+}
+
+// The end before that of contour j.
+fn prior_end(ends: &[u32], j: usize) -> usize
+    requires { ⌜ j < length (now ends) ⌝ }
+    ensures { λ r. ⌜ r ≡ priorEnd (now (ends .entry)) j ⌝ }
+{
+    if j == 0 {
+        return 0;
+    }
+    let i = j - 1;
+    wide(ends[i])
+}
+
+// Where contour j lies in a table of so many numbers.
+pub fn part_of(numbers: usize, ends: &[u32], j: usize) -> Part
+    ensures { λ r. ⌜ (r .first ≡ firstOf numbers (now (ends .entry)) j) × (r .length ≡ spanOf numbers (now (ends .entry)) j) ⌝ }
+{
+    if ends.len() <= j {
+        return Part {
+            first: 0,
+            length: 0,
+        };
+    }
+    let start = prior_end(ends, j);
+    let end = wide(ends[j]);
+    if end <= start {
+        return Part {
+            first: 0,
+            length: 0,
+        };
+    }
+    let count = end - start;
+    if numbers < 2 * end {
+        return Part {
+            first: 0,
+            length: 0,
+        };
+    }
+    Part {
+        first: 2 * start,
+        length: 2 * count,
+    }
+}
+
+// Contour j, a part of the points; the empty part where there is none.
+pub fn contour<'a>(points: &'a [i32], ends: &[u32], j: usize) -> &'a [i32]
+    ensures { λ r. ⌜ now r ≡ contourOf (now (points .entry)) (now (ends .entry)) j ⌝ }
+{
+    let part = part_of(points.len(), ends, j);
+    let first = part.first;
+    let end = first + part.length;
+    &points[first..end]
+}
+
+// Refusal 1.
+fn run_test(points: &[i32]) -> Verdict
+    ensures { λ r. ⌜ r ≡ test (run (now (points .entry))) ⌝ }
+{
+    if points.len() % 2 != 0 {
+        return Verdict::Refused(Refusal::Size(0));
+    }
+    if 98304 < points.len() / 2 {
+        return Verdict::Refused(Refusal::Size(0));
+    }
+    Verdict::Fine
+}
+
+// Refusals 1 and 2.
+fn points_test(points: &[i32]) -> Verdict
+    ensures { λ r. ⌜ r ≡ verdict (refusals (now (points .entry))) ⌝ }
+{
+    let a = run_test(points);
+    if let Verdict::Refused(_) = a {
+        return a;
+    }
+    range_test(points)
+}
+
+// The doubled signed area of a run of points, closed round.
+pub fn area(points: &[i32]) -> Measured
+    ensures { λ r. ⌜ r ≡ measureOf (now (points .entry)) ⌝ }
+{
+    let a = points_test(points);
+    if let Verdict::Refused(r) = a {
+        return Measured::Refused(r);
+    }
+    Measured::Area(doubled_area(points))
+}

@@ -1,0 +1,35 @@
+-- What the code's branches say of room, and what a passed test of room gives.
+use Prim.Native.Nat.{ℕ, _*_, _/_, _<_, _≤_}
+use mathlib.Core.Path.{_≡_, sym, _∙_}
+use mathlib.Core.Bool.{Bool, true, false, _&&_}
+use native.Mathlib.Omega.{arith}
+use borrow.Author.Tests.{leb-true, le-leb, lt-leb}
+use lib.Dec.{leb}
+use Rattle.laws.specs.Booleans.{and-parts}
+use Rattle.cutter.specs.Cut.{roomFor}
+use Rattle.cutter.specs.Outlines.{Long}
+
+module _ (n names points ends marks : ℕ) where
+  pub room-1 : names < n → false ≡ roomFor n names points ends marks
+  unfolding roomFor
+  room-1 a = simp (lt-leb n names a)
+
+  pub room-2 : n ≤ names → points / 2 < n → false ≡ roomFor n names points ends marks
+  unfolding roomFor
+  room-2 a b = simp (le-leb n names a, lt-leb (2 * n) points (omega arith))
+
+  pub room-3 : n ≤ names → n ≤ points / 2 → ends < n → false ≡ roomFor n names points ends marks
+  unfolding roomFor
+  room-3 a b c = simp (le-leb n names a, le-leb (2 * n) points (omega arith), lt-leb n ends c)
+
+  pub room-4 : n ≤ names → n ≤ points / 2 → n ≤ ends → leb n marks ≡ roomFor n names points ends marks
+  unfolding roomFor
+  room-4 a b c = simp (le-leb n names a, le-leb (2 * n) points (omega arith), le-leb n ends c)
+
+  pub room-long : roomFor n names points ends marks ≡ true → Long n names points ends marks
+  unfolding roomFor
+  room-long e =
+      let p = and-parts _ _ e in
+      let q = and-parts _ _ (p .0) in
+      let r = and-parts _ _ (q .0) in
+      record { names-long = leb-true _ _ (r .0); points-long = leb-true _ _ (r .1); ends-long = leb-true _ _ (q .1); marks-long = leb-true _ _ (p .1) }

@@ -1,0 +1,20 @@
+-- `room_test` meets its contract.
+use mathlib.Core.Path.{sym, ap, _∙_}
+use mathlib.Core.Bool.{not}
+use Rattle.mesh.specs.RefusalLaws.{whole-refused, whole-fine}
+use Rattle.mesh.specs.declared.Refusal.the-variants.{Room}
+use borrow.Author.Needs.{needs}
+use Rattle.cutter.proofs.room_test.Statement.{statement}
+use Rattle.cutter.proofs.room_test.Tie as tie
+
+room-for-requires : tie.Need-room-for-requires
+room-for-requires c κs = search needs
+
+returns : tie.Need-returns
+returns c = whole-fine Room _ (ap not (sym (c .before .room-for .ensures) ∙ c .if1 .taken))
+
+returns-2 : tie.Need-returns-2
+returns-2 c = whole-refused Room _ (ap not (sym (c .before .room-for .ensures) ∙ c .if1 .left))
+
+pub room-test-spec : {M : Type 1} → statement M
+room-test-spec = tie.close (tie.spec room-for-requires returns returns-2)

@@ -1,0 +1,3 @@
+-- Cut.
+pub mod Cut
+pub mod Outlines

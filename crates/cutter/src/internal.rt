@@ -1,0 +1,73 @@
+// Internal: the layer of a mesh that the tests have passed.
+ghost use mathlib.Core.Path.{_≡_};
+ghost use Prim.Native.Nat.{_≤_};
+ghost use lib.ListN.{length, replicate};
+ghost use lib.IntN.{pos};
+ghost use Rattle.laws.specs.Tables.{overwrite};
+ghost use Rattle.section.specs.Section.{Right};
+ghost use Rattle.section.specs.Links.{traceLinks};
+ghost use Rattle.cutter.specs.Cut.{section};
+ghost use Rattle.cutter.specs.Outlines.{Long, Outlined, Traces};
+use crate::Sliced;
+use mesh::Refusal;
+use points::internal::put_points;
+use section::internal::link;
+use tracer::Found;
+use tracer::internal::trace;
+
+// Zeroes the first n numbers.
+fn clear_points(t: &mut [i32], n: usize)
+    requires { ⌜ n ≤ length (now t) ⌝ }
+    ensures { λ _. ⌜ now (t .exit) ≡ overwrite (replicate n (pos 0)) (now (t .entry)) ⌝ }
+{
+    let mut i: usize = 0;
+    while i < n {
+        t[i] = 0;
+        i += 1;
+    }
+}
+
+// Writes the layer of height h, whose ring table is in marks.
+pub fn outline(
+    coords: &[i32],
+    corners: &[u32],
+    h: i32,
+    names: &mut [u32],
+    points: &mut [i32],
+    ends: &mut [u32],
+    marks: &mut [u32],
+) -> Sliced
+    requires { ⌜ Outlined (now coords) (now corners) h (now marks) ⌝ ∗ ⌜ Long (length (now corners)) (length (now names)) (length (now points)) (length (now ends)) (length (now marks)) ⌝ }
+    ensures { λ r. ⌜ Traces (traceLinks (length (now (corners .entry))) (now (marks .entry))) (now (coords .entry)) (now (corners .entry)) h (now (names .entry)) (now (points .entry)) (now (ends .entry)) (now (marks .entry)) r (now (names .exit)) (now (points .exit)) (now (ends .exit)) (now (marks .exit)) ⌝ }
+{
+    let n = corners.len();
+    let f = trace(n, marks, names, ends);
+    match f {
+        Found::Contours(j, k) => {
+            put_points(coords, corners, h, names, points, k);
+            Sliced::Layer(j, k)
+        }
+        Found::Stuck(p) => {
+            clear_points(points, 2 * n);
+            Sliced::Refused(Refusal::Used(p))
+        }
+    }
+}
+
+// The layer of height h.
+pub fn slice(
+    coords: &[i32],
+    corners: &[u32],
+    pairing: &[u32],
+    h: i32,
+    names: &mut [u32],
+    points: &mut [i32],
+    ends: &mut [u32],
+    marks: &mut [u32],
+) -> Sliced
+    requires { ⌜ Right (now coords) (now corners) (now pairing) ⌝ ∗ ⌜ Long (length (now corners)) (length (now names)) (length (now points)) (length (now ends)) (length (now marks)) ⌝ }
+    ensures { λ r. ⌜ Traces (section (now (coords .entry)) (now (corners .entry)) (now (pairing .entry)) h) (now (coords .entry)) (now (corners .entry)) h (now (names .entry)) (now (points .entry)) (now (ends .entry)) (now (marks .entry)) r (now (names .exit)) (now (points .exit)) (now (ends .exit)) (now (marks .exit)) ⌝ }
+{
+    link(coords, corners, pairing, h, 0, marks);
+    outline(coords, corners, h, names, points, ends, marks)
+}

@@ -1,0 +1,16 @@
+// The formats of the two files, see specs/, and the code that reads and writes the numbers in them.
+
+pub mod internal;
+pub mod numbers;
+
+// A number and the position after it, or no number that may stand there.
+pub enum Number {
+    Value(u64, usize),
+    Bad,
+}
+
+// How far a part of a file is as it should be: the position after it, or that of the first refused value.
+pub enum Extent {
+    End(usize),
+    Refused(usize),
+}

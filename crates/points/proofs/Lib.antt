@@ -1,0 +1,4 @@
+-- Lemmas of the proofs.
+pub mod Rounding
+pub mod Reading
+pub mod Writing

@@ -1,0 +1,44 @@
+-- What the code reads of an edge.
+use Prim.Native.Nat.{ℕ, _≤_, _<_, _^_}
+use mathlib.Core.Path.{_≡_, sym, ap, _∙_, subst}
+use mathlib.Core.List.{List}
+use lib.IntN.{ℤ}
+use lib.Signed.{mag}
+use mir.Syntax.{w32}
+use mir.Val.{toZ, ofZ}
+use Rattle.laws.specs.Machine.{same}
+use Rattle.mesh.specs.Corners.{startOf, endOf, coordOf, zOf}
+use Rattle.points.specs.Points.{numerator, denominator, rounded, exactOver, exactUnder, pointAt}
+use Rattle.points.specs.Climbs.{Edge, Climbs}
+
+-- a call's result, as the caller holds it
+pub held-is : {z y : ℤ} → mag z < 2 ^ 31 → z ≡ y → toZ w32 (ofZ w32 z) ≡ y
+held-is {z} f e = same w32 z f ∙ e
+
+-- these numbers are those of the edge of corner c, and of the height
+pub record Read (coords : List ℤ) (corners : List ℕ) (h : ℤ) (axis c : ℕ) (u0 u1 z0 z1 g : ℤ) : Type 0 where
+  pub u0-is : u0 ≡ coordOf coords axis (startOf corners c)
+  pub u1-is : u1 ≡ coordOf coords axis (endOf corners c)
+  pub z0-is : z0 ≡ zOf coords (startOf corners c)
+  pub z1-is : z1 ≡ zOf coords (endOf corners c)
+  pub h-is : g ≡ h
+
+-- by its two vertices
+pub read-of : {coords : List ℤ} {corners : List ℕ} {h : ℤ} {axis c : ℕ} {u0 u1 z0 z1 g : ℤ} (a b : ℕ) → a ≡ startOf corners c → b ≡ endOf corners c
+    → u0 ≡ coordOf coords axis a → u1 ≡ coordOf coords axis b → z0 ≡ zOf coords a → z1 ≡ zOf coords b → g ≡ h → Read coords corners h axis c u0 u1 z0 z1 g
+read-of {coords} {axis = axis} a b ea eb p q r s t =
+    record {
+      u0-is = p ∙ ap (coordOf coords axis) ea;
+      u1-is = q ∙ ap (coordOf coords axis) eb;
+      z0-is = r ∙ ap (zOf coords) ea;
+      z1-is = s ∙ ap (zOf coords) eb;
+      h-is = t;
+    }
+
+module _ {coords : List ℤ} {corners : List ℕ} {h : ℤ} {axis c : ℕ} {u0 u1 z0 z1 g : ℤ} (r : Read coords corners h axis c u0 u1 z0 z1 g) where
+  pub read-edge : Climbs coords corners h c → axis ≤ 1 → Edge u0 u1 z0 z1 g
+  read-edge t k = subst (λ (A : Type 0). A) (sym (λ i. Edge (r .u0-is i) (r .u1-is i) (r .z0-is i) (r .z1-is i) (r .h-is i))) (t .edge axis k)
+
+  pub read-point : rounded (numerator u0 u1 z0 z1 g) (denominator z0 z1) ≡ pointAt coords corners h axis c
+  unfolding pointAt exactOver exactUnder
+  read-point = λ i. rounded (numerator (r .u0-is i) (r .u1-is i) (r .z0-is i) (r .z1-is i) (r .h-is i)) (denominator (r .z0-is i) (r .z1-is i))

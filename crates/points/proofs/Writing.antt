@@ -1,0 +1,54 @@
+-- The loop that writes points: what it has written before the first turn, after a turn, and after the last.
+use Prim.Native.Nat.{ℕ, _+_, _*_, _^_, _≤_, _<_}
+use mathlib.Core.Path.{_≡_, refl, sym, ap, _∙_}
+use mathlib.Core.List.{List, [], _∷_, _++_, append-assoc}
+use native.Mathlib.Omega.{arith}
+use native.Mathlib.Numerals.{add-one}
+use lib.ListN.{length, getD, set, take, length-set, length-append}
+use lib.Seq.{take-suc, length-take-le}
+use lib.IntN.{ℤ}
+use lib.Signed.{mag}
+use mir.Syntax.{w32}
+use mir.Val.{toZ, ofZ}
+use Rattle.laws.specs.Tables.{overwrite}
+use Rattle.laws.specs.TableLaws.{overwrite-none, overwrite-snoc}
+use Rattle.points.specs.Points.{pointAt, pointsOf}
+use Rattle.points.specs.PointLaws.{points-append, length-points}
+use Rattle.points.proofs.Reading.{held-is}
+
+-- the table holds the points of the first i of k names
+pub record Written (coords : List ℤ) (corners : List ℕ) (h : ℤ) (names : List ℕ) (table₀ : List ℤ) (k : ℕ) (table : List ℤ) (i : ℕ) : Type 0 where
+  pub upto : i ≤ k
+  pub long : length table ≡ length table₀
+  pub holds : table ≡ overwrite (pointsOf coords corners h (take i names)) table₀
+
+module _ {coords : List ℤ} {corners : List ℕ} {h : ℤ} {names : List ℕ} {table₀ : List ℤ} {k : ℕ} where
+  pub written-none : Written coords corners h names table₀ k table₀ 0
+  unfolding pointsOf
+  written-none = record { upto = omega arith; long = refl; holds = sym (overwrite-none table₀) }
+
+  module _ {table : List ℤ} {i : ℕ} (w : Written coords corners h names table₀ k table i) where
+    -- x and y are the results of two calls
+    pub written-more : (c : ℕ) (x y : ℤ) → c ≡ getD names i 0 → mag x < 2 ^ 31 → mag y < 2 ^ 31 → x ≡ pointAt coords corners h 0 c → y ≡ pointAt coords corners h 1 c
+        → i < k → k ≤ length names → 2 * k ≤ length table₀ → Written coords corners h names table₀ k (set (set table (2 * i) (toZ w32 (ofZ w32 x))) (2 * i + 1) (toZ w32 (ofZ w32 y))) (i + 1)
+    unfolding pointsOf
+    written-more c x y ec fx fy ex ey l m r =
+        let p = pointsOf coords corners h (take i names) in
+        let x′ = toZ w32 (ofZ w32 x) in
+        let y′ = toZ w32 (ofZ w32 y) in
+        let n : length p ≡ 2 * i = length-points coords corners h (take i names) ∙ ap (λ (j : ℕ). 2 * j) (length-take-le i names (omega arith)) in
+        record {
+          upto = omega arith;
+          long = length-set (set table (2 * i) x′) (2 * i + 1) y′ ∙ length-set table (2 * i) x′ ∙ w .long;
+          holds =
+              ap (λ (t : List ℤ). set (set t (2 * i) x′) (2 * i + 1) y′) (w .holds)
+              ∙ ap (λ (t : List ℤ). set t (2 * i + 1) y′) (overwrite-snoc p table₀ x′ (2 * i) (sym n) (omega arith))
+              ∙ overwrite-snoc (p ++ (x′ ∷ [])) table₀ y′ (2 * i + 1) (omega (arith, length-append p (x′ ∷ []))) (omega arith)
+              ∙ (λ j. overwrite ((p ++ (held-is fx ex j ∷ [])) ++ (held-is fy ey j ∷ [])) table₀)
+              ∙ ap (λ (t : List ℤ). overwrite t table₀) (append-assoc p _ _ ∙ sym (points-append coords corners h (take i names) (c ∷ [])))
+              ∙ ap (λ (t : List ℕ). overwrite (pointsOf coords corners h t) table₀)
+              (ap (λ (d : ℕ). take i names ++ (d ∷ [])) ec ∙ sym (take-suc names i 0 (omega arith)) ∙ ap (λ (j : ℕ). take j names) (sym (add-one i)));
+        }
+
+    pub written-all : {g : ℤ} → h ≡ g → i ≡ k → table ≡ overwrite (pointsOf coords corners g (take k names)) table₀
+    written-all e f = w .holds ∙ (λ j. overwrite (pointsOf coords corners (e j) (take (f j) names)) table₀)

@@ -1,0 +1,89 @@
+-- `crossing` meets its contract.
+use mathlib.Core.Path.{_≡_, ap, _∙_}
+use native.Mathlib.Omega.{arith}
+use lib.ListN.{getD}
+use denote.Ref.{now}
+use mir.Syntax.{w32}
+use mir.Val.{toZ, ofZ}
+use mir.ValLaws.{toZ-ofZ}
+use Rattle.mesh.specs.Corners.{endOf}
+use Rattle.points.proofs.Reading.{held-is, Read, read-of, read-edge, read-point}
+use borrow.Author.Needs.{needs}
+use Rattle.points.proofs.internal.crossing.Statement.{statement}
+use Rattle.points.proofs.internal.crossing.Tie as tie
+
+-- the end that was read
+end-is : (c : tie.After-wide2) → let s = c .before .before .before .before .before .before .args in c .wide2 .result ≡ endOf (now (s .corners)) (s .c)
+end-is c = c .wide2 .ensures ∙ ap (λ k. getD (now (c .before .before .before .before .before .before .args .corners)) k 0) (c .before .before .before .before .next-corner .ensures)
+
+next-corner-requires : tie.Need-next-corner-requires
+next-corner-requires c κs = search needs
+
+mul-wide : tie.Need-mul-wide
+mul-wide c = search needs
+
+shared-slice-read-wide : tie.Need-shared-slice-read-wide
+shared-slice-read-wide c = search needs
+
+wide-requires : tie.Need-wide-requires
+wide-requires c κs = search needs
+
+mul-wide-2 : tie.Need-mul-wide-2
+mul-wide-2 c = search needs
+
+shared-slice-read-wide-2 : tie.Need-shared-slice-read-wide-2
+shared-slice-read-wide-2 c = search needs
+
+wide-requires-2 : tie.Need-wide-requires-2
+wide-requires-2 c κs = search needs
+
+coordinate-requires : tie.Need-coordinate-requires
+coordinate-requires c κs = search needs
+
+coordinate-requires-2 : tie.Need-coordinate-requires-2
+coordinate-requires-2 c κs = omega (arith, end-is (c .before))
+
+coordinate-requires-3 : tie.Need-coordinate-requires-3
+coordinate-requires-3 c κs = search needs
+
+coordinate-requires-4 : tie.Need-coordinate-requires-4
+coordinate-requires-4 c κs = omega (arith, end-is (c .before .before .before))
+
+-- the five numbers that were read
+held : (c : tie.After-coordinate4)
+    → let s = c .before .before .before .before .before .before .before .before .before .before .args in
+    Read (now (s .coords)) (now (s .corners)) (s .h) (s .axis) (s .c) (toZ w32 (ofZ w32 (c .before .before .before .coordinate .result))) (toZ w32 (ofZ w32 (c .before .before .coordinate2 .result)))
+    (toZ w32 (ofZ w32 (c .before .coordinate3 .result))) (toZ w32 (ofZ w32 (c .coordinate4 .result))) (toZ w32 (ofZ w32 (s .h)))
+held c =
+    let b = c .before .before .before in
+    let w = b .before in
+    read-of (w .before .before .wide .result) (w .wide2 .result) (w .before .before .wide .ensures) (end-is w)
+    (held-is (b .coordinate .ok) (b .coordinate .ensures)) (held-is (c .before .before .coordinate2 .ok) (c .before .before .coordinate2 .ensures))
+    (held-is (c .before .coordinate3 .ok) (c .before .coordinate3 .ensures)) (held-is (c .coordinate4 .ok) (c .coordinate4 .ensures))
+    (toZ-ofZ w32 _ (w .before .before .before .before .before .before .fits .h))
+
+meet-requires : tie.Need-meet-requires
+meet-requires c κs =
+    let s = c .before .before .before .before .before .before .before .before .before .before in
+    read-edge (held c) (s .pre .1) (s .pre .0)
+
+returns : tie.Need-returns
+returns c = held-is (c .meet .ok) (c .meet .ensures) ∙ read-point (held (c .before))
+
+pub crossing-spec : {M : Type 1} → statement M
+crossing-spec =
+    tie.close
+    (tie.spec
+    next-corner-requires
+    mul-wide
+    shared-slice-read-wide
+    wide-requires
+    mul-wide-2
+    shared-slice-read-wide-2
+    wide-requires-2
+    coordinate-requires
+    coordinate-requires-2
+    coordinate-requires-3
+    coordinate-requires-4
+    meet-requires
+    returns)

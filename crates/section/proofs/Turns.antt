@@ -1,0 +1,103 @@
+-- What the code's branches say, in the definitions' terms.
+use Prim.Native.Nat.{ℕ, _+_, _*_, _/_, _^_, _≤_, _<_}
+use mathlib.Core.Path.{_≡_, refl, sym, ap, _∙_, subst}
+use mathlib.Core.Bool.{Bool, true, false, not, cond, _&&_, _||_}
+use mathlib.Core.List.{List}
+use native.Mathlib.Omega.{arith}
+use lib.Dec.{ltb}
+use lib.ListN.{length, getD, set}
+use lib.IntN.{ℤ}
+use lib.Signed.{ltZ, mag}
+use mir.Syntax.{w32}
+use mir.Val.{SFits, toZ, ofZ}
+use mir.ValLaws.{toZ-ofZ}
+use Rattle.laws.specs.Machine.{same}
+use Rattle.laws.specs.Tables.{refill}
+use Rattle.laws.specs.TableLaws.{refill-more}
+use Rattle.mesh.specs.Corners.{nextCorner, startOf, endOf, zOf}
+use Rattle.mesh.specs.Tests.{pairOf}
+use Rattle.section.specs.Section.{VertexSet, under, rising, risingIn, successor, noCorner, ringEntry}
+
+-- a signed argument as the code holds it
+abbrev pub held : ℤ → ℤ
+held z = toZ w32 (ofZ w32 z)
+
+pub back : {h : ℤ} → SFits w32 h → held h ≡ h
+back {h} f = toZ-ofZ w32 h f
+
+-- ---- is_passed
+
+module _ (coords : List ℤ) (h : ℤ) (k v : ℕ) (fz : mag (zOf coords v) < 2 ^ 31) (fh : SFits w32 h) where
+  z-lt : {b : Bool} → ltZ (held (zOf coords v)) (held h) ≡ b → ltZ (zOf coords v) h ≡ b
+  z-lt e = (λ i. ltZ (sym (same w32 (zOf coords v) fz) i) (sym (back fh) i)) ∙ e
+
+  h-lt : {b : Bool} → ltZ (held h) (held (zOf coords v)) ≡ b → ltZ h (zOf coords v) ≡ b
+  h-lt e = (λ i. ltZ (sym (back fh) i) (sym (same w32 (zOf coords v) fz) i)) ∙ e
+
+  pub passed-low : ltZ (held (zOf coords v)) (held h) ≡ true → true ≡ under coords h k v
+  unfolding under
+  passed-low p = simp (z-lt p)
+
+  pub passed-high : ltZ (held (zOf coords v)) (held h) ≡ false → ltZ (held h) (held (zOf coords v)) ≡ true → false ≡ under coords h k v
+  unfolding under
+  passed-high p q = simp (z-lt p, h-lt q)
+
+  pub passed-level : ltZ (held (zOf coords v)) (held h) ≡ false → ltZ (held h) (held (zOf coords v)) ≡ false → ltb v k ≡ under coords h k v
+  unfolding under
+  passed-level p q = simp (z-lt p, h-lt q)
+
+-- ---- rises
+
+module _ (passed : VertexSet) (corners : List ℕ) (c u : ℕ) (r : Bool) (eu : u ≡ startOf corners c) (er : r ≡ passed u) where
+  start-is : passed (startOf corners c) ≡ r
+  start-is = ap passed (sym eu) ∙ sym er
+
+  pub rises-no : r ≡ false → false ≡ rising passed corners c
+  unfolding rising
+  rises-no t = simp (start-is ∙ t)
+
+  pub rises-as : r ≡ true → (n v : ℕ) (q : Bool) → n ≡ nextCorner c → v ≡ getD corners n 0 → q ≡ passed v → not q ≡ rising passed corners c
+  unfolding rising
+  rises-as t n v q en ev eq =
+      let x : passed (startOf corners c) ≡ true = start-is ∙ t in
+      rw x (ap not (eq ∙ ap passed (ev ∙ ap (λ (k : ℕ). getD corners k 0) en)))
+
+-- ---- rising_corner
+
+module _ (passed : VertexSet) (corners : List ℕ) (t : ℕ) where
+  pub rising-first : rising passed corners (3 * t) ≡ true → 3 * t ≡ risingIn passed corners t
+  unfolding risingIn
+  rising-first p = simp p
+
+  pub rising-second : rising passed corners (3 * t) ≡ false → rising passed corners (3 * t + 1) ≡ true → 3 * t + 1 ≡ risingIn passed corners t
+  unfolding risingIn
+  rising-second p q = simp (p, q)
+
+  pub rising-third : rising passed corners (3 * t) ≡ false → rising passed corners (3 * t + 1) ≡ false → 3 * t + 2 ≡ risingIn passed corners t
+  unfolding risingIn
+  rising-third p q = simp (p, q)
+
+  pub risingIn-bound : risingIn passed corners t ≤ 3 * t + 2
+  unfolding risingIn
+  risingIn-bound = by (rising passed corners (3 * t)) (rising passed corners (3 * t + 1))
+    where
+      by : (a b : Bool) → cond a (3 * t) (cond b (3 * t + 1) (3 * t + 2)) ≤ 3 * t + 2
+      by true b = omega arith
+      by false true = omega arith
+      by false false = omega arith
+
+-- ---- entry_of
+
+module _ (passed : VertexSet) (corners pairing : List ℕ) (c : ℕ) where
+  pub entry-rises : rising passed corners c ≡ true → (s d : ℕ) → d ≡ pairOf pairing c → s ≡ risingIn passed corners (d / 3) → s ≡ ringEntry passed corners pairing c
+  unfolding ringEntry successor
+  entry-rises p s d ed es = rw p (es ∙ ap (λ (k : ℕ). risingIn passed corners (k / 3)) ed)
+
+  pub entry-none : rising passed corners c ≡ false → noCorner ≡ ringEntry passed corners pairing c
+  unfolding ringEntry
+  entry-none p = simp p
+
+-- ---- link
+
+pub link-more : (f : ℕ → ℕ) (c e : ℕ) (t t₀ : List ℕ) → t ≡ refill c f t₀ → c < length t₀ → e ≡ f c → set t c e ≡ refill (c + 1) f t₀
+link-more f c e t t₀ is h ee = (λ i. set (is i) c (ee i)) ∙ refill-more c f t₀ h

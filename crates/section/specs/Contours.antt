@@ -1,0 +1,71 @@
+-- The contours of a section, by walks along the successors, and the layer's names and ends.
+use Prim.Native.Nat.{ℕ, zero, suc, _+_}
+use mathlib.Core.Bool.{Bool, true, false, not, cond, _&&_, _||_}
+use mathlib.Core.List.{List, [], _∷_, _++_}
+use lib.ListN.{length}
+use lib.Dec.{eqb}
+use Rattle.section.specs.Section.{VertexSet, rising, successor}
+
+unfoldable pub member : ℕ → List ℕ → Bool
+member v [] = false
+member v (x ∷ xs) = eqb v x || member v xs
+
+-- ---- a walk
+
+-- what a walk finds: the whole ring, or refusal 16's crossing, one already used that is not its start
+pub data Way : Type 0 where
+  closed : List ℕ → Way
+  met : ℕ → Way
+
+abbrev pub onward : ℕ → Way → Way
+onward c (closed cs) = closed (c ∷ cs)
+onward c (met p) = met p
+
+-- the walk that began at `start` and stands at c; `used` has the crossings used before c; n bounds the steps
+unfoldable pub walk : (ℕ → ℕ) → ℕ → ℕ → ℕ → List ℕ → Way
+walk next start zero c used = met c
+walk next start (suc n) c used =
+    let rest = walk next start n (next c) (c ∷ used) in
+    cond (eqb (next c) start) (closed (c ∷ []))
+    (cond (member (next c) (c ∷ used)) (met (next c)) (onward c rest))
+
+-- ---- the contours
+
+pub data Traced : Type 0 where
+  contours : List (List ℕ) → Traced
+  stuck : ℕ → Traced
+
+-- the names of a layer: the corners of its contours, in turn
+abbrev pub namesOf : List (List ℕ) → List ℕ
+namesOf [] = []
+namesOf (r ∷ rs) = r ++ namesOf rs
+
+abbrev pub more : List (List ℕ) → Way → Traced
+more rs (closed r) = contours (rs ++ (r ∷ []))
+more rs (met p) = stuck p
+
+-- at corner c a contour starts, where c is a crossing that no contour has yet
+unfoldable pub traceAt : (ℕ → Bool) → (ℕ → ℕ) → ℕ → ℕ → Traced → Traced
+traceAt rises next n c (stuck p) = stuck p
+traceAt rises next n c (contours rs) =
+    elim (rises c && not (member c (namesOf rs))) [
+      | true ↦ more rs (walk next c n c (namesOf rs))
+      | false ↦ contours rs
+    ]
+
+-- the contours that start below corner c
+unfoldable pub traceTo : (ℕ → Bool) → (ℕ → ℕ) → ℕ → ℕ → Traced
+traceTo rises next n zero = contours []
+traceTo rises next n (suc c) = traceAt rises next n c (traceTo rises next n c)
+
+-- all contours of the section
+unfoldable pub trace : VertexSet → List ℕ → List ℕ → Traced
+trace passed corners pairing = traceTo (rising passed corners) (successor passed corners pairing) (length corners) (length corners)
+
+-- the ends of a layer: for each contour the number of points up to its end, where k came before
+unfoldable pub endsFrom : ℕ → List (List ℕ) → List ℕ
+endsFrom k [] = []
+endsFrom k (r ∷ rs) = (k + length r) ∷ endsFrom (k + length r) rs
+
+abbrev pub endsOf : List (List ℕ) → List ℕ
+endsOf rs = endsFrom 0 rs

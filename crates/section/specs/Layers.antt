@@ -1,0 +1,33 @@
+-- What a layer is: every contour a ring of at least two crossings from its least corner on, contours by first corner, every crossing once.
+use Prim.Native.Nat.{ℕ, suc, _-_, _≤_, _<_}
+use mathlib.Core.Path.{_≡_}
+use mathlib.Core.Bool.{true}
+use mathlib.Core.List.{List, []}
+use lib.ListN.{length, getD}
+use Rattle.section.specs.Section.{VertexSet, successor, Crossing}
+use Rattle.section.specs.Contours.{member, namesOf}
+
+abbrev pub first : List ℕ → ℕ
+first r = getD r 0 0
+
+-- a contour is closed, at least two crossings long, and starts at its least corner: each name is followed by its successor, the last by the first
+pub record Contour (next : ℕ → ℕ) (r : List ℕ) : Type 0 where
+  pub two : 2 ≤ length r
+  pub least : (x : ℕ) → member x r ≡ true → first r ≤ x
+  pub follows : (i : ℕ) → suc i < length r → getD r (suc i) 0 ≡ next (getD r i 0)
+  pub closes : next (getD r (length r - 1) 0) ≡ first r
+
+-- contour i
+abbrev pub contourAt : List (List ℕ) → ℕ → List ℕ
+contourAt rs i = getD rs i []
+
+-- no name stands at two places
+abbrev pub Distinct : List ℕ → Type 0
+Distinct l = (i j : ℕ) → i < j → j < length l → getD l i 0 ≡ getD l j 0 → ⊥
+
+pub record Layer (passed : VertexSet) (corners pairing : List ℕ) (rs : List (List ℕ)) : Type 0 where
+  pub each : (i : ℕ) → i < length rs → Contour (successor passed corners pairing) (contourAt rs i)
+  pub ascend : (i j : ℕ) → i < j → j < length rs → first (contourAt rs i) < first (contourAt rs j)
+  pub only : (x : ℕ) → member x (namesOf rs) ≡ true → Crossing passed corners x
+  pub every : (x : ℕ) → Crossing passed corners x → member x (namesOf rs) ≡ true
+  pub once : Distinct (namesOf rs)

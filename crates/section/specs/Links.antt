@@ -1,0 +1,19 @@
+-- Internal: the contours of a table of links, one for each corner: the corner that follows, or none.
+use Prim.Native.Nat.{ℕ}
+use mathlib.Core.Bool.{Bool, not}
+use mathlib.Core.List.{List}
+use lib.Dec.{eqb}
+use lib.ListN.{getD}
+use Rattle.section.specs.Section.{noCorner}
+use Rattle.section.specs.Contours.{Traced, traceTo}
+
+-- the entry is a link
+unfoldable pub hasLink : List ℕ → ℕ → Bool
+hasLink links c = not (eqb (getD links c 0) noCorner)
+
+abbrev pub linkOf : List ℕ → ℕ → ℕ
+linkOf links c = getD links c 0
+
+-- the contours of the first n entries
+unfoldable pub traceLinks : ℕ → List ℕ → Traced
+traceLinks n links = traceTo (hasLink links) (linkOf links) n n

@@ -1,0 +1,80 @@
+-- "Section and points" of document 01: given a set of vertices called passed, which corners rise and fall, what succeeds a crossing, and the ring table.
+use Prim.Native.Nat.{ℕ, _+_, _*_, _<_, _≤_}
+use mathlib.Core.Path.{_≡_}
+use mathlib.Core.Bool.{Bool, true, not, cond, _&&_, _||_}
+use mathlib.Core.List.{List}
+use lib.Dec.{ltb}
+use lib.ListN.{length, getD}
+use lib.IntN.{ℤ, pos, natAbs}
+use lib.Signed.{ltZ}
+use Rattle.mesh.specs.Corners.{largest, vertexCount, triangleOf, startOf, endOf, zOf}
+use Rattle.mesh.specs.Tests.{Whole, pairOf}
+use Rattle.mesh.specs.TestLaws.{Paired}
+
+-- ---- the passed vertices
+
+abbrev pub VertexSet : Type 0
+VertexSet = ℕ → Bool
+
+-- for height h: those with z < h
+unfoldable pub below : List ℤ → ℤ → VertexSet
+below coords h v = ltZ (zOf coords v) h
+
+-- those that stand, by z and then by number, before the place of a vertex with z = h and number k
+unfoldable pub under : List ℤ → ℤ → ℕ → VertexSet
+under coords h k v = ltZ (zOf coords v) h || (not (ltZ h (zOf coords v)) && ltb v k)
+
+-- ---- corners
+
+-- its start is passed and its end is not
+unfoldable pub rising : VertexSet → List ℕ → ℕ → Bool
+rising passed corners c = passed (startOf corners c) && not (passed (endOf corners c))
+
+-- the other way round
+unfoldable pub falling : VertexSet → List ℕ → ℕ → Bool
+falling passed corners c = passed (endOf corners c) && not (passed (startOf corners c))
+
+-- c is below n and rises
+pub record Among (n : ℕ) (rises : ℕ → Bool) (c : ℕ) : Type 0 where
+  pub below : c < n
+  pub upward : rises c ≡ true
+
+-- a crossing is a rising corner
+abbrev pub Crossing : VertexSet → List ℕ → ℕ → Type 0
+Crossing passed corners c = Among (length corners) (rising passed corners) c
+
+-- the rising corner of triangle t; where it has none, its last corner
+unfoldable pub risingIn : VertexSet → List ℕ → ℕ → ℕ
+risingIn passed corners t =
+    cond (rising passed corners (3 * t)) (3 * t)
+    (cond (rising passed corners (3 * t + 1)) (3 * t + 1)
+    (3 * t + 2))
+
+-- the successor of a crossing: the rising corner of the triangle of its paired corner
+unfoldable pub successor : VertexSet → List ℕ → List ℕ → ℕ → ℕ
+successor passed corners pairing c = risingIn passed corners (triangleOf (pairOf pairing c))
+
+-- ---- the ring table's entry for corner c: the successor of a crossing, else 4,294,967,295
+
+abbrev pub noCorner : ℕ
+noCorner = 4294967295
+
+unfoldable pub ringEntry : VertexSet → List ℕ → List ℕ → ℕ → ℕ
+ringEntry passed corners pairing c = cond (rising passed corners c) (successor passed corners pairing c) noCorner
+
+-- ---- what the tests of a mesh establish: 1 and 3 of corners, 1, 4 and 7 of corners and pairing
+
+pub record Named (coords : List ℤ) (corners : List ℕ) : Type 0 where
+  pub whole : Whole (length corners)
+  pub vertices : (c : ℕ) → c < length corners → startOf corners c < vertexCount coords
+
+pub record Linked (corners pairing : List ℕ) : Type 0 where
+  pub whole : Whole (length corners)
+  pub proper : (c : ℕ) → c < length corners → startOf corners c ≡ endOf corners c → ⊥
+  pub each : (c : ℕ) → c < length corners → Paired corners pairing c
+
+-- 1, 2, 3, 4 and 7 together
+pub record Right (coords : List ℤ) (corners pairing : List ℕ) : Type 0 where
+  pub named : Named coords corners
+  pub linked : Linked corners pairing
+  pub inside : (i : ℕ) → i < length coords → natAbs (getD coords i (pos 0)) ≤ largest

@@ -1,0 +1,83 @@
+// Internal: crossings and successors, whose `requires` say what the tests of a mesh establish. A vertex is passed if it stands before
+// the place (h, k) by z and then by number; (h, 0) is the set of height h.
+ghost use mathlib.Core.Path.{_≡_};
+ghost use Prim.Native.Nat.{_*_, _<_, _≤_};
+ghost use lib.ListN.{length};
+ghost use Rattle.laws.specs.Tables.{refill};
+ghost use Rattle.mesh.specs.Corners.{vertexCount};
+ghost use Rattle.section.specs.Section.{under, rising, risingIn, ringEntry, Named, Linked};
+use mesh::internal::next_corner;
+use mesh::internal::wide;
+
+// Whether vertex v is passed.
+pub fn is_passed(coords: &[i32], h: i32, k: usize, v: usize) -> bool
+    requires { ⌜ v < vertexCount (now coords) ⌝ }
+    ensures { λ r. ⌜ r ≡ under (now (coords .entry)) h k v ⌝ }
+{
+    let i = 3 * v + 2;
+    let z = coords[i];
+    if z < h {
+        return true;
+    }
+    if h < z {
+        return false;
+    }
+    v < k
+}
+
+// Whether corner c rises.
+pub fn rises(coords: &[i32], corners: &[u32], h: i32, k: usize, c: usize) -> bool
+    requires { ⌜ Named (now coords) (now corners) ⌝ ∗ ⌜ c < length (now corners) ⌝ }
+    ensures { λ r. ⌜ r ≡ rising (under (now (coords .entry)) h k) (now (corners .entry)) c ⌝ }
+{
+    let n = next_corner(c);
+    let u = wide(corners[c]);
+    let v = wide(corners[n]);
+    if is_passed(coords, h, k, u) {
+        return !is_passed(coords, h, k, v);
+    }
+    false
+}
+
+// The rising corner of triangle t.
+fn rising_corner(coords: &[i32], corners: &[u32], h: i32, k: usize, t: usize) -> usize
+    requires { ⌜ Named (now coords) (now corners) ⌝ ∗ ⌜ 3 * t < length (now corners) ⌝ }
+    ensures { λ r. ⌜ r ≡ risingIn (under (now (coords .entry)) h k) (now (corners .entry)) t ⌝ }
+{
+    let c = 3 * t;
+    if rises(coords, corners, h, k, c) {
+        return c;
+    }
+    let d = c + 1;
+    if rises(coords, corners, h, k, d) {
+        return d;
+    }
+    c + 2
+}
+
+// The ring entry of corner c.
+pub fn entry_of(coords: &[i32], corners: &[u32], pairing: &[u32], h: i32, k: usize, c: usize) -> u32
+    requires { ⌜ Named (now coords) (now corners) ⌝ ∗ ⌜ Linked (now corners) (now pairing) ⌝ ∗ ⌜ c < length (now corners) ⌝ }
+    ensures { λ r. ⌜ r ≡ ringEntry (under (now (coords .entry)) h k) (now (corners .entry)) (now (pairing .entry)) c ⌝ }
+{
+    if rises(coords, corners, h, k, c) {
+        let d = wide(pairing[c]);
+        let s = rising_corner(coords, corners, h, k, d / 3);
+        return s as u32;
+    }
+    4294967295
+}
+
+// Writes the ring entry of every corner.
+pub fn link(coords: &[i32], corners: &[u32], pairing: &[u32], h: i32, k: usize, ring: &mut [u32])
+    requires { ⌜ Named (now coords) (now corners) ⌝ ∗ ⌜ Linked (now corners) (now pairing) ⌝ ∗ ⌜ length (now corners) ≤ length (now ring) ⌝ }
+    ensures { λ _. ⌜ now (ring .exit) ≡ refill (length (now (corners .entry))) (ringEntry (under (now (coords .entry)) h k) (now (corners .entry)) (now (pairing .entry))) (now (ring .entry)) ⌝ }
+{
+    let n = corners.len();
+    let mut c: usize = 0;
+    while c < n {
+        let e = entry_of(coords, corners, pairing, h, k, c);
+        ring[c] = e;
+        c += 1;
+    }
+}

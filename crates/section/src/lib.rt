@@ -1,0 +1,2 @@
+// The section of a mesh by a set of passed vertices.
+pub mod internal;

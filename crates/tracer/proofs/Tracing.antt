@@ -1,0 +1,246 @@
+-- The pass over the corners: what the tables hold when corner c is reached, and after the last.
+use Prim.Native.Nat.{ℕ, zero, suc, _+_, _-_, _≤_, _<_}
+use mathlib.Core.Path.{_≡_, refl, sym, ap, _∙_, subst}
+use mathlib.Core.Bool.{Bool, true, false, not, _&&_}
+use mathlib.Core.List.{List, [], _∷_, _++_, append-nil}
+use native.Mathlib.Omega.{arith}
+use native.Mathlib.Numerals.{add-one}
+use borrow.Author.Tests.{eq-eqb, ne-eqb, not-true}
+use lib.Dec.{eqb}
+use lib.ListN.{length, getD, set, drop, replicate, length-append, length-replicate}
+use lib.Seq.{sets}
+use Rattle.laws.specs.Booleans.{clash, is-true, is-false, and-parts, and-of, not-of}
+use Rattle.laws.specs.Tables.{overwrite}
+use Rattle.laws.specs.TableLaws.{length-snoc, overwrite-none, length-overwrite, overwrite-snoc, overwrite-more}
+use Rattle.section.specs.Section.{noCorner, Among}
+use Rattle.section.specs.Rings.{iterate, Ring}
+use Rattle.section.specs.Contours.{member, Traced, contours, stuck, namesOf as flat, traceTo, endsFrom, endsOf}
+use Rattle.section.specs.Links.{hasLink, linkOf, traceLinks}
+use Rattle.section.specs.OrbitLaws.{orbit, length-orbit, orbit-snoc}
+use Rattle.section.specs.LayerLaws.{names-snoc, Leads, starting, Begun, begun-start, begun-skip, crosses, ring, contour, fresh, begun-ring, ring-room, begun-few}
+use Rattle.tracer.specs.Traces.{found, zeroed, namesAfter, endsAfter}
+use Rattle.tracer.specs.Walks.{ringOf, strike, Walkable, Traceable}
+use Rattle.tracer.specs.declared.Found.{Found}
+use Rattle.tracer.specs.declared.Found.the-variants.{Contours, Stuck}
+use Rattle.tracer.proofs.Strikes.{length-strike, strike-join, strike-other, strike-same, strike-behind}
+use Rattle.tracer.proofs.Walking.{ring-is}
+
+-- ---- ends
+
+ends-snoc : (k : ℕ) (rs : List (List ℕ)) (r : List ℕ) → endsFrom k (rs ++ (r ∷ [])) ≡ endsFrom k rs ++ ((k + length (flat rs) + length r) ∷ [])
+unfolding endsFrom
+ends-snoc k [] r = let e : k + length r ≡ k + 0 + length r = omega arith in ap (λ (x : ℕ). x ∷ []) e
+ends-snoc k (q ∷ rs) r =
+    ap (λ (l : List ℕ). (k + length q) ∷ l)
+    (ends-snoc (k + length q) rs r
+    ∙ (let e : k + length q + length (flat rs) + length r ≡ k + length (q ++ flat rs) + length r = omega (arith, length-append q (flat rs)) in
+    ap (λ (x : ℕ). endsFrom (k + length q) rs ++ (x ∷ [])) e))
+
+length-ends : (k : ℕ) (rs : List (List ℕ)) → length (endsFrom k rs) ≡ length rs
+unfolding endsFrom
+length-ends k [] = refl
+length-ends k (r ∷ rs) = ap suc (length-ends (k + length r) rs)
+
+-- ---- two tables with the same links along a way
+
+orbit-same : (f g : ℕ → ℕ) (m c : ℕ) → ((i : ℕ) → i < m → f (iterate g i c) ≡ g (iterate g i c)) → (i : ℕ) → i ≤ m → iterate f i c ≡ iterate g i c
+unfolding iterate
+orbit-same f g m c h zero l = refl
+orbit-same f g m c h (suc i) l = ap f (orbit-same f g m c h i (omega arith)) ∙ h i (omega arith)
+
+orbit-equal : (f g : ℕ → ℕ) (m c : ℕ) → ((i : ℕ) → i ≤ m → iterate f i c ≡ iterate g i c) → orbit f m c ≡ orbit g m c
+orbit-equal f g zero c h = unfold orbit in refl
+orbit-equal f g (suc m) c h =
+    orbit-snoc f m c ∙ (λ k. orbit-equal f g m c (λ i l. h i (omega arith)) k ++ (h m (omega arith) k ∷ [])) ∙ sym (orbit-snoc g m c)
+
+-- ---- the pass
+
+pub record Tracing (n : ℕ) (links₀ names₀ ends₀ links names ends : List ℕ) (c k j : ℕ) : Type 0 where
+  pub given : Traceable n links₀ names₀ ends₀
+  pub rings : List (List ℕ)
+  pub begun : Begun (hasLink links₀) (linkOf links₀) n (given .leads) c rings
+  pub upto : c ≤ n
+  pub at-k : k ≡ length (flat rings)
+  pub at-j : j ≡ length rings
+  pub names-is : names ≡ overwrite (flat rings) names₀
+  pub ends-is : ends ≡ overwrite (endsOf rings) ends₀
+  pub links-is : links ≡ strike links₀ (flat rings)
+
+pub tracing-start : (n : ℕ) (links names ends : List ℕ) → Traceable n links names ends → Tracing n links names ends links names ends 0 0 0
+tracing-start n links names ends g =
+    record {
+      given = g;
+      rings = [];
+      begun = begun-start (hasLink links) (linkOf links) n (g .leads);
+      upto = omega arith;
+      at-k = refl;
+      at-j = refl;
+      names-is = sym (overwrite-none names);
+      ends-is = unfold endsFrom in (sym (overwrite-none ends));
+      links-is = refl;
+    }
+
+-- the same, by other names
+pub tracing-same : {n : ℕ} {links₀ names₀ ends₀ links names ends links₁ names₁ ends₁ : List ℕ} {c k j k₁ j₁ : ℕ}
+    → links₁ ≡ links → names₁ ≡ names → ends₁ ≡ ends → k₁ ≡ k → j₁ ≡ j → Tracing n links₀ names₀ ends₀ links names ends c k j → Tracing n links₀ names₀ ends₀ links₁ names₁ ends₁ c k₁ j₁
+tracing-same {n} {links₀} {names₀} {ends₀} {c = c} el en ee ek ej w = subst (λ (A : Type 0). A) (λ i. Tracing n links₀ names₀ ends₀ (sym el i) (sym en i) (sym ee i) c (sym ek i) (sym ej i)) w
+
+module _ (n : ℕ) (links₀ names₀ ends₀ links names ends : List ℕ) (c k j : ℕ) (w : Tracing n links₀ names₀ ends₀ links names ends c k j) where
+  abbrev rises : ℕ → Bool
+  rises = hasLink links₀
+
+  abbrev next : ℕ → ℕ
+  next = linkOf links₀
+
+  abbrev leads : Leads (hasLink links₀) (linkOf links₀) n
+  leads = w .given .leads
+
+  k-few : k ≤ n
+  k-few = omega (arith, w .at-k, begun-few rises next n leads c (w .rings) (w .begun))
+
+  pub names-length : length names ≡ length names₀
+  names-length = ap length (w .names-is) ∙ length-overwrite (flat (w .rings)) names₀ (omega (arith, k-few, w .at-k, w .given .names-room))
+
+  pub ends-length : length ends ≡ length ends₀
+  ends-length = ap length (w .ends-is) ∙ length-overwrite (endsOf (w .rings)) ends₀ (omega (arith, length-ends 0 (w .rings), w .begun .few, w .upto, w .given .ends-room))
+
+  pub links-length : length links ≡ length links₀
+  links-length = ap length (w .links-is) ∙ length-strike links₀ (flat (w .rings))
+
+  module _ (l : c < n) where
+    pub c-inside : c < length links
+    c-inside = omega (arith, links-length, w .given .links-room)
+
+    pub j-inside : j < length ends
+    j-inside = omega (arith, w .at-j, w .begun .few, ends-length, w .given .ends-room)
+
+    link-here : getD links c 0 ≡ getD (strike links₀ (flat (w .rings))) c 0
+    link-here = ap (λ (t : List ℕ). getD t c 0) (w .links-is)
+
+    -- no contour starts at c
+    no-start : getD links c 0 ≡ noCorner → starting rises next n leads (w .rings) c ≡ false
+    no-start e = by (member c (flat (w .rings))) refl
+      where
+        by : (b : Bool) → member c (flat (w .rings)) ≡ b → (hasLink links₀ c && not b) ≡ false
+        by true m = is-false _ (λ s. clash refl (sym (and-parts (hasLink links₀ c) false s .1)))
+        by false m =
+            let z : hasLink links₀ c ≡ false = unfold hasLink in (ap not (eq-eqb (getD links₀ c 0) noCorner (sym (strike-other (flat (w .rings)) links₀ c m) ∙ sym link-here ∙ e))) in
+            simp z
+
+    pub tracing-skip : getD links c 0 ≡ noCorner → Tracing n links₀ names₀ ends₀ links names ends (c + 1) k j
+    tracing-skip e =
+        record {
+          given = w .given;
+          rings = w .rings;
+          begun = subst (λ (i : ℕ). Begun rises next n leads i (w .rings)) (sym (add-one c)) (begun-skip rises next n leads c (w .rings) (w .begun) (no-start e));
+          upto = omega arith;
+          at-k = w .at-k;
+          at-j = w .at-j;
+          names-is = w .names-is;
+          ends-is = w .ends-is;
+          links-is = w .links-is;
+        }
+
+    -- a contour starts at c
+    module _ (e : getD links c 0 ≡ noCorner → ⊥) where
+      unused : member c (flat (w .rings)) ≡ false
+      unused = is-false _ (λ m. e (link-here ∙ strike-same (flat (w .rings)) links₀ c (omega (arith, w .given .links-room)) m))
+
+      here : Among n (hasLink links₀) c
+      here =
+          record {
+            below = l;
+            upward = unfold hasLink in (ap not (ne-eqb (getD links₀ c 0) noCorner (λ q. e (link-here ∙ strike-other (flat (w .rings)) links₀ c unused ∙ q))));
+          }
+
+      abbrev r : Ring (linkOf links₀) n c
+      r = ring rises next n leads c (w .rings) (w .begun) here unused
+
+      abbrev o : List ℕ
+      o = contour rises next n leads c (w .rings) (w .begun) here unused
+
+      free : (i : ℕ) → i < r .steps → member (iterate next i c) (flat (w .rings)) ≡ false
+      free = fresh rises next n leads c (w .rings) (w .begun) here unused
+
+      same-way : (i : ℕ) → i ≤ r .steps → iterate (linkOf links) i c ≡ iterate next i c
+      same-way =
+          orbit-same (linkOf links) next (r .steps) c
+          (λ i h. ap (λ (t : List ℕ). getD t (iterate next i c) 0) (w .links-is) ∙ strike-other (flat (w .rings)) links₀ (iterate next i c) (free i h))
+
+      room : k + r .steps ≤ n
+      room = omega (arith, w .at-k, ring-room rises next n leads c (w .rings) (w .begun) here unused)
+
+      inside : (i : ℕ) → i ≤ r .steps → iterate (linkOf links) i c < n
+      inside i h = omega (arith, same-way i h, crosses rises next n leads c here i .below)
+
+      pub walkable : Walkable links names c k
+      walkable =
+          record {
+            back = record {
+              steps = r .steps;
+              some-step = r .some-step;
+              few = omega (arith, r .few, links-length, w .given .links-room);
+              returns = same-way (r .steps) (omega arith) ∙ r .returns;
+              once = λ i m lo hi q. r .once i m lo hi (sym (same-way i (omega arith)) ∙ q ∙ same-way m (omega arith));
+            };
+            inside = λ i h. let z = inside i h in omega (arith, links-length, w .given .links-room);
+            small = λ i h. let z = inside i h in omega (arith, w .given .few);
+            room = omega (arith, room, names-length, w .given .names-room);
+          }
+
+      ring-same : ringOf links c ≡ o
+      unfolding walkable
+      ring-same = ring-is links c (walkable .back) ∙ orbit-equal (linkOf links) next (r .steps) c same-way
+
+      length-ring : length (ringOf links c) ≡ r .steps
+      length-ring = ap length ring-same ∙ length-orbit next (r .steps) c
+
+      pub end-few : k + length (ringOf links c) ≤ n
+      end-few = omega (arith, room, length-ring)
+
+      pub tracing-ring : (links₁ names₁ ends₁ : List ℕ) (k₁ : ℕ) → names₁ ≡ sets names k (ringOf links c) → links₁ ≡ strike links (ringOf links c) → k₁ ≡ k + length (ringOf links c)
+          → ends₁ ≡ set ends j k₁ → Tracing n links₀ names₀ ends₀ links₁ names₁ ends₁ (c + 1) k₁ (j + 1)
+      tracing-ring links₁ names₁ ends₁ k₁ en el ek ee =
+          record {
+            given = w .given;
+            rings = w .rings ++ (o ∷ []);
+            begun = subst (λ (i : ℕ). Begun rises next n leads i (w .rings ++ (o ∷ []))) (sym (add-one c)) (begun-ring rises next n leads c (w .rings) (w .begun) here unused);
+            upto = omega arith;
+            at-k = omega (arith, len, ap length all, length-append (flat (w .rings)) o);
+            at-j = omega (arith, w .at-j, length-snoc (w .rings) o);
+            names-is = en ∙ (λ i. sets (w .names-is i) k (ring-same i)) ∙ overwrite-more o (flat (w .rings)) names₀ k (w .at-k) (omega (arith, room, length-orbit next (r .steps) c, w .given .names-room)) ∙ ap (λ (a : List ℕ). overwrite a names₀) (sym all);
+            ends-is = ee ∙ (λ i. set (w .ends-is i) j (len i)) ∙ overwrite-snoc (endsOf (w .rings)) ends₀ (0 + length (flat (w .rings)) + length o) j (w .at-j ∙ sym (length-ends 0 (w .rings))) (omega (arith, w .at-j, w .begun .few, w .given .ends-room))
+                ∙ ap (λ (a : List ℕ). overwrite a ends₀) (sym (ends-snoc 0 (w .rings) o));
+            links-is = el ∙ (λ i. strike (w .links-is i) (ring-same i)) ∙ sym (strike-join links₀ (flat (w .rings)) o) ∙ ap (strike links₀) (sym all);
+          }
+        where
+          all : flat (w .rings ++ (o ∷ [])) ≡ flat (w .rings) ++ o
+          all = names-snoc (w .rings) o
+
+          len : k₁ ≡ 0 + length (flat (w .rings)) + length o
+          len = omega (arith, ek, ap length ring-same, w .at-k)
+
+  -- after the last corner
+  module _ (end : n ≤ c) where
+    trace-is : traceLinks n links₀ ≡ contours (w .rings)
+    unfolding traceLinks
+    trace-is = let e : c ≡ n = omega (arith, w .upto) in subst (λ (i : ℕ). traceTo rises next n i ≡ contours (w .rings)) e (w .begun .is)
+
+    pub found-is : Contours j k ≡ found (traceLinks n links₀)
+    unfolding found
+    found-is = (λ i. Contours (w .at-j i) (w .at-k i)) ∙ ap found (sym trace-is)
+
+    pub names-end : names ≡ namesAfter (traceLinks n links₀) n names₀
+    unfolding namesAfter
+    names-end = w .names-is ∙ ap (λ (t : Traced). namesAfter t n names₀) (sym trace-is)
+
+    pub ends-end : ends ≡ endsAfter (traceLinks n links₀) n ends₀
+    unfolding endsAfter
+    ends-end = w .ends-is ∙ ap (λ (t : Traced). endsAfter t n ends₀) (sym trace-is)
+
+    pub links-end : (t : List ℕ) → t ≡ overwrite (replicate n 0) links → t ≡ zeroed n links₀
+    unfolding overwrite
+    links-end t e =
+        let z : length {A = ℕ} (replicate n 0) ≡ n = length-replicate {A = ℕ} n 0 in
+        e ∙ ap (λ (s : List ℕ). replicate n 0 ++ s)
+        (ap (λ (i : ℕ). drop i links) z ∙ ap (drop n) (w .links-is) ∙ strike-behind (flat (w .rings)) links₀ n (λ x y. w .begun .only x y .below) ∙ ap (λ (i : ℕ). drop i links₀) (sym z))

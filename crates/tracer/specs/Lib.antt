@@ -1,0 +1,3 @@
+-- What tracing leaves in names and ends.
+pub mod Traces
+pub mod Walks

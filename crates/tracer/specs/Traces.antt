@@ -1,0 +1,26 @@
+-- What the contours of a section leave: the counts, and the tables of names and ends, by document 01's words on Cut.
+use Prim.Native.Nat.{ℕ}
+use mathlib.Core.List.{List}
+use lib.ListN.{length, replicate}
+use Rattle.laws.specs.Tables.{overwrite}
+use Rattle.section.specs.Contours.{Traced, contours, stuck, namesOf, endsOf}
+use Rattle.tracer.specs.declared.Found.{Found}
+use Rattle.tracer.specs.declared.Found.the-variants.{Contours, Stuck}
+
+-- the counts of contours and points, or the crossing of refusal 16
+unfoldable pub found : Traced → Found
+found (contours rs) = Contours (length rs) (length (namesOf rs))
+found (stuck p) = Stuck p
+
+-- the table with n entries zero
+abbrev pub zeroed : ℕ → List ℕ → List ℕ
+zeroed n table = overwrite (replicate n 0) table
+
+-- on success the used entries in front and unused entries as before; after 16 zero in one entry for each of n corners
+unfoldable pub namesAfter : Traced → ℕ → List ℕ → List ℕ
+namesAfter (contours rs) n table = overwrite (namesOf rs) table
+namesAfter (stuck p) n table = zeroed n table
+
+unfoldable pub endsAfter : Traced → ℕ → List ℕ → List ℕ
+endsAfter (contours rs) n table = overwrite (endsOf rs) table
+endsAfter (stuck p) n table = zeroed n table

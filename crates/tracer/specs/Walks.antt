@@ -1,0 +1,35 @@
+-- Internal: the walk along one ring of a table of links, and what it and the pass over all corners ask.
+use Prim.Native.Nat.{ℕ, _+_, _≤_, _<_}
+use mathlib.Core.List.{List, [], _∷_}
+use lib.ListN.{length, set}
+use Rattle.section.specs.Section.{noCorner}
+use Rattle.section.specs.Rings.{iterate, Ring}
+use Rattle.section.specs.Contours.{Way, closed, met, walk}
+use Rattle.section.specs.Links.{hasLink, linkOf}
+use Rattle.section.specs.LayerLaws.{Leads}
+
+abbrev pub placesOf : Way → List ℕ
+placesOf (closed cs) = cs
+placesOf (met p) = []
+
+-- the ring from `start`: a walk by itself
+unfoldable pub ringOf : List ℕ → ℕ → List ℕ
+ringOf links start = placesOf (walk (linkOf links) start (length links) start [])
+
+-- the table without the links of these corners
+abbrev pub strike : List ℕ → List ℕ → List ℕ
+strike links [] = links
+strike links (c ∷ cs) = strike (set links c noCorner) cs
+
+pub record Walkable (links names : List ℕ) (start at : ℕ) : Type 0 where
+  pub back : Ring (linkOf links) (length links) start
+  pub inside : (i : ℕ) → i ≤ back .steps → iterate (linkOf links) i start < length links
+  pub small : (i : ℕ) → i ≤ back .steps → iterate (linkOf links) i start < 196608
+  pub room : at + back .steps ≤ length names
+
+pub record Traceable (n : ℕ) (links names ends : List ℕ) : Type 0 where
+  pub leads : Leads (hasLink links) (linkOf links) n
+  pub few : n ≤ 196608
+  pub links-room : n ≤ length links
+  pub names-room : n ≤ length names
+  pub ends-room : n ≤ length ends

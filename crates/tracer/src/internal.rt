@@ -1,0 +1,71 @@
+// Internal: tracing, whose `requires` say that the links lead round rings.
+ghost use mathlib.Core.Path.{_≡_};
+ghost use Prim.Native.Nat.{_+_};
+ghost use lib.ListN.{length};
+ghost use lib.Seq.{sets};
+ghost use Rattle.section.specs.Links.{traceLinks};
+ghost use Rattle.tracer.specs.Traces.{found, zeroed, namesAfter, endsAfter};
+ghost use Rattle.tracer.specs.Walks.{ringOf, strike, Walkable, Traceable};
+use crate::Found;
+use crate::Walked;
+use mesh::internal::fill;
+use mesh::internal::wide;
+
+// Writes the ring of `start` into names, from place `at` on, and takes its links out.
+fn walk(links: &mut [u32], names: &mut [u32], start: usize, at: usize) -> Walked
+    requires { ⌜ Walkable (now links) (now names) start at ⌝ }
+    ensures { λ r. ⌜ r ≡ Walked.Closed (at + length (ringOf (now (links .entry)) start)) ⌝ }
+    ensures { λ _. ⌜ now (names .exit) ≡ sets (now (names .entry)) at (ringOf (now (links .entry)) start) ⌝ }
+    ensures { λ _. ⌜ now (links .exit) ≡ strike (now (links .entry)) (ringOf (now (links .entry)) start) ⌝ }
+{
+    let mut c = start;
+    let mut k = at;
+    loop {
+        let d = wide(links[c]);
+        let e = c as u32;
+        names[k] = e;
+        links[c] = 4294967295;
+        k += 1;
+        if d == start {
+            return Walked::Closed(k);
+        }
+        if links[d] == 4294967295 {
+            return Walked::Met(d);
+        }
+        c = d;
+    }
+}
+
+// Takes the contours out of the first n links, by first corner, and leaves zeros there.
+pub fn trace(n: usize, links: &mut [u32], names: &mut [u32], ends: &mut [u32]) -> Found
+    requires { ⌜ Traceable n (now links) (now names) (now ends) ⌝ }
+    ensures { λ r. ⌜ r ≡ found (traceLinks n (now (links .entry))) ⌝ }
+    ensures { λ _. ⌜ now (names .exit) ≡ namesAfter (traceLinks n (now (links .entry))) n (now (names .entry)) ⌝ }
+    ensures { λ _. ⌜ now (ends .exit) ≡ endsAfter (traceLinks n (now (links .entry))) n (now (ends .entry)) ⌝ }
+    ensures { λ _. ⌜ now (links .exit) ≡ zeroed n (now (links .entry)) ⌝ }
+{
+    let mut c: usize = 0;
+    let mut k: usize = 0;
+    let mut j: usize = 0;
+    while c < n {
+        if links[c] != 4294967295 {
+            let w = walk(links, names, c, k);
+            match w {
+                Walked::Closed(e) => {
+                    ends[j] = e as u32;
+                    j += 1;
+                    k = e;
+                }
+                Walked::Met(p) => {
+                    fill(names, n, 0);
+                    fill(ends, n, 0);
+                    fill(links, n, 0);
+                    return Found::Stuck(p);
+                }
+            }
+        }
+        c += 1;
+    }
+    fill(links, n, 0);
+    Found::Contours(j, k)
+}
