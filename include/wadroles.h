@@ -16,7 +16,8 @@
  * - It returns 0, or the number of a refusal (enum wadroles_refusal).
  * - `out` has 4 entries. A refusal writes its place, the least that fits, into
  *   out[0]. Success writes the function's values, if it has any, into the first
- *   entries. The other entries are left alone.
+ *   entries, a signed one as two's complement. The other entries are left
+ *   alone.
  * - A table is a pointer and, right after it, a length in elements (not bytes).
  *   The pointer of an empty table may be null.
  * - It keeps no state between calls. Several threads may call at the same time
@@ -44,6 +45,9 @@ extern "C" {
 
 /* The farthest a coordinate may be from zero, on either side. */
 #define WADROLES_MAX_COORDINATE 1048576
+
+/* The most points that wadroles_area takes. */
+#define WADROLES_MAX_POINTS 98304
 
 /* The refusals, by number. */
 enum wadroles_refusal {
@@ -114,6 +118,104 @@ uint32_t wadroles_check(const int32_t *coords, size_t coords_len,
                         uint32_t *pairing, size_t pairing_len,
                         uint32_t *order, size_t order_len,
                         uint64_t out[4]);
+
+/*
+ * Cuts a mesh at the height h, any number of 32 bits. The pairing may come from
+ * anyone (wadroles_check makes one); it is tested, and its entries beyond
+ * corners_len are ignored.
+ *
+ * The vertices with z < h are passed. A crossing is a corner whose edge leads
+ * up, from a passed vertex to one that is not. Its successor is the crossing
+ * among the corners of the triangle of its paired corner. Following successors
+ * gives the contours: closed, and seen from above with the solid on the left.
+ * Contours are linked by the pairing and never by equal points, so sheets that
+ * only touch stay apart.
+ *
+ * Writes the layer into the first entries of three lent tables:
+ *
+ *   names   one entry per point: the crossing
+ *   points  two entries per point: x and y of the place where the crossing's
+ *           edge meets the height, each rounded to the nearest whole number,
+ *           halves to the larger
+ *   ends    one entry per contour: the number of points up to its end
+ *
+ * A contour starts at its least corner, and contours stand by first corner.
+ * Each has at least two points; equal neighbouring points are kept. Later
+ * entries of the three tables stay. The fourth, marks, is a work table: it is
+ * zero in its first corners_len entries, and later ones stay.
+ *
+ * On success out[0] is the number of contours and out[1] the number of points.
+ *
+ * The tests, in this sequence; the first that fails is the refusal:
+ *
+ *   WADROLES_SIZE      coords_len or corners_len is not a multiple of three, or
+ *                      there are more vertices or triangles than allowed;
+ *                      place 0
+ *   WADROLES_ROOM      names_len, ends_len or marks_len is less than
+ *                      corners_len, or points_len less than twice corners_len;
+ *                      place 0
+ *   WADROLES_RANGE     a coordinate is out of range; place its position in
+ *                      coords
+ *   WADROLES_VERTEX    a corner names no vertex; place the corner
+ *   WADROLES_TRIANGLE  a triangle names a vertex twice; place its first corner
+ *   WADROLES_PAIRING   a corner's entry in pairing is missing (the table is too
+ *                      short), is no corner, is a corner without the reverse
+ *                      edge, or is not paired back; place the corner
+ *   WADROLES_USED      a walk along successors meets a crossing already used
+ *                      that is not its start; place that crossing
+ *
+ * After WADROLES_USED the first corners_len entries of names, ends and marks
+ * and the first 2 corners_len entries of points are zero, and later ones stay.
+ * After the other refusals all four tables are as before.
+ */
+uint32_t wadroles_cut(const int32_t *coords, size_t coords_len,
+                      const uint32_t *corners, size_t corners_len,
+                      const uint32_t *pairing, size_t pairing_len,
+                      int32_t h,
+                      uint32_t *names, size_t names_len,
+                      int32_t *points, size_t points_len,
+                      uint32_t *ends, size_t ends_len,
+                      uint32_t *marks, size_t marks_len,
+                      uint64_t out[4]);
+
+/*
+ * Finds contour j (from 0) among the points of a layer: the part of the points
+ * from the previous end (0 for the first contour) to its own. Ends are counts
+ * of points, as wadroles_cut writes them; give the number of contours as
+ * ends_len, so that old entries are not taken for ends.
+ *
+ * The part is empty where j has no end (j is not below ends_len), where its end
+ * is less than the previous one, and where one of the two passes the table
+ * (twice the end is more than points_len).
+ *
+ * It tests nothing else, refuses nothing and returns 0. No table is written.
+ *
+ * out[0] is the position in points of the part's first element, 0 where the
+ * part is empty, and out[1] the part's length in elements, twice its points.
+ */
+uint32_t wadroles_contour(const int32_t *points, size_t points_len,
+                          const uint32_t *ends, size_t ends_len,
+                          size_t j,
+                          uint64_t out[4]);
+
+/*
+ * Finds the doubled signed area of a run of points, such as a contour: the sum
+ * of x y' - x' y over each point and the next, the last being followed by the
+ * first. It is above zero for a run that goes round counterclockwise, and 0 for
+ * fewer than three points.
+ *
+ * On success out[0] is the doubled area, as two's complement. No table is
+ * written.
+ *
+ * The tests, in this sequence; the first that fails is the refusal:
+ *
+ *   WADROLES_SIZE      points_len is odd, or there are more than
+ *                      WADROLES_MAX_POINTS points; place 0
+ *   WADROLES_RANGE     a number is out of the range of coordinates; place its
+ *                      position in points
+ */
+uint32_t wadroles_area(const int32_t *points, size_t points_len,
+                       uint64_t out[4]);
 
 #ifdef __cplusplus
 }

@@ -143,12 +143,12 @@ contour-run points ends j few ranged =
 -- ---- Area
 
 -- what an answer says of the verdict
-turned-refused : (v : Verdict) (a : ℤ) (r : Refusal) → answer v a ≡ Turned r → v ≡ Refused r
+pub turned-refused : (v : Verdict) (a : ℤ) (r : Refusal) → answer v a ≡ Turned r → v ≡ Refused r
 unfolding answer
 turned-refused Fine a r e = absurd (let z : _≡_ {A = ℕ} 0 1 = cc in omega arith)
 turned-refused (Refused q) a r e = cc
 
-area-fine : (v : Verdict) (a b : ℤ) → answer v a ≡ Area b → (v ≡ Fine) × (a ≡ b)
+pub area-fine : (v : Verdict) (a b : ℤ) → answer v a ≡ Area b → (v ≡ Fine) × (a ≡ b)
 unfolding answer
 area-fine Fine a b e = (refl, cc)
 area-fine (Refused q) a b e = absurd (let z : _≡_ {A = ℕ} 0 1 = cc in omega arith)

@@ -19,18 +19,17 @@ use Rattle.mesh.specs.declared.Refusal.{Refusal}
 use Rattle.mesh.specs.declared.Verdict.{Verdict}
 use Rattle.mesh.specs.declared.Verdict.the-variants.{Fine, Refused}
 use Rattle.section.specs.Section.{below, under, rising, ringEntry, Among, Right}
-use Rattle.section.specs.SectionLaws.{below-under, rising-parts}
+use Rattle.section.specs.SectionLaws.{below-under}
 use Rattle.section.specs.Contours.{Traced, trace}
 use Rattle.section.specs.LayerLaws.{trace-layer}
 use Rattle.section.specs.Links.{hasLink, linkOf, traceLinks}
 use Rattle.section.specs.LinkLaws.{table-trace, table-leads, link-rises}
 use Rattle.section.specs.RightLaws.{right-of}
-use Rattle.points.specs.Climbs.{Climbs}
-use Rattle.points.specs.PointLaws.{climbs-by}
 use Rattle.cutter.specs.declared.Sliced.{Sliced}
 use Rattle.cutter.specs.declared.Sliced.the-variants.{Refused as Turned}
 use Rattle.cutter.specs.Cut.{roomFor, tests, used, section, contoursOf, refusals, answer, cleared, after, Leaves, Cuts}
 use Rattle.cutter.specs.Outlines.{Long, Outlined, Traces}
+use Rattle.cutter.specs.SolidLaws.{crossing-climbs}
 use Rattle.cutter.proofs.Rooms.{room-long}
 use Rattle.cutter.proofs.Outlining.{used-fine}
 
@@ -62,11 +61,9 @@ module _ (coords : List ℤ) (corners pairing : List ℕ) (h : ℤ) (right : Rig
       record {
         few = right .named .whole .few;
         leads = table-leads (below coords h) corners pairing (right .linked) links entry-at;
-        climbs = λ c x. climb c (x .below) (rising-parts (below coords h) corners c (link-rises (below coords h) corners pairing (right .linked) links entry-at c (x .below) ∙ x .upward));
+        climbs = λ c x. crossing-climbs coords corners h pairing right c
+            (record { below = x .below; upward = link-rises (below coords h) corners pairing (right .linked) links entry-at c (x .below) ∙ x .upward });
       }
-    where
-      climb : (c : ℕ) → c < length corners → (below coords h (startOf corners c) ≡ true) × (below coords h (endOf corners c) ≡ false) → Climbs coords corners h c
-      climb c l p = climbs-by coords corners (right .named .whole) (right .inside) (right .named .vertices) h c l (unfold below in (p .0)) (unfold below in (p .1))
 
   pub section-is : traceLinks (length corners) links ≡ section coords corners pairing h
   section-is = sym (table-trace (below coords h) corners pairing (right .linked) links entry-at)

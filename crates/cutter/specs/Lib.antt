@@ -1,3 +1,7 @@
 -- Cut.
 pub mod Cut
 pub mod Outlines
+pub mod Solid
+pub mod SolidLaws
+pub mod CutLaws
+pub mod Worked

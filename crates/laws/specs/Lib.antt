@@ -11,4 +11,5 @@ pub mod Ring
 pub mod Linear
 pub mod Floor
 pub mod Machine
+pub mod SignLaws
 pub mod Examples

@@ -26,6 +26,27 @@ pub fn closed_mesh(random: &mut Random) -> Mesh {
     mesh
 }
 
+/// A closed mesh of as many vertices and triangles as the limits allow, or somewhat fewer, with
+/// names and triangles shuffled half of the times.
+pub fn large_mesh(random: &mut Random) -> Mesh {
+    let mut mesh = match random.below(6) {
+        0 => torus(128, 256, 700_000, 300_000),
+        1 => torus(127, 258, 700_000, 300_000),
+        2 => torus(3, 10_922, 700_000, 300_000),
+        3 => bipyramid(32_766, MAX_COORDINATE, MAX_COORDINATE),
+        4 => bipyramid(32_765, MAX_COORDINATE, 0),
+        _ => {
+            let mut two = ball(6, 500_000);
+            two.join(&torus(127, 128, 700_000, 300_000));
+            two
+        }
+    };
+    if random.one_in(2) {
+        mesh.shuffle(random);
+    }
+    mesh
+}
+
 fn random_shell(random: &mut Random) -> Mesh {
     let size = random.within(1..=1000);
     let mut shell = match random.below(7) {

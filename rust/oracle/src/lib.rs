@@ -5,8 +5,17 @@
 
 #![forbid(unsafe_code)]
 
+mod area;
 mod check;
+mod contour;
+mod cut;
+mod mesh;
 mod refusal;
+mod section;
 
+pub use area::area;
 pub use check::check;
+pub use contour::contour;
+pub use cut::{cut, Layer, Tables};
 pub use refusal::Refusal;
+pub use section::section_area;

@@ -8,6 +8,10 @@
 //! Corner `3 * t + k` (`k` = 0, 1, 2) stands for the directed edge from its vertex to that of the
 //! next corner of triangle `t`, the last leading back to the first.
 //!
+//! [`check()`] tests a mesh and finds its pairing, which the cutting operations ask for. [`cut()`]
+//! gives the layer at a height, [`contour()`] the points of one of its contours, and [`area()`] their
+//! doubled area.
+//!
 //! The operations work on tables that the caller lends them. Each answers with its values or with
 //! a [`Refusal`]. They keep no state between calls, so several threads may call them at once.
 //!
@@ -20,11 +24,17 @@
 #![warn(unsafe_op_in_unsafe_fn)]
 
 mod answer;
+mod area;
 mod check;
+mod contour;
+mod cut;
 pub mod raw;
 mod refusal;
 
+pub use area::area;
 pub use check::check;
+pub use contour::contour;
+pub use cut::{cut, Layer, LayerTables};
 pub use refusal::Refusal;
 
 /// The most vertices a mesh may have.
@@ -35,3 +45,6 @@ pub const MAX_TRIANGLES: usize = 65_536;
 
 /// The farthest a coordinate may be from zero, on either side.
 pub const MAX_COORDINATE: i32 = 1_048_576;
+
+/// The most points that [`area()`] takes.
+pub const MAX_POINTS: usize = 98_304;

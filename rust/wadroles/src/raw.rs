@@ -2,14 +2,19 @@
 //!
 //! Each returns 0 or the number of a refusal, whose place it then writes into `out[0]`. The safe
 //! functions of this crate call these; prefer them.
+//!
+//! # Safety
+//!
+//! All of them ask the same of their caller. Each table must have the length given after it, in
+//! elements, and be aligned for them; an empty one may be null. No written table may overlap
+//! another one. `out` has 4 entries.
 
 extern "C" {
     /// Tests a mesh and writes its pairing and order, as [`crate::check()`] does.
     ///
     /// # Safety
     ///
-    /// Each table must have the length given after it, in elements, and be aligned for them; an
-    /// empty one may be null. No written table may overlap another one. `out` has 4 entries.
+    /// As [above](self#safety).
     pub fn wadroles_check(
         coords: *const i32,
         coords_len: usize,
@@ -21,4 +26,52 @@ extern "C" {
         order_len: usize,
         out: *mut u64,
     ) -> u32;
+
+    /// Cuts a mesh at a height, as [`crate::cut()`] does. Success writes the counts of contours and
+    /// of points.
+    ///
+    /// # Safety
+    ///
+    /// As [above](self#safety).
+    pub fn wadroles_cut(
+        coords: *const i32,
+        coords_len: usize,
+        corners: *const u32,
+        corners_len: usize,
+        pairing: *const u32,
+        pairing_len: usize,
+        h: i32,
+        names: *mut u32,
+        names_len: usize,
+        points: *mut i32,
+        points_len: usize,
+        ends: *mut u32,
+        ends_len: usize,
+        marks: *mut u32,
+        marks_len: usize,
+        out: *mut u64,
+    ) -> u32;
+
+    /// Finds a contour among the points, as [`crate::contour()`] does. It writes the position of
+    /// the part's first element (0 where it is empty) and its length in elements.
+    ///
+    /// # Safety
+    ///
+    /// As [above](self#safety).
+    pub fn wadroles_contour(
+        points: *const i32,
+        points_len: usize,
+        ends: *const u32,
+        ends_len: usize,
+        j: usize,
+        out: *mut u64,
+    ) -> u32;
+
+    /// Finds the doubled area of a run of points, as [`crate::area()`] does. Success writes it as
+    /// two's complement.
+    ///
+    /// # Safety
+    ///
+    /// As [above](self#safety).
+    pub fn wadroles_area(points: *const i32, points_len: usize, out: *mut u64) -> u32;
 }

@@ -1,5 +1,5 @@
 -- `wadroles_check` meets its contract.
-use Rattle.wadroles.proofs.Answers.{c-accepted, c-refused}
+use Rattle.wadroles.proofs.Answers.{check-accepted, check-refused}
 use borrow.Author.Needs.{needs}
 use Rattle.wadroles.proofs.wadroles_check.Statement.{statement}
 use Rattle.wadroles.proofs.wadroles_check.Tie as tie
@@ -23,7 +23,7 @@ same-length-2 : tie.Need-same-length-2
 same-length-2 c = search needs
 
 returns : tie.Need-returns
-returns c = c-accepted _ (c .before .before .before .before .before .before .check .ensures) (c .enum-told .given .1)
+returns c = check-accepted _ (c .before .before .before .before .before .before .check .ensures) (c .enum-told .given .1)
 
 same-length-3 : tie.Need-same-length-3
 same-length-3 c = search needs
@@ -32,7 +32,7 @@ same-length-4 : tie.Need-same-length-4
 same-length-4 c = search needs
 
 returns-2 : tie.Need-returns-2
-returns-2 c = c-refused _ (c .before .before .before .before .before .before .before .before .before .check .ensures) (c .before .before .before .a .given .1) (c .refuse .ensures .0) (c .refuse .ensures .1)
+returns-2 c = check-refused _ (c .before .before .before .before .before .before .before .before .before .check .ensures) (c .before .before .before .a .given .1) (c .refuse .ensures .0) (c .refuse .ensures .1)
 
 pub wadroles-check-spec : {M : Type 1} → statement M
 wadroles-check-spec =

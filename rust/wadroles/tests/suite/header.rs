@@ -1,6 +1,7 @@
-use wadroles::{Refusal, MAX_COORDINATE, MAX_TRIANGLES, MAX_VERTICES};
+use wadroles::{Refusal, MAX_COORDINATE, MAX_POINTS, MAX_TRIANGLES, MAX_VERTICES};
 
 const HEADER: &str = include_str!("../../../../include/wadroles.h");
+const RAW: &str = include_str!("../../src/raw.rs");
 
 #[test]
 fn the_header_numbers_the_refusals_alike() {
@@ -33,7 +34,65 @@ fn the_header_gives_the_same_limits() {
         format!("#define WADROLES_MAX_VERTICES {MAX_VERTICES}\n"),
         format!("#define WADROLES_MAX_TRIANGLES {MAX_TRIANGLES}\n"),
         format!("#define WADROLES_MAX_COORDINATE {MAX_COORDINATE}\n"),
+        format!("#define WADROLES_MAX_POINTS {MAX_POINTS}\n"),
     ] {
         assert!(HEADER.contains(&line), "no {line:?} in the header");
+    }
+}
+
+#[test]
+fn the_header_declares_the_same_functions() {
+    let in_header: Vec<_> = functions(HEADER, "\nuint32_t ", ");")
+        .map(|(name, parameters)| (name, parameters.map(|c| in_rust(&c)).collect()))
+        .collect();
+    let in_raw: Vec<(String, Vec<String>)> = functions(RAW, " pub fn ", ") -> u32;")
+        .map(|(name, parameters)| (name, parameters.collect()))
+        .collect();
+    assert_eq!(in_header, in_raw);
+    let names: Vec<_> = in_raw.iter().map(|(name, _)| name.as_str()).collect();
+    assert_eq!(
+        names,
+        [
+            "wadroles_check",
+            "wadroles_cut",
+            "wadroles_contour",
+            "wadroles_area"
+        ]
+    );
+}
+
+/// The functions that a text declares between `before` and `after`, each with its parameters.
+fn functions<'a>(
+    text: &'a str,
+    before: &'a str,
+    after: &'a str,
+) -> impl Iterator<Item = (String, impl Iterator<Item = String> + 'a)> {
+    text.split(before).skip(1).map(move |declaration| {
+        let (declaration, _) = declaration.split_once(after).expect("it ends");
+        let (name, parameters) = declaration.split_once('(').expect("it is a function");
+        let parameters = parameters.split(',').map(|p| p.trim().to_owned());
+        (name.to_owned(), parameters.filter(|p| !p.is_empty()))
+    })
+}
+
+/// A parameter of a C function, as Rust writes it.
+fn in_rust(parameter: &str) -> String {
+    let (declared, name) = parameter.rsplit_once(' ').expect("a type and a name");
+    let (constant, declared) = match declared.strip_prefix("const ") {
+        Some(declared) => (true, declared),
+        None => (false, declared),
+    };
+    let number = match declared {
+        "int32_t" => "i32",
+        "uint32_t" => "u32",
+        "uint64_t" => "u64",
+        "size_t" => "usize",
+        _ => panic!("no type of the header: {parameter:?}"),
+    };
+    let pointer = name.strip_prefix('*').or(name.strip_suffix("[4]"));
+    match (pointer, constant) {
+        (Some(name), true) => format!("{name}: *const {number}"),
+        (Some(name), false) => format!("{name}: *mut {number}"),
+        (None, _) => format!("{name}: {number}"),
     }
 }

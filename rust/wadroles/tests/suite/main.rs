@@ -4,7 +4,12 @@
 //! and round. The environment variable `WADROLES_SEED` gives another seed, and `WADROLES_ROUNDS`
 //! another number of rounds.
 
+mod area;
 mod check;
+mod contour;
+mod cut;
 mod header;
+mod lent;
+mod pointers;
 mod runs;
 mod tally;

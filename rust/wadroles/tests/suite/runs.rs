@@ -1,6 +1,8 @@
+use meshes::Random;
 use std::env::{self, VarError};
 use std::fmt::Display;
 use std::io::{self, Write};
+use std::thread;
 
 const DEFAULT_SEED: u64 = 20_250_101;
 const DEFAULT_ROUNDS: u64 = 250_000;
@@ -26,6 +28,34 @@ impl Runs {
         Runs {
             rounds: self.rounds.div_ceil(n),
             ..self
+        }
+    }
+}
+
+/// Runs a test with the random numbers of each round, one in `n` of those asked for. The test says
+/// whether its round met what the test is about; this gives the share of the rounds that did.
+pub fn rounds(name: &str, n: u64, test: impl Fn(&mut Random) -> bool) -> f64 {
+    let Runs { seed, rounds } = Runs::from_environment().one_in(n);
+    report(format!("{name}: seed {seed}, {rounds} rounds"));
+    let met = (0..rounds).filter(|&round| {
+        let _name_of_a_failure = Round { name, seed, round };
+        test(&mut Random::of_round(seed, round))
+    });
+    met.count() as f64 / rounds as f64
+}
+
+/// Reports seed and round if dropped by a panic.
+struct Round<'a> {
+    name: &'a str,
+    seed: u64,
+    round: u64,
+}
+
+impl Drop for Round<'_> {
+    fn drop(&mut self) {
+        if thread::panicking() {
+            let Round { name, seed, round } = self;
+            report(format!("{name} failed: seed {seed}, round {round}"));
         }
     }
 }

@@ -3,7 +3,8 @@ use mathlib.Core.Path.{ap}
 use native.Mathlib.Omega.{arith}
 use lib.IntN.{pos, natAbs}
 use Rattle.laws.specs.Machine.{fit, lit, lt-true, lt-false}
-use Rattle.formats.proofs.Signs.{Below, below, below-fits, below-is, Above, above, plain-ok}
+use Rattle.laws.specs.SignLaws.{Below, below, below-fits, below-is, Above, above, plain-ok}
+use Rattle.formats.proofs.Signs.{sent-below, sent-above}
 use Rattle.formats.proofs.numbers.unsigned_of.Statement.{statement}
 use Rattle.formats.proofs.numbers.unsigned_of.Tie as tie
 
@@ -26,7 +27,7 @@ add-result : tie.Need-add-result
 add-result c = omega (arith, neg c .small, ap natAbs (below-is (neg c)))
 
 returns : tie.Need-returns
-returns c = omega (arith, ap natAbs (below-is (neg c)), neg c .sent)
+returns c = omega (arith, ap natAbs (below-is (neg c)), sent-below (neg c))
 
 cast-result-2 : tie.Need-cast-result-2
 cast-result-2 c = plain-ok (not-neg c .is) (not-neg c .small)
@@ -35,7 +36,7 @@ mul-result-2 : tie.Need-mul-result-2
 mul-result-2 c = omega (arith, not-neg c .small, ap natAbs (not-neg c .is))
 
 returns-2 : tie.Need-returns-2
-returns-2 c = omega (arith, ap natAbs (not-neg c .is), not-neg c .sent)
+returns-2 c = omega (arith, ap natAbs (not-neg c .is), sent-above (not-neg c))
 
 pub unsigned-of-spec : {M : Type 1} → statement M
 unsigned-of-spec =

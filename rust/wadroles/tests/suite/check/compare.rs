@@ -1,5 +1,6 @@
 //! Runs check on a case and compares everything it leaves with what the oracle leaves.
 
+use crate::lent::Lent;
 use meshes::{Mesh, Random};
 
 /// Success, or the number and the place of a refusal.
@@ -16,46 +17,12 @@ pub fn oracle(mesh: &Mesh, pairing: &mut [u32], order: &mut [u32]) -> Answer {
     oracle::check(&mesh.coords, &mesh.corners, pairing, order).map_err(|r| (r.number, r.place))
 }
 
-/// A table lent from the middle of a longer one. All of it is filled with junk, so that a stray
-/// write shows even past the ends of the lent part.
-#[derive(Clone, Debug, PartialEq, Eq)]
-pub struct Lent {
-    entries: Vec<u32>,
-}
-
-const MARGIN: usize = 3;
-
-impl Lent {
-    fn new(length: usize, random: &mut Random) -> Self {
-        let entries = (0..length + 2 * MARGIN).map(|_| random.word() as u32);
-        Lent {
-            entries: entries.collect(),
-        }
-    }
-
-    pub fn table(&mut self) -> &mut [u32] {
-        let end = self.entries.len() - MARGIN;
-        &mut self.entries[MARGIN..end]
-    }
-
-    /// The first entry that is not as expected.
-    fn difference(&self, expected: &Lent) -> Option<String> {
-        let mut entries = self.entries.iter().zip(&expected.entries);
-        let at = entries.position(|(entry, expected)| entry != expected)?;
-        let (position, length) = (at as i64 - MARGIN as i64, self.entries.len() - 2 * MARGIN);
-        Some(format!(
-            "entry {position} of {length} is {}, not {}",
-            self.entries[at], expected.entries[at]
-        ))
-    }
-}
-
 /// An input of check, or what check left of it.
 #[derive(Clone)]
 pub struct Case {
     pub mesh: Mesh,
-    pub pairing: Lent,
-    pub order: Lent,
+    pub pairing: Lent<u32>,
+    pub order: Lent<u32>,
 }
 
 impl Case {
@@ -78,24 +45,14 @@ impl Case {
     /// With tables that are long enough, most times.
     pub fn random(mesh: Mesh, random: &mut Random) -> Self {
         Case {
-            pairing: Lent::new(random_length(mesh.corners.len(), random), random),
-            order: Lent::new(random_length(mesh.vertex_count(), random), random),
+            pairing: Lent::random(mesh.corners.len(), random),
+            order: Lent::random(mesh.vertex_count(), random),
             mesh,
         }
     }
 
     pub fn run(&mut self, check: Check) -> Answer {
         check(&self.mesh, self.pairing.table(), self.order.table())
-    }
-}
-
-fn random_length(needed: usize, random: &mut Random) -> usize {
-    match random.below(32) {
-        0 => needed.saturating_sub(1),
-        1 => random.below(needed + 1),
-        2..16 => needed,
-        16..24 => needed + 1,
-        _ => needed + random.below(20),
     }
 }
 

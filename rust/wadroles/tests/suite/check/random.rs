@@ -3,8 +3,7 @@
 use super::compare::{compare, library, number, Case, Check};
 use crate::runs::{report, Runs};
 use crate::tally::Tally;
-use meshes::shapes::{ball, bipyramid, torus};
-use meshes::{closed_mesh, Damage, Mesh, Random, MAX_COORDINATE};
+use meshes::{closed_mesh, large_mesh, Damage, Mesh, Random};
 use std::thread;
 
 /// Compares `check` with the oracle on a random case per round, until they differ.
@@ -73,23 +72,9 @@ fn few_vertices(random: &mut Random) -> Mesh {
     mesh
 }
 
-/// A closed mesh of as many vertices and triangles as the limits allow, or somewhat fewer.
+/// A closed mesh near the limits that is left as it is, or damaged once or twice.
 fn near_the_limits(random: &mut Random) -> Mesh {
-    let mut mesh = match random.below(6) {
-        0 => torus(128, 256, 700_000, 300_000),
-        1 => torus(127, 258, 700_000, 300_000),
-        2 => torus(3, 10_922, 700_000, 300_000),
-        3 => bipyramid(32_766, MAX_COORDINATE, MAX_COORDINATE),
-        4 => bipyramid(32_765, MAX_COORDINATE, 0),
-        _ => {
-            let mut two = ball(6, 500_000);
-            two.join(&torus(127, 128, 700_000, 300_000));
-            two
-        }
-    };
-    if random.one_in(2) {
-        mesh.shuffle(random);
-    }
+    let mut mesh = large_mesh(random);
     damage_perhaps(&mut mesh, random);
     mesh
 }

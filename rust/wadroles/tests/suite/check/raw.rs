@@ -1,28 +1,9 @@
 //! The C function itself: the words of output, and null for empty tables.
 
+use crate::pointers::{pointer, pointer_mut, written, UNTOUCHED};
 use meshes::shapes::tetrahedron;
 use meshes::Mesh;
-use std::ptr::{null, null_mut};
 use wadroles::raw::wadroles_check;
-
-const UNTOUCHED: [u64; 4] = [1 << 60, 2 << 60, 3 << 60, 4 << 60];
-
-/// A pointer to the elements, or null if there are none.
-fn pointer<T>(table: &[T]) -> *const T {
-    if table.is_empty() {
-        null()
-    } else {
-        table.as_ptr()
-    }
-}
-
-fn pointer_mut<T>(table: &mut [T]) -> *mut T {
-    if table.is_empty() {
-        null_mut()
-    } else {
-        table.as_mut_ptr()
-    }
-}
 
 /// What the C function returns and leaves in the words of output, for tables of these lengths.
 fn call(mesh: &Mesh, pairing_length: usize, order_length: usize) -> (u32, [u64; 4]) {
@@ -61,8 +42,7 @@ fn success_leaves_all_words_of_output() {
 
 #[test]
 fn a_refusal_writes_its_place_and_leaves_the_other_words() {
-    let [_, second, third, fourth] = UNTOUCHED;
-    let refused = |number: u32, place: u64| (number, [place, second, third, fourth]);
+    let refused = |number: u32, place: u64| (number, written([place]));
 
     let odd_length = changed(|p| p.coords.push(0));
     assert_eq!(call(&odd_length, 12, 5), refused(1, 0));
@@ -81,19 +61,12 @@ fn a_refusal_writes_its_place_and_leaves_the_other_words() {
 
 #[test]
 fn empty_tables_may_be_null() {
-    let [_, second, third, fourth] = UNTOUCHED;
     let nothing = Mesh::default();
     let no_triangles = changed(|p| p.corners.clear());
     let no_vertices = changed(|p| p.coords.clear());
     assert_eq!(call(&nothing, 0, 0), (0, UNTOUCHED));
     assert_eq!(call(&no_triangles, 0, 4), (0, UNTOUCHED));
-    assert_eq!(call(&no_vertices, 12, 0), (3, [0, second, third, fourth]));
-    assert_eq!(
-        call(&tetrahedron(10), 0, 4),
-        (9, [0, second, third, fourth])
-    );
-    assert_eq!(
-        call(&tetrahedron(10), 12, 0),
-        (9, [0, second, third, fourth])
-    );
+    assert_eq!(call(&no_vertices, 12, 0), (3, written([0])));
+    assert_eq!(call(&tetrahedron(10), 0, 4), (9, written([0])));
+    assert_eq!(call(&tetrahedron(10), 12, 0), (9, written([0])));
 }

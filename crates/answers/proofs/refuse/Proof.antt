@@ -2,8 +2,8 @@
 use mathlib.Core.Path.{ap}
 use lib.ListN.{set}
 use borrow.Author.Needs.{needs}
-use Rattle.wadroles.proofs.refuse.Statement.{statement}
-use Rattle.wadroles.proofs.refuse.Tie as tie
+use Rattle.answers.proofs.refuse.Statement.{statement}
+use Rattle.answers.proofs.refuse.Tie as tie
 
 place-requires : tie.Need-place-requires
 place-requires c κs = search needs

@@ -1,0 +1,3 @@
+-- Answers of the C interface.
+pub mod Answers
+pub mod AnswerLaws

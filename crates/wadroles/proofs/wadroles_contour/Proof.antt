@@ -1,0 +1,22 @@
+-- `wadroles_contour` meets its contract.
+use denote.Ref.{now}
+use Rattle.wadroles.proofs.Answers.{contour-part}
+use borrow.Author.Needs.{needs}
+use Rattle.wadroles.proofs.wadroles_contour.Statement.{statement}
+use Rattle.wadroles.proofs.wadroles_contour.Tie as tie
+
+part-of-requires : tie.Need-part-of-requires
+part-of-requires c κs = search needs
+
+element-write-out : tie.Need-element-write-out
+element-write-out c = search needs
+
+element-write-out-2 : tie.Need-element-write-out-2
+element-write-out-2 c = search needs
+
+returns : tie.Need-returns
+returns c = contour-part (now (c .before .before .args .points)) (now (c .before .before .args .ends)) (c .before .before .args .j) (now (c .before .before .args .out)) (c .part-of .ensures .0) (c .part-of .ensures .1)
+
+pub wadroles-contour-spec : {M : Type 1} → statement M
+wadroles-contour-spec =
+    tie.close (tie.spec part-of-requires element-write-out element-write-out-2 returns)

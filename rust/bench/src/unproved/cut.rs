@@ -1,0 +1,168 @@
+//! Cut by successors that are written into the table of marks and wiped as they are walked.
+
+use super::tables::{next, refuse, test_pairing, test_sizes, test_values};
+use wadroles::{Layer, LayerTables, Refusal};
+
+/// The mark of a corner that is no crossing, or one already used.
+const NONE: u32 = u32::MAX;
+
+/// Does what `wadroles::cut` does.
+pub fn cut(
+    coords: &[i32],
+    corners: &[u32],
+    pairing: &[u32],
+    h: i32,
+    tables: LayerTables<'_>,
+) -> Result<Layer, Refusal> {
+    let n = corners.len();
+    test_sizes(coords, corners)?;
+    let short = [&tables.names, &tables.ends, &tables.marks].map(|table| table.len() < n);
+    if short.contains(&true) || tables.points.len() < 2 * n {
+        return refuse(Refusal::ROOM, 0);
+    }
+    test_values(coords, corners)?;
+    test_pairing(corners, pairing)?;
+
+    let (names, points) = (&mut tables.names[..n], &mut tables.points[..2 * n]);
+    let (ends, marks) = (&mut tables.ends[..n], &mut tables.marks[..n]);
+    mark_successors(coords, corners, pairing, h, marks);
+    let walked = walk(marks, names, ends);
+    marks.fill(0);
+    match walked {
+        Ok(layer) => {
+            write_points(coords, corners, h, &names[..layer.points], points);
+            Ok(layer)
+        }
+        Err(crossing) => {
+            names.fill(0);
+            points.fill(0);
+            ends.fill(0);
+            refuse(Refusal::USED, crossing)
+        }
+    }
+}
+
+fn mark_successors(coords: &[i32], corners: &[u32], pairing: &[u32], h: i32, marks: &mut [u32]) {
+    for triangle in 0..corners.len() / 3 {
+        marks[3 * triangle..3 * triangle + 3].fill(NONE);
+        if let Some(corner) = rising_corner(coords, corners, h, triangle) {
+            let after = rising_corner(coords, corners, h, pairing[corner] as usize / 3);
+            marks[corner] = after.map_or(NONE, |corner| corner as u32);
+        }
+    }
+}
+
+fn rising_corner(coords: &[i32], corners: &[u32], h: i32, triangle: usize) -> Option<usize> {
+    let first = 3 * triangle;
+    let [a, b, c] = [0, 1, 2].map(|k| coords[3 * corners[first + k] as usize + 2] < h);
+    match (a, b, c) {
+        (true, false, _) => Some(first),
+        (_, true, false) => Some(first + 1),
+        (false, _, true) => Some(first + 2),
+        _ => None,
+    }
+}
+
+/// Writes the names and ends of all contours; or gives the crossing where a walk meets one already
+/// used that is not its start.
+fn walk(marks: &mut [u32], names: &mut [u32], ends: &mut [u32]) -> Result<Layer, usize> {
+    let mut layer = Layer::default();
+    for start in 0..marks.len() {
+        if marks[start] == NONE {
+            continue;
+        }
+        let mut corner = start;
+        loop {
+            if marks[corner] == NONE {
+                return Err(corner);
+            }
+            names[layer.points] = corner as u32;
+            layer.points += 1;
+            corner = std::mem::replace(&mut marks[corner], NONE) as usize;
+            if corner == start {
+                break;
+            }
+        }
+        ends[layer.contours] = layer.points as u32;
+        layer.contours += 1;
+    }
+    Ok(layer)
+}
+
+fn write_points(coords: &[i32], corners: &[u32], h: i32, names: &[u32], points: &mut [i32]) {
+    for (&name, point) in names.iter().zip(points.chunks_exact_mut(2)) {
+        let corner = name as usize;
+        let [low, high] = [corner, next(corner)].map(|c| &coords[3 * corners[c] as usize..][..3]);
+        let (part, rise) = (i64::from(h - low[2]), i64::from(high[2] - low[2]));
+        for axis in 0..2 {
+            let doubled = 2 * i64::from(high[axis] - low[axis]) * part;
+            point[axis] = low[axis] + (doubled + rise).div_euclid(2 * rise) as i32;
+        }
+    }
+}
+
+#[cfg(test)]
+mod tests {
+    use super::*;
+    use meshes::{
+        closed_mesh, random_height, random_pairing, shared_edges, Damage, Mesh, PairingDamage,
+        Random,
+    };
+    use std::collections::BTreeSet;
+
+    type Cut = fn(&[i32], &[u32], &[u32], i32, LayerTables) -> Result<Layer, Refusal>;
+
+    /// The answer, and what it leaves in names, points, ends and marks.
+    type Outcome = (Result<Layer, Refusal>, [Vec<u32>; 3], Vec<i32>);
+
+    fn run(cut: Cut, mesh: &Mesh, pairing: &[u32], h: i32, room: usize) -> Outcome {
+        let (mut names, mut ends, mut marks) = (vec![7; room], vec![8; room], vec![9; room]);
+        let mut points = vec![-7; 2 * room];
+        let tables = LayerTables {
+            names: &mut names,
+            points: &mut points,
+            ends: &mut ends,
+            marks: &mut marks,
+        };
+        let answer = cut(&mesh.coords, &mesh.corners, pairing, h, tables);
+        (answer, [names, ends, marks], points)
+    }
+
+    #[test]
+    fn it_does_what_the_library_does() {
+        let mut met = BTreeSet::new();
+        for round in 0..5000 {
+            let mut random = Random::of_round(1, round);
+            let mut mesh = if random.one_in(2) {
+                closed_mesh(&mut random)
+            } else {
+                shared_edges(&mut random)
+            };
+            if random.one_in(4) {
+                Damage::any(&mut random).apply(&mut mesh, &mut random);
+            }
+            let mut pairing = random_pairing(&mesh, &mut random);
+            if random.one_in(4) {
+                PairingDamage::any(&mut random).apply(&mesh, &mut pairing, &mut random);
+            }
+            let h = random_height(&mesh, &mut random);
+            let run = |cut| run(cut, &mesh, &pairing, h, 400);
+            let expected = run(wadroles::cut);
+            assert_eq!(run(cut), expected, "round {round}");
+            met.insert(expected.0.map_or_else(|refusal| refusal.number, |_| 0));
+        }
+        assert!(met.into_iter().eq([0, 1, 2, 3, 4, 7, 9]));
+    }
+
+    #[test]
+    fn a_walk_into_a_used_crossing_names_it() {
+        let walk = |marks: [u32; 5]| walk(&mut marks.clone(), &mut [0; 5], &mut [0; 5]);
+        let closed = Layer {
+            contours: 2,
+            points: 4,
+        };
+        assert_eq!(walk([2, 4, 0, NONE, 1]), Ok(closed));
+        assert_eq!(walk([2, NONE, 4, NONE, 2]), Err(2));
+        assert_eq!(walk([2, NONE, 0, 2, NONE]), Err(2));
+    }
+}

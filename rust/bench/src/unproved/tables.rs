@@ -1,0 +1,71 @@
+//! The tests that several operations make of their tables.
+
+use wadroles::{Refusal, MAX_COORDINATE, MAX_TRIANGLES, MAX_VERTICES};
+
+pub fn refuse<T>(number: u32, place: usize) -> Result<T, Refusal> {
+    Err(Refusal {
+        number,
+        place: place as u64,
+    })
+}
+
+/// Refuses the first element that is wrong, by its position.
+fn refuse_first<T>(number: u32, table: &[T], wrong: impl Fn(&T) -> bool) -> Result<(), Refusal> {
+    match table.iter().position(wrong) {
+        Some(position) => refuse(number, position),
+        None => Ok(()),
+    }
+}
+
+pub fn test_sizes(coords: &[i32], corners: &[u32]) -> Result<(), Refusal> {
+    let whole = coords.len().is_multiple_of(3) && corners.len().is_multiple_of(3);
+    let small = coords.len() <= 3 * MAX_VERTICES && corners.len() <= 3 * MAX_TRIANGLES;
+    if whole && small {
+        Ok(())
+    } else {
+        refuse(Refusal::SIZE, 0)
+    }
+}
+
+pub fn test_range(numbers: &[i32]) -> Result<(), Refusal> {
+    let range = -MAX_COORDINATE..=MAX_COORDINATE;
+    refuse_first(Refusal::RANGE, numbers, |x| !range.contains(x))
+}
+
+pub fn test_values(coords: &[i32], corners: &[u32]) -> Result<(), Refusal> {
+    test_range(coords)?;
+    let vertices = coords.len() / 3;
+    refuse_first(Refusal::VERTEX, corners, |&v| v as usize >= vertices)?;
+    let twice = |t: &[u32]| t[0] == t[1] || t[1] == t[2] || t[2] == t[0];
+    match corners.chunks_exact(3).position(twice) {
+        Some(triangle) => refuse(Refusal::TRIANGLE, 3 * triangle),
+        None => Ok(()),
+    }
+}
+
+pub fn test_pairing(corners: &[u32], pairing: &[u32]) -> Result<(), Refusal> {
+    match (0..corners.len()).find(|&corner| !is_paired(corners, pairing, corner)) {
+        Some(corner) => refuse(Refusal::PAIRING, corner),
+        None => Ok(()),
+    }
+}
+
+fn is_paired(corners: &[u32], pairing: &[u32], corner: usize) -> bool {
+    let Some(&pair) = pairing.get(corner) else {
+        return false;
+    };
+    let pair = pair as usize;
+    pair < corners.len()
+        && corners[pair] == corners[next(corner)]
+        && corners[next(pair)] == corners[corner]
+        && pairing.get(pair) == Some(&(corner as u32))
+}
+
+/// The next corner of the same triangle.
+pub fn next(corner: usize) -> usize {
+    if corner % 3 == 2 {
+        corner - 2
+    } else {
+        corner + 1
+    }
+}

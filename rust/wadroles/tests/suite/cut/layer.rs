@@ -1,0 +1,58 @@
+//! A layer as the library gives it, taken out of the lent tables by contour and area.
+
+use super::compare::{compare, library, Case, Given};
+use wadroles::{area, contour};
+
+/// The contours of a layer. Each part of a list is for the contour of that number.
+#[derive(Clone, Debug, PartialEq, Eq)]
+pub struct Layer {
+    pub names: Vec<Vec<u32>>,
+    pub points: Vec<Vec<[i32; 2]>>,
+    pub ends: Vec<u32>,
+    pub areas: Vec<i64>,
+}
+
+impl Layer {
+    pub fn contours(&self) -> usize {
+        self.ends.len()
+    }
+
+    /// The sum of the doubled areas.
+    pub fn area(&self) -> i64 {
+        self.areas.iter().sum()
+    }
+}
+
+/// The layer of a cut that is not refused, on which library and oracle agree.
+#[track_caller]
+pub fn layer(given: &Given) -> Layer {
+    let case = Case::exact(given.clone());
+    compare(&case, library).unwrap().unwrap();
+    library_layer(given)
+}
+
+/// The layer that the library cuts, whatever the oracle says.
+#[track_caller]
+pub fn library_layer(given: &Given) -> Layer {
+    let mut case = Case::exact(given.clone());
+    let (contours, count) = case.run(library).unwrap();
+    let names = &case.tables.names.view()[..count];
+    let points = &case.tables.points.view()[..2 * count];
+    let ends = &case.tables.ends.view()[..contours];
+
+    let starts = [0].iter().chain(ends);
+    let parts = || (0..contours).map(|j| contour(points, ends, j));
+    Layer {
+        names: starts
+            .zip(ends)
+            .map(|(&start, &end)| names[start as usize..end as usize].to_vec())
+            .collect(),
+        points: parts().map(pairs).collect(),
+        ends: ends.to_vec(),
+        areas: parts().map(|part| area(part).unwrap()).collect(),
+    }
+}
+
+fn pairs(points: &[i32]) -> Vec<[i32; 2]> {
+    points.chunks(2).map(|p| [p[0], p[1]]).collect()
+}
