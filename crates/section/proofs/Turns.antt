@@ -46,21 +46,17 @@ module _ (coords : List ℤ) (h : ℤ) (k v : ℕ) (fz : mag (zOf coords v) < 2 
   unfolding under
   passed-level p q = simp (z-lt p, h-lt q)
 
--- ---- rises
+-- ---- leads_up and rises
 
-module _ (passed : VertexSet) (corners : List ℕ) (c u : ℕ) (r : Bool) (eu : u ≡ startOf corners c) (er : r ≡ passed u) where
-  start-is : passed (startOf corners c) ≡ r
-  start-is = ap passed (sym eu) ∙ sym er
+pub leads-no : (p q r : Bool) → r ≡ p → r ≡ false → false ≡ (p && not q)
+leads-no p q r e t = simp (sym e ∙ t)
 
-  pub rises-no : r ≡ false → false ≡ rising passed corners c
-  unfolding rising
-  rises-no t = simp (start-is ∙ t)
+pub leads-as : (p q r s : Bool) → r ≡ p → r ≡ true → s ≡ q → not s ≡ (p && not q)
+leads-as p q r s e t f = let x : p ≡ true = sym e ∙ t in rw x (ap not f)
 
-  pub rises-as : r ≡ true → (n v : ℕ) (q : Bool) → n ≡ nextCorner c → v ≡ getD corners n 0 → q ≡ passed v → not q ≡ rising passed corners c
-  unfolding rising
-  rises-as t n v q en ev eq =
-      let x : passed (startOf corners c) ≡ true = start-is ∙ t in
-      rw x (ap not (eq ∙ ap passed (ev ∙ ap (λ (k : ℕ). getD corners k 0) en)))
+pub rises-is : (passed : VertexSet) (corners : List ℕ) (c n u v : ℕ) (r : Bool) → n ≡ nextCorner c → u ≡ startOf corners c → v ≡ getD corners n 0 → r ≡ (passed u && not (passed v)) → r ≡ rising passed corners c
+unfolding rising
+rises-is passed corners c n u v r en eu ev er = er ∙ (λ i. passed (eu i) && not (passed ((ev ∙ ap (λ (k : ℕ). getD corners k 0) en) i)))
 
 -- ---- rising_corner
 

@@ -1,6 +1,7 @@
 // Internal: crossings and successors, whose `requires` say what the tests of a mesh establish. A vertex is passed if it stands before
 // the place (h, k) by z and then by number; (h, 0) is the set of height h.
 ghost use mathlib.Core.Path.{_≡_};
+ghost use mathlib.Core.Bool.{not, _&&_};
 ghost use Prim.Native.Nat.{_*_, _<_, _≤_};
 ghost use lib.ListN.{length};
 ghost use Rattle.laws.specs.Tables.{refill};
@@ -25,6 +26,17 @@ pub fn is_passed(coords: &[i32], h: i32, k: usize, v: usize) -> bool
     v < k
 }
 
+// Whether an edge from u to v leads from a passed vertex to one that is not.
+fn leads_up(coords: &[i32], h: i32, k: usize, u: usize, v: usize) -> bool
+    requires { ⌜ (u < vertexCount (now coords)) × (v < vertexCount (now coords)) ⌝ }
+    ensures { λ r. ⌜ r ≡ (under (now (coords .entry)) h k u && not (under (now (coords .entry)) h k v)) ⌝ }
+{
+    if is_passed(coords, h, k, u) {
+        return !is_passed(coords, h, k, v);
+    }
+    false
+}
+
 // Whether corner c rises.
 pub fn rises(coords: &[i32], corners: &[u32], h: i32, k: usize, c: usize) -> bool
     requires { ⌜ Named (now coords) (now corners) ⌝ ∗ ⌜ c < length (now corners) ⌝ }
@@ -33,10 +45,7 @@ pub fn rises(coords: &[i32], corners: &[u32], h: i32, k: usize, c: usize) -> boo
     let n = next_corner(c);
     let u = wide(corners[c]);
     let v = wide(corners[n]);
-    if is_passed(coords, h, k, u) {
-        return !is_passed(coords, h, k, v);
-    }
-    false
+    leads_up(coords, h, k, u, v)
 }
 
 // The rising corner of triangle t.

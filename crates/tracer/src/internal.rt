@@ -1,6 +1,6 @@
 // Internal: tracing, whose `requires` say that the links lead round rings.
 ghost use mathlib.Core.Path.{_≡_};
-ghost use Prim.Native.Nat.{_+_};
+ghost use Prim.Native.Nat.{_+_, _≤_};
 ghost use lib.ListN.{length};
 ghost use lib.Seq.{sets};
 ghost use Rattle.section.specs.Links.{traceLinks};
@@ -36,6 +36,18 @@ fn walk(links: &mut [u32], names: &mut [u32], start: usize, at: usize) -> Walked
     }
 }
 
+// Zeroes the first n entries of each table.
+fn wipe(n: usize, marks: &mut [u32], names: &mut [u32], ends: &mut [u32])
+    requires { ⌜ (n ≤ length (now marks)) × (n ≤ length (now names)) × (n ≤ length (now ends)) ⌝ }
+    ensures { λ _. ⌜ now (marks .exit) ≡ zeroed n (now (marks .entry)) ⌝ }
+    ensures { λ _. ⌜ now (names .exit) ≡ zeroed n (now (names .entry)) ⌝ }
+    ensures { λ _. ⌜ now (ends .exit) ≡ zeroed n (now (ends .entry)) ⌝ }
+{
+    fill(marks, n, 0);
+    fill(names, n, 0);
+    fill(ends, n, 0);
+}
+
 // Takes the contours out of the first n links, by first corner, and leaves zeros there.
 pub fn trace(n: usize, links: &mut [u32], names: &mut [u32], ends: &mut [u32]) -> Found
     requires { ⌜ Traceable n (now links) (now names) (now ends) ⌝ }
@@ -57,9 +69,7 @@ pub fn trace(n: usize, links: &mut [u32], names: &mut [u32], ends: &mut [u32]) -
                     k = e;
                 }
                 Walked::Met(p) => {
-                    fill(names, n, 0);
-                    fill(ends, n, 0);
-                    fill(links, n, 0);
+                    wipe(n, links, names, ends);
                     return Found::Stuck(p);
                 }
             }

@@ -1,10 +1,11 @@
 -- `internal::rises` meets its contract.
+use Prim.Native.Nat.{_<_}
 use mathlib.Core.Path.{_≡_, subst}
-use mathlib.Core.Bool.{false, not}
 use lib.IntN.{ℤ}
+use Rattle.mesh.specs.Corners.{vertexCount}
 use Rattle.mesh.specs.TestLaws.{next-below}
-use Rattle.section.specs.Section.{VertexSet, under, rising}
-use Rattle.section.proofs.Turns.{held, back, rises-no, rises-as}
+use Rattle.section.specs.Section.{under, rising}
+use Rattle.section.proofs.Turns.{held, back, rises-is}
 use denote.Ref.{now}
 use borrow.Author.Needs.{needs}
 use Rattle.section.proofs.internal.rises.Statement.{statement}
@@ -31,30 +32,21 @@ shared-slice-read-wide-2 c = search needs
 wide-requires-2 : tie.Need-wide-requires-2
 wide-requires-2 c κs = search needs
 
-is-passed-requires : tie.Need-is-passed-requires
-is-passed-requires c κs = let s = c .before .before .before .before .before .before in rw (c .before .before .wide .ensures) (s .pre .0 .vertices (s .args .c) (s .pre .1))
-
-is-passed-requires-2 : tie.Need-is-passed-requires-2
-is-passed-requires-2 c κs =
-    let s = c .before .before .before .before .before .before .before .before in
-    let n = c .before .before .before .before .before .before .next-corner in
-    rw (c .before .before .wide2 .ensures) (s .pre .0 .vertices (n .result) (rw (n .ensures) (next-below _ (s .args .c) (s .pre .0 .whole .threes) (s .pre .1))))
+leads-up-requires : tie.Need-leads-up-requires
+leads-up-requires c κs =
+    let s = c .before .before .before .before .before .before in
+    let n = c .before .before .before .before .next-corner in
+    let a : c .before .before .wide .result < vertexCount (now (s .args .coords)) = rw (c .before .before .wide .ensures) (s .pre .0 .vertices (s .args .c) (s .pre .1)) in
+    let b : c .wide2 .result < vertexCount (now (s .args .coords)) = rw (c .wide2 .ensures) (s .pre .0 .vertices (n .result) (rw (n .ensures) (next-below _ (s .args .c) (s .pre .0 .whole .threes) (s .pre .1)))) in
+    search (needs, a, b)
 
 returns : tie.Need-returns
 returns c =
-    let s = c .before .before .before .before .before .before .before .before .before in
-    let n = c .before .before .before .before .before .before .before .next-corner in
-    let p : VertexSet = under (now (s .args .coords)) (held (s .args .h)) (s .args .k) in
-    subst (λ (z : ℤ). not (c .is-passed2 .result) ≡ rising (under (now (s .args .coords)) z (s .args .k)) (now (s .args .corners)) (s .args .c)) (back (s .fits .h))
-    (rises-as p (now (s .args .corners)) (s .args .c) (c .before .before .before .before .before .wide .result) (c .before .before .is-passed .result) (c .before .before .before .before .before .wide .ensures) (c .before .before .is-passed .ensures) (c .before .if1 .taken)
-    (n .result) (c .before .before .before .wide2 .result) (c .is-passed2 .result) (n .ensures) (c .before .before .before .wide2 .ensures) (c .is-passed2 .ensures))
-
-returns-2 : tie.Need-returns-2
-returns-2 c =
-    let s = c .before .before .before .before .before .before .before .before in
-    let p : VertexSet = under (now (s .args .coords)) (held (s .args .h)) (s .args .k) in
-    subst (λ (z : ℤ). false ≡ rising (under (now (s .args .coords)) z (s .args .k)) (now (s .args .corners)) (s .args .c)) (back (s .fits .h))
-    (rises-no p (now (s .args .corners)) (s .args .c) (c .before .before .before .before .wide .result) (c .before .is-passed .result) (c .before .before .before .before .wide .ensures) (c .before .is-passed .ensures) (c .if1 .left))
+    let s = c .before .before .before .before .before .before .before in
+    let n = c .before .before .before .before .before .next-corner in
+    subst (λ (z : ℤ). c .leads-up .result ≡ rising (under (now (s .args .coords)) z (s .args .k)) (now (s .args .corners)) (s .args .c)) (back (s .fits .h))
+    (rises-is (under (now (s .args .coords)) (held (s .args .h)) (s .args .k)) (now (s .args .corners)) (s .args .c) (n .result) (c .before .before .before .wide .result) (c .before .wide2 .result) (c .leads-up .result)
+    (n .ensures) (c .before .before .before .wide .ensures) (c .before .wide2 .ensures) (c .leads-up .ensures))
 
 pub rises-spec : {M : Type 1} → statement M
 rises-spec =
@@ -67,7 +59,5 @@ rises-spec =
     mul-wide-2
     shared-slice-read-wide-2
     wide-requires-2
-    is-passed-requires
-    is-passed-requires-2
-    returns
-    returns-2)
+    leads-up-requires
+    returns)

@@ -65,26 +65,20 @@ add-j c = let l = c .before .before .before .before .before .before .before .bef
 enum-known-w-2 : tie.Need-enum-known-w-2 Inv-loop μ-loop
 enum-known-w-2 c = c .match .keys2
 
-fill-requires : tie.Need-fill-requires Inv-loop μ-loop
-fill-requires c κs = absurd (dead (c .before .before .before))
-
-fill-requires-2 : tie.Need-fill-requires-2 Inv-loop μ-loop
-fill-requires-2 c κs = absurd (dead (c .before .before .before .before .before .before .before))
-
-fill-requires-3 : tie.Need-fill-requires-3 Inv-loop μ-loop
-fill-requires-3 c κs = absurd (dead (c .before .before .before .before .before .before .before .before .before .before .before))
+wipe-requires : tie.Need-wipe-requires Inv-loop μ-loop
+wipe-requires c κs = absurd (dead (c .before .before .before .before .before))
 
 same-length : tie.Need-same-length Inv-loop μ-loop
-same-length c = absurd (dead (c .before .before .before .before .before .before .before .before .before .before .before .before .before .before))
+same-length c = absurd (dead (c .before .before .before .before .before .before .before .before .before .before .before .before))
 
 same-length-2 : tie.Need-same-length-2 Inv-loop μ-loop
-same-length-2 c = absurd (dead (c .before .before .before .before .before .before .before .before .before .before .before .before .before .before))
+same-length-2 c = absurd (dead (c .before .before .before .before .before .before .before .before .before .before .before .before))
 
 same-length-3 : tie.Need-same-length-3 Inv-loop μ-loop
-same-length-3 c = absurd (dead (c .before .before .before .before .before .before .before .before .before .before .before .before .before .before))
+same-length-3 c = absurd (dead (c .before .before .before .before .before .before .before .before .before .before .before .before))
 
 returns : tie.Need-returns Inv-loop μ-loop
-returns c = absurd (dead (c .before .before .before .before .before .before .before .before .before .before .before .before .before .before))
+returns c = absurd (dead (c .before .before .before .before .before .before .before .before .before .before .before .before))
 
 add-c : tie.Need-add-c Inv-loop μ-loop
 add-c c = omega (arith, c .before .before .loop-test .taken, c .before .before .before .loop .inv .given .few)
@@ -103,11 +97,11 @@ loop-again c =
     (λ x. tracing-same (x .1) (x .2) (x .3) (x .4) (x .5) (tracing-skip _ _ _ _ _ _ _ _ _ _ (l .inv) lt (x .0 .left)))
     (c .if1 .came)
 
-fill-requires-4 : tie.Need-fill-requires-4 Inv-loop μ-loop
-fill-requires-4 c κs = omega (arith, c .before .before .loop .inv .given .links-room, links-length _ _ _ _ _ _ _ _ _ _ (c .before .before .loop .inv))
+fill-requires : tie.Need-fill-requires Inv-loop μ-loop
+fill-requires c κs = omega (arith, c .before .before .loop .inv .given .links-room, links-length _ _ _ _ _ _ _ _ _ _ (c .before .before .loop .inv))
 
 same-length-4 : tie.Need-same-length-4 Inv-loop μ-loop
-same-length-4 c = c .before .before .fill4 .kept .0 ∙ links-length _ _ _ _ _ _ _ _ _ _ (c .before .before .before .before .before .loop .inv)
+same-length-4 c = c .before .before .fill .kept .0 ∙ links-length _ _ _ _ _ _ _ _ _ _ (c .before .before .before .before .before .loop .inv)
 
 same-length-5 : tie.Need-same-length-5 Inv-loop μ-loop
 same-length-5 c = names-length _ _ _ _ _ _ _ _ _ _ (c .before .before .before .before .before .loop .inv)
@@ -118,7 +112,7 @@ same-length-6 c = ends-length _ _ _ _ _ _ _ _ _ _ (c .before .before .before .be
 returns-2 : tie.Need-returns-2 Inv-loop μ-loop
 returns-2 c =
     let end = c .before .before .before .before .loop-test .left in
-    (found-is _ _ _ _ _ _ _ _ _ _ (c .before .before .before .before .before .loop .inv) end, (names-end _ _ _ _ _ _ _ _ _ _ (c .before .before .before .before .before .loop .inv) end, (ends-end _ _ _ _ _ _ _ _ _ _ (c .before .before .before .before .before .loop .inv) end, links-end _ _ _ _ _ _ _ _ _ _ (c .before .before .before .before .before .loop .inv) end _ (c .before .before .fill4 .ensures))))
+    (found-is _ _ _ _ _ _ _ _ _ _ (c .before .before .before .before .before .loop .inv) end, (names-end _ _ _ _ _ _ _ _ _ _ (c .before .before .before .before .before .loop .inv) end, (ends-end _ _ _ _ _ _ _ _ _ _ (c .before .before .before .before .before .loop .inv) end, links-end _ _ _ _ _ _ _ _ _ _ (c .before .before .before .before .before .loop .inv) end _ (c .before .before .fill .ensures))))
 
 pub trace-spec : {M : Type 1} → statement M
 trace-spec =
@@ -136,9 +130,7 @@ trace-spec =
     slice-write-ends
     add-j
     enum-known-w-2
-    fill-requires
-    fill-requires-2
-    fill-requires-3
+    wipe-requires
     same-length
     same-length-2
     same-length-3
@@ -146,7 +138,7 @@ trace-spec =
     add-c
     loop-less
     loop-again
-    fill-requires-4
+    fill-requires
     same-length-4
     same-length-5
     same-length-6
