@@ -46,7 +46,7 @@ pub fn room_test(n: usize, names: usize, points: usize, ends: usize, marks: usiz
 }
 
 // Refusals 1, 9, 2, 3, 4 and 7, for lent tables of these lengths.
-fn tables_test(
+pub fn tables_test(
     coords: &[i32],
     corners: &[u32],
     pairing: &[u32],

@@ -23,16 +23,16 @@ rank coords v = count (vertexCount coords) (λ u. before coords u v)
 
 -- a comparison of integers as one of naturals
 
-lower-sum : (a b : ℤ) → ltZ a b ≡ true → up a + dn b < up b + dn a
+pub lower-sum : (a b : ℤ) → ltZ a b ≡ true → up a + dn b < up b + dn a
 lower-sum a b e = omega (arith, lt-in (ltZ-yes {a = a} {b = b} (subst T (sym e) tt)))
 
-not-lower-sum : (a b : ℤ) → ltZ a b ≡ false → up b + dn a ≤ up a + dn b
+pub not-lower-sum : (a b : ℤ) → ltZ a b ≡ false → up b + dn a ≤ up a + dn b
 not-lower-sum a b e = omega (arith, le-in (ltZ-no {a = a} {b = b} (subst (λ (t : Bool). T (not t)) (sym e) tt)))
 
-sum-lower : (a b : ℤ) → up a + dn b < up b + dn a → ltZ a b ≡ true
+pub sum-lower : (a b : ℤ) → up a + dn b < up b + dn a → ltZ a b ≡ true
 sum-lower a b h = from-T (ltZ a b) (lt-out {a = a} {b = b} (omega arith) .lt)
 
-sum-not-lower : (a b : ℤ) → up b + dn a ≤ up a + dn b → ltZ a b ≡ false
+pub sum-not-lower : (a b : ℤ) → up b + dn a ≤ up a + dn b → ltZ a b ≡ false
 sum-not-lower a b h = is-false (ltZ a b) (λ e. omega (arith, lower-sum a b e))
 
 module _ (coords : List ℤ) where

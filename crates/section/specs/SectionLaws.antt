@@ -204,16 +204,16 @@ module _ (passed : VertexSet) (corners pairing : List ℕ) (linked : Linked corn
 
 -- ---- none of either or one of each
 
-pub data Cut (passed : VertexSet) (corners : List ℕ) (t : ℕ) : Type 0 where
-  neither : ((c : ℕ) → triangleOf c ≡ t → (rising passed corners c ≡ false) × (falling passed corners c ≡ false)) → Cut passed corners t
+pub data Crossed (passed : VertexSet) (corners : List ℕ) (t : ℕ) : Type 0 where
+  neither : ((c : ℕ) → triangleOf c ≡ t → (rising passed corners c ≡ false) × (falling passed corners c ≡ false)) → Crossed passed corners t
   one-each : (r f : ℕ) → triangleOf r ≡ t → triangleOf f ≡ t → rising passed corners r ≡ true → falling passed corners f ≡ true
-      → ((c : ℕ) → triangleOf c ≡ t → (rising passed corners c ≡ true → c ≡ r) × (falling passed corners c ≡ true → c ≡ f)) → Cut passed corners t
+      → ((c : ℕ) → triangleOf c ≡ t → (rising passed corners c ≡ true → c ≡ r) × (falling passed corners c ≡ true → c ≡ f)) → Crossed passed corners t
 
-pub triangle-cut : (passed : VertexSet) (corners : List ℕ) (t : ℕ) → Cut passed corners t
-triangle-cut passed corners t =
+pub triangle-crossed : (passed : VertexSet) (corners : List ℕ) (t : ℕ) → Crossed passed corners t
+triangle-crossed passed corners t =
     by (rising passed corners (3 * t)) (rising passed corners (3 * t + 1)) (rising passed corners (3 * t + 2)) refl refl refl
   where
-    with-one : (r : ℕ) → triangleOf r ≡ t → rising passed corners r ≡ true → Cut passed corners t
+    with-one : (r : ℕ) → triangleOf r ≡ t → rising passed corners r ≡ true → Crossed passed corners t
     with-one r e h =
         let f = fall-with passed corners r h in
         one-each r (f .0) e (f .1 ∙ e) h (f .2)
@@ -228,7 +228,7 @@ triangle-cut passed corners t =
         at (no m) (yes m2) = clash h (ap (rising passed corners) m2 ∙ q)
         at (no m) (no m2) = clash h (ap (rising passed corners) (omega arith) ∙ r)
 
-    by : (a b d : Bool) → rising passed corners (3 * t) ≡ a → rising passed corners (3 * t + 1) ≡ b → rising passed corners (3 * t + 2) ≡ d → Cut passed corners t
+    by : (a b d : Bool) → rising passed corners (3 * t) ≡ a → rising passed corners (3 * t + 1) ≡ b → rising passed corners (3 * t + 2) ≡ d → Crossed passed corners t
     by true b d p q r = with-one (3 * t) (omega arith) p
     by false true d p q r = with-one (3 * t + 1) (omega arith) q
     by false false true p q r = with-one (3 * t + 2) (omega arith) r

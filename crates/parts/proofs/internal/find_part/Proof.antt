@@ -1,0 +1,64 @@
+-- `internal::find_part` meets its contract.
+use mathlib.Core.Path.{sym, _∙_}
+use native.Mathlib.Omega.{arith}
+use Rattle.formats.specs.PositionLaws.{took}
+use Rattle.parts.specs.Layouts.{Finds}
+use Rattle.parts.proofs.Finding.{no-vertex-count, no-triangle-count, counted}
+use borrow.Author.Needs.{needs}
+use Rattle.parts.proofs.internal.find_part.Statement.{statement}
+use Rattle.parts.proofs.internal.find_part.Tie as tie
+
+read-number-requires : tie.Need-read-number-requires
+read-number-requires c κs = search needs
+
+enum-known-n : tie.Need-enum-known-n
+enum-known-n c = search needs
+
+enum-told : tie.Need-enum-told
+enum-told c = search needs
+
+returns : tie.Need-returns
+unfolding Finds
+returns c = no-vertex-count _ (sym (c .before .before .read-number .ensures) ∙ c .enum-told .given .1)
+
+read-number-requires-2 : tie.Need-read-number-requires-2
+read-number-requires-2 c κs = search needs
+
+enum-known-m : tie.Need-enum-known-m
+enum-known-m c = search needs
+
+enum-told-2 : tie.Need-enum-told-2
+enum-told-2 c = search needs
+
+returns-2 : tie.Need-returns-2
+unfolding Finds
+returns-2 c = no-triangle-count _ _ _ (sym (c .before .before .before .before .before .before .read-number .ensures) ∙ c .before .before .before .before .n .given .1) (sym (c .before .before .read-number2 .ensures) ∙ c .enum-told2 .given .1)
+
+mul-find-tables : tie.Need-mul-find-tables
+mul-find-tables c = omega (arith, took _ _ _ _ _ (sym (c .before .before .before .before .before .before .before .read-number .ensures) ∙ c .before .before .before .before .before .n .given .1) .low)
+
+mul-find-tables-2 : tie.Need-mul-find-tables-2
+mul-find-tables-2 c = omega (arith, took _ _ _ _ _ (sym (c .before .before .before .read-number2 .ensures) ∙ c .before .m .given .1) .low)
+
+find-tables-requires : tie.Need-find-tables-requires
+find-tables-requires c κs = counted _ _ _ (sym (c .before .before .before .before .before .before .before .read-number .ensures) ∙ c .before .before .before .before .before .n .given .1) _ _ (sym (c .before .before .before .read-number2 .ensures) ∙ c .before .m .given .1)
+
+returns-3 : tie.Need-returns-3
+returns-3 c = search needs
+
+pub find-part-spec : {M : Type 1} → statement M
+find-part-spec =
+    tie.close
+    (tie.spec
+    read-number-requires
+    enum-known-n
+    enum-told
+    returns
+    read-number-requires-2
+    enum-known-m
+    enum-told-2
+    returns-2
+    mul-find-tables
+    mul-find-tables-2
+    find-tables-requires
+    returns-3)

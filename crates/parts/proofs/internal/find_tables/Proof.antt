@@ -1,0 +1,54 @@
+-- `internal::find_tables` meets its contract.
+use mathlib.Core.Path.{sym, _∙_}
+use Rattle.parts.specs.Layouts.{Finds}
+use Rattle.parts.proofs.Finding.{coords-broken, coords-run, corners-broken, tabled}
+use borrow.Author.Needs.{needs}
+use Rattle.parts.proofs.internal.find_tables.Statement.{statement}
+use Rattle.parts.proofs.internal.find_tables.Tie as tie
+
+check-run-requires : tie.Need-check-run-requires
+check-run-requires c κs = search needs
+
+enum-known-e : tie.Need-enum-known-e
+enum-known-e c = search needs
+
+check-run-requires-2 : tie.Need-check-run-requires-2
+check-run-requires-2 c κs = coords-run _ (c .before .before .before .before .before .pre) _ (sym (c .before .before .before .check-run .ensures) ∙ c .before .e .given .1) .inside
+
+enum-known-f : tie.Need-enum-known-f
+enum-known-f c = search needs
+
+find-heights-requires : tie.Need-find-heights-requires
+find-heights-requires c κs = tabled _ (c .before .before .before .before .before .before .before .before .before .pre) _ (sym (c .before .before .before .before .before .before .before .check-run .ensures) ∙ c .before .before .before .before .before .e .given .1) _ (sym (c .before .before .before .check-run2 .ensures) ∙ c .before .f .given .1)
+
+enum-known-f-2 : tie.Need-enum-known-f-2
+enum-known-f-2 c = search needs
+
+enum-known-e-2 : tie.Need-enum-known-e-2
+enum-known-e-2 c = search needs
+
+returns : tie.Need-returns
+returns c = search needs
+
+returns-2 : tie.Need-returns-2
+unfolding Finds
+returns-2 c = corners-broken _ (c .before .before .before .before .before .before .before .before .before .pre) _ (sym (c .before .before .before .before .before .before .before .check-run .ensures) ∙ c .before .before .before .before .before .e .given .1) _ (sym (c .before .before .before .check-run2 .ensures) ∙ c .before .f2 .given .1)
+
+returns-3 : tie.Need-returns-3
+unfolding Finds
+returns-3 c = coords-broken _ (c .before .before .before .before .before .pre) _ (sym (c .before .before .before .check-run .ensures) ∙ c .before .e2 .given .1)
+
+pub find-tables-spec : {M : Type 1} → statement M
+find-tables-spec =
+    tie.close
+    (tie.spec
+    check-run-requires
+    enum-known-e
+    check-run-requires-2
+    enum-known-f
+    find-heights-requires
+    enum-known-f-2
+    enum-known-e-2
+    returns
+    returns-2
+    returns-3)

@@ -1,0 +1,63 @@
+-- `read_part` meets its contract.
+use mathlib.Core.Path.{refl}
+use Rattle.parts.proofs.Answers.{found-whole, found-broken, reads-broken, reads-short, coords-fit, corners-fit, heights-fit, reads-filled}
+use borrow.Author.Needs.{needs}
+use Rattle.parts.proofs.read_part.Statement.{statement}
+use Rattle.parts.proofs.read_part.Tie as tie
+
+find-part-requires : tie.Need-find-part-requires
+find-part-requires c κs = search needs
+
+enum-known-f : tie.Need-enum-known-f
+enum-known-f c = search needs
+
+room-for-requires : tie.Need-room-for-requires
+room-for-requires c κs = search needs
+
+fill-signed-requires : tie.Need-fill-signed-requires
+fill-signed-requires c κs = coords-fit (found-whole _ (c .before .before .before .before .before .before .before .before .before .find-part .ensures) (c .before .before .before .before .before .before .before .f .given .1)) _ _ _ (c .before .before .room-for .ensures) (c .before .if1 .taken) _ refl
+
+fill-corners-requires : tie.Need-fill-corners-requires
+fill-corners-requires c κs = corners-fit (found-whole _ (c .before .before .before .before .before .before .before .before .before .before .before .before .find-part .ensures) (c .before .before .before .before .before .before .before .before .before .before .f .given .1)) _ _ _ (c .before .before .before .before .before .room-for .ensures) (c .before .before .before .before .if1 .taken) _ refl
+
+fill-signed-requires-2 : tie.Need-fill-signed-requires-2
+fill-signed-requires-2 c κs = heights-fit (found-whole _ (c .before .before .before .before .before .before .before .before .before .before .before .before .before .before .before .before .find-part .ensures) (c .before .before .before .before .before .before .before .before .before .before .before .before .before .before .f .given .1)) _ _ _ (c .before .before .before .before .before .before .before .before .before .room-for .ensures) (c .before .before .before .before .before .before .before .before .if1 .taken) _ refl
+
+same-length : tie.Need-same-length
+same-length c = search needs
+
+same-length-2 : tie.Need-same-length-2
+same-length-2 c = search needs
+
+same-length-3 : tie.Need-same-length-3
+same-length-3 c = search needs
+
+returns : tie.Need-returns
+returns c = reads-filled _ _ _ _ (found-whole _ (c .before .before .before .before .before .before .before .before .before .before .before .before .before .before .before .before .before .before .before .before .find-part .ensures) (c .before .before .before .before .before .before .before .before .before .before .before .before .before .before .before .before .before .before .f .given .1)) (c .before .before .before .before .before .before .before .before .before .before .before .before .before .room-for .ensures) (c .before .before .before .before .before .before .before .before .before .before .before .before .if1 .taken) (c .before .before .before .before .before .before .before .before .before .before .fill-signed .ensures) (c .before .before .before .before .before .before .before .fill-corners .ensures) (c .before .before .before .fill-signed2 .ensures)
+
+enum-known-f-2 : tie.Need-enum-known-f-2
+enum-known-f-2 c = search needs
+
+returns-2 : tie.Need-returns-2
+returns-2 c = reads-short _ _ _ _ (found-whole _ (c .before .before .before .before .before .before .before .before .find-part .ensures) (c .before .before .before .before .before .before .f .given .1)) (c .before .room-for .ensures) (c .if1 .left)
+
+returns-3 : tie.Need-returns-3
+returns-3 c = reads-broken _ _ _ _ _ (found-broken _ (c .before .before .before .find-part .ensures) (c .before .f2 .given .1))
+
+pub read-part-spec : {M : Type 1} → statement M
+read-part-spec =
+    tie.close
+    (tie.spec
+    find-part-requires
+    enum-known-f
+    room-for-requires
+    fill-signed-requires
+    fill-corners-requires
+    fill-signed-requires-2
+    same-length
+    same-length-2
+    same-length-3
+    returns
+    enum-known-f-2
+    returns-2
+    returns-3)

@@ -1,0 +1,5 @@
+-- Read part.
+pub mod Parts
+pub mod Layouts
+pub mod PartLaws
+pub mod Worked

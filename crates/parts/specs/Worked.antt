@@ -1,0 +1,99 @@
+-- Part P of document 01 and some refusals of Read part, by computation from the definitions.
+use mathlib.Core.Path.{_≡_, refl}
+use mathlib.Core.List.{List, [], _∷_, _++_}
+use Prim.Native.Nat.{ℕ}
+use lib.IntN.{ℤ, pos, negsuc}
+use Rattle.laws.specs.Least.{least, some}
+use Rattle.laws.specs.Tables.{overwrite}
+use Rattle.mesh.specs.Refusals.{test, _then_, verdict}
+use Rattle.mesh.specs.declared.Refusal.the-variants.{Room, File}
+use Rattle.mesh.specs.declared.Verdict.{Verdict}
+use Rattle.mesh.specs.declared.Verdict.the-variants.{Refused}
+use Rattle.formats.specs.Formats.{holds, encodeAll, parseAll}
+use Rattle.formats.specs.Numbers.{groups, encodeNumber, parseNumber}
+use Rattle.formats.specs.PartFile.{Part, signedRun, plainRun, signedList, counts, tablesFor, partFile, partOf}
+use Rattle.parts.specs.declared.Parted.the-variants.{Counts}
+use Rattle.parts.specs.Parts.{brokenAt, roomFor, held, refusals, answer, after}
+
+-- ---- part P with the heights 0, 5, 10 and 11
+
+part : Part
+part =
+    record {
+      coords = pos 0 ∷ pos 0 ∷ pos 0 ∷ pos 10 ∷ pos 0 ∷ pos 0 ∷ pos 0 ∷ pos 10 ∷ pos 0 ∷ pos 0 ∷ pos 0 ∷ pos 10 ∷ [];
+      corners = 0 ∷ 2 ∷ 1 ∷ 0 ∷ 1 ∷ 3 ∷ 0 ∷ 3 ∷ 2 ∷ 1 ∷ 2 ∷ 3 ∷ [];
+      heights = pos 0 ∷ pos 5 ∷ pos 10 ∷ pos 11 ∷ [];
+    }
+
+file : List ℕ
+file =
+    0x04 ∷ 0x04
+    ∷ 0x00 ∷ 0x00 ∷ 0x00 ∷ 0x14 ∷ 0x00 ∷ 0x00 ∷ 0x00 ∷ 0x14 ∷ 0x00 ∷ 0x00 ∷ 0x00 ∷ 0x14
+    ∷ 0x00 ∷ 0x02 ∷ 0x01 ∷ 0x00 ∷ 0x01 ∷ 0x03 ∷ 0x00 ∷ 0x03 ∷ 0x02 ∷ 0x01 ∷ 0x02 ∷ 0x03
+    ∷ 0x04 ∷ 0x00 ∷ 0x0A ∷ 0x14 ∷ 0x16
+    ∷ []
+
+-- tables with one entry more than P needs
+coords : List ℤ
+coords = pos 0 ∷ pos 0 ∷ pos 0 ∷ pos 0 ∷ pos 0 ∷ pos 0 ∷ pos 0 ∷ pos 0 ∷ pos 0 ∷ pos 0 ∷ pos 0 ∷ pos 0 ∷ negsuc 6 ∷ []
+
+corners : List ℕ
+corners = 0 ∷ 0 ∷ 0 ∷ 0 ∷ 0 ∷ 0 ∷ 0 ∷ 0 ∷ 0 ∷ 0 ∷ 0 ∷ 0 ∷ 7 ∷ []
+
+heights : List ℤ
+heights = pos 0 ∷ pos 0 ∷ pos 0 ∷ pos 0 ∷ negsuc 6 ∷ []
+
+written : partFile .encode part ≡ file
+unfolding part file partFile tablesFor counts signedList plainRun signedRun encodeNumber groups encodeAll
+written = refl
+
+read : partOf file ≡ holds part
+unfolding part file partOf partFile tablesFor counts signedList plainRun signedRun parseNumber parseAll
+read = refl
+
+-- Read part's verdict on a file
+abbrev on : List ℕ → List ℤ → List ℕ → List ℤ → Verdict
+on bytes a b c = verdict (refusals bytes a b c)
+
+answered : answer (on file coords corners heights) (held (partOf file)) ≡ Counts 4 4 4
+unfolding coords corners heights file answer held verdict _then_ test some least brokenAt roomFor partOf partFile tablesFor counts signedList plainRun signedRun parseNumber parseAll
+answered = refl
+
+coordsAfter : after (on file coords corners heights) (held (partOf file) .coords) coords ≡ part .coords ++ (negsuc 6 ∷ [])
+unfolding part coords corners heights file after overwrite held verdict _then_ test some least brokenAt roomFor partOf partFile tablesFor counts signedList plainRun signedRun parseNumber parseAll
+coordsAfter = refl
+
+cornersAfter : after (on file coords corners heights) (held (partOf file) .corners) corners ≡ part .corners ++ (7 ∷ [])
+unfolding part coords corners heights file after overwrite held verdict _then_ test some least brokenAt roomFor partOf partFile tablesFor counts signedList plainRun signedRun parseNumber parseAll
+cornersAfter = refl
+
+heightsAfter : after (on file coords corners heights) (held (partOf file) .heights) heights ≡ part .heights ++ (negsuc 6 ∷ [])
+unfolding part coords corners heights file after overwrite held verdict _then_ test some least brokenAt roomFor partOf partFile tablesFor counts signedList plainRun signedRun parseNumber parseAll
+heightsAfter = refl
+
+-- ---- refusals
+
+-- bytes 80 00: refusal 13, place 0
+needless : on (0x80 ∷ 0x00 ∷ []) coords corners heights ≡ Refused (File 0)
+unfolding verdict _then_ test some least brokenAt partOf partFile tablesFor counts signedList plainRun signedRun parseNumber parseAll
+needless = refl
+
+-- a count of heights that is missing has the file's length as its place, and 13 comes before 9
+missing : on (0x01 ∷ 0x00 ∷ 0x02 ∷ 0x01 ∷ 0x00 ∷ []) [] [] [] ≡ Refused (File 5)
+unfolding verdict _then_ test some least brokenAt partOf partFile tablesFor counts signedList plainRun signedRun parseNumber parseAll
+missing = refl
+
+-- the first byte left over
+leftOver : on (0x00 ∷ 0x00 ∷ 0x00 ∷ 0x05 ∷ 0x06 ∷ []) [] [] [] ≡ Refused (File 3)
+unfolding verdict _then_ test some least brokenAt partOf partFile tablesFor counts signedList plainRun signedRun parseNumber parseAll
+leftOver = refl
+
+-- as many vertices as 32 bits can tell, of which the first coordinate is missing
+mostTold : on (0xFF ∷ 0xFF ∷ 0xFF ∷ 0xFF ∷ 0x0F ∷ 0x00 ∷ []) [] [] [] ≡ Refused (File 6)
+unfolding verdict _then_ test some least brokenAt partOf partFile tablesFor counts signedList plainRun signedRun parseNumber parseAll
+mostTold = refl
+
+-- P without a fourth height's entry
+short : on file coords corners (pos 0 ∷ pos 0 ∷ pos 0 ∷ []) ≡ Refused (Room 0)
+unfolding coords corners file held verdict _then_ test some least brokenAt roomFor partOf partFile tablesFor counts signedList plainRun signedRun parseNumber parseAll
+short = refl

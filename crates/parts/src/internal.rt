@@ -1,0 +1,169 @@
+// Internal: the two passes over a part file. One finds its tables and checks every value, the other fills the lent tables.
+ghost use mathlib.Core.Path.{_≡_};
+ghost use Prim.Native.Nat.{_≤_};
+ghost use lib.ListN.{length};
+ghost use Rattle.laws.specs.Tables.{overwrite};
+ghost use Rattle.formats.specs.Numbers.{word, unzigzag};
+ghost use Rattle.formats.specs.PartFile.{signedRun, plainRun};
+ghost use Rattle.formats.specs.Positions.{extentAt};
+ghost use Rattle.parts.specs.Layouts.{valuesOf, Fits, Counted, Tabled, Finds};
+use formats::Extent;
+use formats::Number;
+use formats::numbers::read_number;
+use formats::numbers::signed_of;
+
+// The largest number of 32 bits.
+const WORD: u64 = 4294967295;
+
+// So many numbers in a row, from a position of a file on.
+pub struct Run {
+    pub at: usize,
+    pub count: usize,
+}
+
+// Where the tables of a part file stand.
+pub struct Layout {
+    pub coords: Run,
+    pub corners: Run,
+    pub heights: Run,
+}
+
+// The tables of a file, or the place of its refusal.
+pub enum Found {
+    Whole(Layout),
+    Broken(usize),
+}
+
+// How far so many numbers of 32 bits go, plain ones or those that stand for signed ones.
+fn check_run(file: &[u8], at: usize, count: usize) -> Extent
+    requires { ⌜ at ≤ length (now file) ⌝ }
+    ensures { λ r. ⌜ r ≡ extentAt (plainRun count) (now (file .entry)) at ⌝ }
+{
+    let mut i = at;
+    let mut left = count;
+    while 0 < left {
+        let n = read_number(file, i, WORD);
+        let Number::Value(_, next) = n else {
+            return Extent::Refused(i);
+        };
+        i = next;
+        left -= 1;
+    }
+    Extent::End(i)
+}
+
+// Finds the heights, which start at a position: their count, and then they and nothing else up to the file's end.
+fn find_heights(file: &[u8], coords: Run, corners: Run, at: usize) -> Found
+    requires { ⌜ Tabled (now file) coords corners at ⌝ }
+    ensures { λ r. ⌜ Finds (now (file .entry)) r ⌝ }
+{
+    let n = read_number(file, at, WORD);
+    let Number::Value(h, next) = n else {
+        return Found::Broken(at);
+    };
+    let count = h as usize;
+    let e = check_run(file, next, count);
+    match e {
+        Extent::End(end) => {
+            if end < file.len() {
+                return Found::Broken(end);
+            }
+            let heights = Run { at: next, count };
+            Found::Whole(Layout {
+                coords,
+                corners,
+                heights,
+            })
+        }
+        Extent::Refused(place) => Found::Broken(place),
+    }
+}
+
+// Finds so many coordinates, so many corners and the heights, from a position on.
+fn find_tables(file: &[u8], coords: usize, corners: usize, at: usize) -> Found
+    requires { ⌜ Counted (now file) coords corners at ⌝ }
+    ensures { λ r. ⌜ Finds (now (file .entry)) r ⌝ }
+{
+    let e = check_run(file, at, coords);
+    match e {
+        Extent::End(i) => {
+            let f = check_run(file, i, corners);
+            match f {
+                Extent::End(j) => {
+                    let a = Run { at, count: coords };
+                    let b = Run {
+                        at: i,
+                        count: corners,
+                    };
+                    find_heights(file, a, b, j)
+                }
+                Extent::Refused(place) => Found::Broken(place),
+            }
+        }
+        Extent::Refused(place) => Found::Broken(place),
+    }
+}
+
+// The first pass: the tables of a part file, or its refusal.
+pub fn find_part(file: &[u8]) -> Found
+    ensures { λ r. ⌜ Finds (now (file .entry)) r ⌝ }
+{
+    let n = read_number(file, 0, WORD);
+    let Number::Value(v, a) = n else {
+        return Found::Broken(0);
+    };
+    let m = read_number(file, a, WORD);
+    let Number::Value(t, b) = m else {
+        return Found::Broken(a);
+    };
+    find_tables(file, 3 * (v as usize), 3 * (t as usize), b)
+}
+
+// The signed number of 32 bits that m stands for.
+fn signed_word(m: u64) -> i32
+    requires { ⌜ m ≤ word ⌝ }
+    ensures { λ r. ⌜ r ≡ unzigzag m ⌝ }
+{
+    signed_of(m) as i32
+}
+
+// Fills the front of a table with signed numbers that were checked.
+pub fn fill_signed(file: &[u8], run: Run, table: &mut [i32])
+    requires { ⌜ Fits signedRun (now file) run (now table) ⌝ }
+    ensures { λ r. ⌜ now (table .exit) ≡ overwrite (valuesOf signedRun (now (file .entry)) run) (now (table .entry)) ⌝ }
+{
+    let mut i = run.at;
+    let mut k: usize = 0;
+    let mut left = run.count;
+    while 0 < left {
+        let n = read_number(file, i, WORD);
+        let Number::Value(m, next) = n else {
+            return;
+        };
+        let z = signed_word(m);
+        table[k] = z;
+        i = next;
+        k += 1;
+        left -= 1;
+    }
+}
+
+// Fills the front of a table with corners that were checked.
+pub fn fill_corners(file: &[u8], run: Run, corners: &mut [u32])
+    requires { ⌜ Fits plainRun (now file) run (now corners) ⌝ }
+    ensures { λ r. ⌜ now (corners .exit) ≡ overwrite (valuesOf plainRun (now (file .entry)) run) (now (corners .entry)) ⌝ }
+{
+    let mut i = run.at;
+    let mut c: usize = 0;
+    let mut unread = run.count;
+    while 0 < unread {
+        let n = read_number(file, i, WORD);
+        let Number::Value(v, next) = n else {
+            return;
+        };
+        corners[c] = v as u32;
+        i = next;
+        c += 1;
+        unread -= 1;
+    }
+}
