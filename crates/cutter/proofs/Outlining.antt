@@ -29,10 +29,7 @@ use Rattle.cutter.specs.declared.Sliced.{Sliced}
 use Rattle.cutter.specs.declared.Sliced.the-variants.{Layer}
 use Rattle.cutter.specs.Cut.{metAt, used, contoursOf, answer, after, Leaves}
 use Rattle.cutter.specs.Outlines.{Long, Outlined, Traces}
-
-pub used-fine : (n : ℕ) (t : Traced) (rs : List (List ℕ)) → t ≡ contours rs → verdict (used n t ∷ []) ≡ Fine
-unfolding metAt
-used-fine n t rs e = ap (λ (u : Traced). verdict (used n u ∷ [])) e ∙ sym (verdict-one (used n (contours rs))) ∙ sym (nowhere-fine (used n (contours rs)) (λ i l. refl))
+use Rattle.cutter.specs.OutlineLaws.{used-fine}
 
 module _ (coords : List ℤ) (corners : List ℕ) (h : ℤ) (names : List ℕ) (points : List ℤ) (ends marks : List ℕ) (o : Outlined coords corners h marks)
     (l : Long (length corners) (length names) (length points) (length ends) (length marks)) where

@@ -1,13 +1,11 @@
--- What the code's branches say of room, and what a passed test of room gives.
+-- What the code's branches say of room.
 use Prim.Native.Nat.{ℕ, _*_, _/_, _<_, _≤_}
 use mathlib.Core.Path.{_≡_, sym, _∙_}
 use mathlib.Core.Bool.{Bool, true, false, _&&_}
 use native.Mathlib.Omega.{arith}
 use borrow.Author.Tests.{leb-true, le-leb, lt-leb}
 use lib.Dec.{leb}
-use Rattle.laws.specs.Booleans.{and-parts}
 use Rattle.cutter.specs.Cut.{roomFor}
-use Rattle.cutter.specs.Outlines.{Long}
 
 module _ (n names points ends marks : ℕ) where
   pub room-1 : names < n → false ≡ roomFor n names points ends marks
@@ -25,11 +23,3 @@ module _ (n names points ends marks : ℕ) where
   pub room-4 : n ≤ names → n ≤ points / 2 → n ≤ ends → leb n marks ≡ roomFor n names points ends marks
   unfolding roomFor
   room-4 a b c = simp (le-leb n names a, le-leb (2 * n) points (omega arith), le-leb n ends c)
-
-  pub room-long : roomFor n names points ends marks ≡ true → Long n names points ends marks
-  unfolding roomFor
-  room-long e =
-      let p = and-parts _ _ e in
-      let q = and-parts _ _ (p .0) in
-      let r = and-parts _ _ (q .0) in
-      record { names-long = leb-true _ _ (r .0); points-long = leb-true _ _ (r .1); ends-long = leb-true _ _ (q .1); marks-long = leb-true _ _ (p .1) }

@@ -30,72 +30,13 @@ use Rattle.cutter.specs.declared.Sliced.the-variants.{Refused as Turned}
 use Rattle.cutter.specs.Cut.{roomFor, tests, used, section, contoursOf, refusals, answer, cleared, after, Leaves, Cuts}
 use Rattle.cutter.specs.Outlines.{Long, Outlined, Traces}
 use Rattle.cutter.specs.SolidLaws.{crossing-climbs}
-use Rattle.cutter.proofs.Rooms.{room-long}
-use Rattle.cutter.proofs.Outlining.{used-fine}
+use Rattle.cutter.specs.OutlineLaws.{room-long, kept}
 
 -- a signed argument as the code holds it
 abbrev pub held : ℤ → ℤ
 held z = toZ w32 (ofZ w32 z)
 
--- the marks table is as long as before
-pub long-links : {n names points ends marks marks₀ : ℕ} → Long n names points ends marks₀ → marks ≡ marks₀ → Long n names points ends marks
-long-links l e = record { names-long = l .names-long; points-long = l .points-long; ends-long = l .ends-long; marks-long = omega (arith, l .marks-long) }
-
--- a right mesh is never refused with 16
-section-fine : (coords : List ℤ) (corners pairing : List ℕ) (h : ℤ) → Right coords corners pairing → verdict (used (length corners) (section coords corners pairing h) ∷ []) ≡ Fine
-section-fine coords corners pairing h right =
-    let l = trace-layer (below coords h) corners pairing (right .linked) in
-    used-fine (length corners) (section coords corners pairing h) (l .0) (l .1 .0)
-
--- ---- the ring table of a height
-
-module _ (coords : List ℤ) (corners pairing : List ℕ) (h : ℤ) (right : Right coords corners pairing) (links links₀ : List ℕ)
-    (is : links ≡ refill (length corners) (ringEntry (under coords h 0) corners pairing) links₀) where
-  entry-at : (c : ℕ) → c < length corners → getD links c 0 ≡ ringEntry (below coords h) corners pairing c
-  entry-at c l =
-      ap (λ (t : List ℕ). getD t c 0) is ∙ refill-at (length corners) (ringEntry (under coords h 0) corners pairing) links₀ c 0 l
-      ∙ ap (λ (p : ℕ → Bool). ringEntry p corners pairing c) (sym (below-under coords h))
-
-  pub outlined : Outlined coords corners h links
-  outlined =
-      record {
-        few = right .named .whole .few;
-        leads = table-leads (below coords h) corners pairing (right .linked) links entry-at;
-        climbs = λ c x. crossing-climbs coords corners h pairing right c
-            (record { below = x .below; upward = link-rises (below coords h) corners pairing (right .linked) links entry-at c (x .below) ∙ x .upward });
-      }
-
-  pub section-is : traceLinks (length corners) links ≡ section coords corners pairing h
-  section-is = sym (table-trace (below coords h) corners pairing (right .linked) links entry-at)
-
-  -- marks are zeroed over the ring table as over what stood there before
-  over : after (verdict (used (length corners) (section coords corners pairing h) ∷ [])) (replicate (length corners) 0) (length corners) 0 links
-      ≡ after (verdict (used (length corners) (section coords corners pairing h) ∷ [])) (replicate (length corners) 0) (length corners) 0 links₀
-  unfolding after
-  over =
-      let f = section-fine coords corners pairing h right in
-      let z : length {A = ℕ} (replicate (length corners) 0) ≡ length corners = length-replicate {A = ℕ} (length corners) 0 in
-      let e : length {A = ℕ} (replicate (length corners) 0) ≡ length (tabulate (length corners) (ringEntry (under coords h 0) corners pairing)) = z ∙ sym (length-tabulate (length corners) (ringEntry (under coords h 0) corners pairing)) in
-      ap (λ (u : Verdict). after u (replicate (length corners) 0) (length corners) 0 links) f
-      ∙ ap (overwrite (replicate (length corners) 0)) is
-      ∙ overwrite-twice (replicate (length corners) 0) (tabulate (length corners) (ringEntry (under coords h 0) corners pairing)) links₀ e
-      ∙ ap (λ (u : Verdict). after u (replicate (length corners) 0) (length corners) 0 links₀) (sym f)
-
-  -- the same contours, and marks zero over what stood there before the ring table
-  pub sliced : {names : List ℕ} {points : List ℤ} {ends : List ℕ} {result : Sliced} {names′ : List ℕ} {points′ : List ℤ} {ends′ marks′ : List ℕ}
-      → Traces (traceLinks (length corners) links) coords corners h names points ends links result names′ points′ ends′ marks′
-      → Traces (section coords corners pairing h) coords corners h names points ends links₀ result names′ points′ ends′ marks′
-  sliced {names} {points} {ends} {result} {names′} {points′} {ends′} {marks′} s =
-      let r : Traces (section coords corners pairing h) coords corners h names points ends links result names′ points′ ends′ marks′ =
-      subst (λ (t : Traced). Traces t coords corners h names points ends links result names′ points′ ends′ marks′) section-is s in
-      record { answers = r .answers; leaves = record { names-are = r .leaves .names-are; points-are = r .leaves .points-are; ends-are = r .leaves .ends-are; marks-are = r .leaves .marks-are ∙ over } }
-
 -- ---- Cut
-
--- a table that a refusal leaves as it was
-kept : {A : Type 0} {r : Refusal} {u : Verdict} (filled : List A) (n : ℕ) (zero : A) {t : List A} → Refused r ≡ u → cleared r ≡ false → t ≡ after u filled n zero t
-unfolding after
-kept filled n zero {t} a other = ap (λ (b : Bool). cond b (overwrite (replicate n zero) t) t) (sym other) ∙ ap (λ (w : Verdict). after w filled n zero t) a
 
 module _ (coords : List ℤ) (corners pairing : List ℕ) (h : ℤ) (names : List ℕ) (points : List ℤ) (ends marks : List ℕ) (v : Verdict)
     (is : v ≡ verdict (tests coords corners pairing (length names) (length points) (length ends) (length marks))) where

@@ -3,5 +3,6 @@ pub mod Cut
 pub mod Outlines
 pub mod Solid
 pub mod SolidLaws
+pub mod OutlineLaws
 pub mod CutLaws
 pub mod Worked

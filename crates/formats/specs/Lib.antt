@@ -6,6 +6,7 @@ pub mod LayerRules
 pub mod PartFile
 pub mod FormatLaws
 pub mod NumberLaws
+pub mod GroupLaws
 pub mod Positions
 pub mod PositionLaws
 pub mod SequenceLaws

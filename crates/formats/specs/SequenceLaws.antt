@@ -14,7 +14,7 @@ use Rattle.formats.specs.declared.Extent.the-variants.{End, Refused}
 
 -- ---- how far a composite goes, by its parts
 
-extent-mapped : {A B : Type 0} (n : ℕ) (f : A → B) (d : Parse A) → extent n (mapped f d) ≡ extent n d
+pub extent-mapped : {A B : Type 0} (n : ℕ) (f : A → B) (d : Parse A) → extent n (mapped f d) ≡ extent n d
 extent-mapped n f (parsed a r) = refl
 extent-mapped n f (refused r) = refl
 

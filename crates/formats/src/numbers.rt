@@ -51,13 +51,8 @@ pub fn read_number(file: &[u8], at: usize, top: u64) -> Number
 pub fn number_length(n: u64) -> usize
     ensures { λ r. ⌜ r ≡ length (encodeNumber n) ⌝ }
 {
-    let mut v = n;
-    let mut k: usize = 1;
-    while 128 <= v {
-        v = v / 128;
-        k += 1;
-    }
-    k
+    let odd = 2 * (n / 2) + 1;
+    (63 - u64::leading_zeros(odd)) as usize / 7 + 1
 }
 
 // The signed number that m stands for.

@@ -119,6 +119,14 @@ module _ {A : Type 0} where
       let l : length (tabulate n f) ≡ n = length-tabulate n f in
       overwrite-is d (tabulate n f) t t′ e (omega arith) (λ i m. let k : i < n = omega arith in front i k ∙ sym (getD-tabulate n f i d k)) (λ i m. back i (omega arith))
 
+  -- an entry that stays as it was
+  pub refill-kept : (d : A) (n : ℕ) (f : ℕ → A) (t : List A) → n < length t → f n ≡ getD t n d → refill n f t ≡ refill (n + 1) f t
+  refill-kept d n f t h e =
+      let l : length (refill n f t) ≡ length t = length-refill n f t (omega arith) in
+      refill-is d (n + 1) f t (refill n f t) l (omega arith)
+      (λ i m. ⊎-elim (λ k. refill-at n f t i d k) (λ k. let q : i ≡ n = omega arith in ap (λ (j : ℕ). getD (refill n f t) j d) q ∙ refill-past n f t n d (omega arith) ∙ sym e ∙ ap f (sym q)) (split-lt i n))
+      (λ i m. refill-past n f t i d (omega arith))
+
   pub refill-same : (n : ℕ) (f g : ℕ → A) (t : List A) → ((i : ℕ) → i < n → f i ≡ g i) → refill n f t ≡ refill n g t
   refill-same n f g t h = ap (λ (l : List A). overwrite l t) (tabulate-same n f g h)
 

@@ -131,6 +131,15 @@ join-stop ks ls {v} {r} e f = then-refused v (verdict ls) r f ∙ ap (λ (u : Ve
 pub join-next : (ks ls : List Condition) {v w : Verdict} → v ≡ verdict ks → v ≡ Fine → w ≡ verdict ls → w ≡ verdict (ks ++ ls)
 join-next ks ls {v} {w} e f g = g ∙ then-fine v (verdict ls) f ∙ ap (λ (u : Verdict). u then verdict ls) e ∙ sym (verdict-join ks ls)
 
+-- where a list refuses nothing its beginning does not
+pub join-fine : (ks ls : List Condition) → verdict (ks ++ ls) ≡ Fine → verdict ks ≡ Fine
+unfolding _then_
+join-fine ks ls e = by (verdict ks) (sym (verdict-join ks ls) ∙ e)
+  where
+    by : (v : Verdict) → (v then verdict ls) ≡ Fine → v ≡ Fine
+    by Fine q = refl
+    by (Refused r) q = q
+
 -- ---- refused exactly if a listed condition holds
 
 pub first-refused : (ks : List Condition) (r : Refusal) → First ks r → verdict ks ≡ Refused r

@@ -9,12 +9,12 @@ use Rattle.formats.specs.PartFile.{signedRun, plainRun, signedList, countsOf, c
 use Rattle.formats.specs.PartFileLaws.{signedRun-tails, plainRun-tails, partFile-tails, no-vertices, no-triangles, coords-stop, corners-stop}
 use Rattle.formats.specs.Positions.{numberAt, extentAt}
 use Rattle.formats.specs.PositionLaws.{Tails, took, not-took, passed, file-refused, file-left-over}
-use Rattle.formats.specs.SequenceLaws.{headed-next, headed-bad}
+use Rattle.formats.specs.SequenceLaws.{extent-mapped, headed-next, headed-bad}
 use Rattle.formats.specs.declared.Number.the-variants.{Value, Bad}
 use Rattle.formats.specs.declared.Extent.the-variants.{End, Refused}
 use Rattle.parts.specs.declared.internal.Run.{Run}
 use Rattle.parts.specs.Layouts.{values, valuesOf, Counted, Tabled, Laid}
-use Rattle.parts.proofs.Runs.{extent-mapped, signed-extent}
+use Rattle.parts.proofs.Runs.{signed-extent}
 
 -- ---- runs
 

@@ -15,7 +15,7 @@ use Rattle.formats.specs.NumberLaws.{signed-parsed, signed-refused}
 use Rattle.formats.specs.PartFile.{signedRun, plainRun}
 use Rattle.formats.specs.Positions.{numberAt, extent, extentAt}
 use Rattle.formats.specs.PositionLaws.{took, not-took}
-use Rattle.formats.specs.SequenceLaws.{Checking, checking, check-bad, check-next, first, none, parsed-length}
+use Rattle.formats.specs.SequenceLaws.{extent-mapped, Checking, checking, check-bad, check-next, first, none, parsed-length}
 use Rattle.formats.specs.EmitLaws.{Emit, emit-start, emit-one, emit-one-fits, emit-end}
 use Rattle.formats.specs.declared.Number.the-variants.{Value, Bad}
 use Rattle.formats.specs.declared.Extent.{Extent}
@@ -26,10 +26,6 @@ use Rattle.parts.specs.Layouts.{valuesOf, Fits}
 -- ---- the loop that checks
 
 -- signed numbers go as far as plain ones
-pub extent-mapped : {A B : Type 0} (n : ℕ) (f : A → B) (d : Parse A) → extent n (mapped f d) ≡ extent n d
-extent-mapped n f (parsed a r) = refl
-extent-mapped n f (refused r) = refl
-
 same-extent : (len n : ℕ) (l : List ℕ) → extent len (parseAll (alike (signed word)) stay n tt l) ≡ extent len (parseAll (alike (number word)) stay n tt l)
 unfolding parseAll
 same-extent len zero l = refl

@@ -1,5 +1,5 @@
 -- What the C interface answers, by each operation's answer.
-use Prim.Native.Nat.{ℕ, _*_}
+use Prim.Native.Nat.{ℕ, _*_, _^_, _<_}
 use mathlib.Core.Path.{_≡_, refl, sym, ap, _∙_, subst}
 use mathlib.Core.List.{List, [], _∷_}
 use native.Mathlib.Omega.{arith}
@@ -9,7 +9,8 @@ use lib.IntN.{ℤ}
 use mir.Syntax.{w32, w64}
 use mir.Val.{SFits, toZ, ofZ}
 use mir.ValLaws.{toZ-ofZ}
-use Rattle.laws.specs.Machine.{same-in}
+use lib.Signed.{mag}
+use Rattle.laws.specs.Machine.{same, same-in}
 use Rattle.mesh.specs.Refusals.{numberOf, placeOf, verdict}
 use Rattle.mesh.specs.declared.Refusal.{Refusal}
 use Rattle.mesh.specs.declared.Verdict.{Verdict}
@@ -20,7 +21,7 @@ use Rattle.checker.specs.Check as check
 use Rattle.checker.specs.CheckLaws.{accepted-fine, turned-refused}
 use Rattle.section.specs.Contours.{namesOf}
 use Rattle.cutter.specs.declared.Sliced.{Sliced}
-use Rattle.cutter.specs.declared.Sliced.the-variants.{Layer, Refused as Uncut}
+use Rattle.cutter.specs.declared.Sliced.the-variants.{Layer as Cut, Refused as Uncut}
 use Rattle.cutter.specs.Cut as cut
 use Rattle.cutter.specs.CutLaws.{layer-fine, layer-counts, uncut-refused}
 use Rattle.contours.specs.declared.Measured.{Measured}
@@ -31,9 +32,19 @@ use Rattle.contours.specs.Areas.{mostPoints}
 use Rattle.contours.specs.Runs.{largestCross}
 use Rattle.contours.specs.AreaLaws.{area-fine, area-is, area-bound}
 use Rattle.contours.specs.AreaLaws as area-laws
+use Rattle.formats.specs.LayerFile.{Layer}
+use Rattle.formats.specs.LayerRules.{pointTotal}
+use Rattle.formats.specs.PartFile.{Part, countsOf, partOf}
+use Rattle.reader.specs.Reading as reading
+use Rattle.reader.specs.declared.Reading.{Reading}
+use Rattle.reader.specs.declared.Reading.the-variants.{Layer as Found, Refused as Unread}
+use Rattle.parts.specs.Parts as parts
+use Rattle.parts.specs.PartLaws as part-laws
+use Rattle.parts.specs.declared.Parted.{Parted}
+use Rattle.parts.specs.declared.Parted.the-variants.{Counts, Refused as Unparted}
 use Rattle.answers.specs.Answers.{returned, outAfter, wordOf}
 use Rattle.answers.specs.AnswerLaws.{returned-fine, out-fine, returned-refused, out-refused}
-use Rattle.wadroles.specs.Interface.{CheckC, CutC, ContourC, AreaC}
+use Rattle.wadroles.specs.Interface.{CheckC, CutC, ContourC, AreaC, ReadLayerC, ReadPartC}
 
 -- ---- Check
 
@@ -63,7 +74,7 @@ module _ {coords : List ℤ} {corners pairing : List ℕ} {h : ℤ} {names : Lis
   abbrev values : List ℕ
   values = length (cut.contoursOf (cut.section coords corners pairing h)) ∷ length (namesOf (cut.contoursOf (cut.section coords corners pairing h))) ∷ []
 
-  pub cut-layer : {i j : ℕ} → result ≡ Layer i j → CutC coords corners pairing h names points ends marks out 0 names′ points′ ends′ marks′ (set (set out 0 i) 1 j)
+  pub cut-layer : {i j : ℕ} → result ≡ Cut i j → CutC coords corners pairing h names points ends marks out 0 names′ points′ ends′ marks′ (set (set out 0 i) 1 j)
   cut-layer {i} {j} e =
       let f = layer-fine _ _ (sym e ∙ k .answers) in
       let n = layer-counts _ _ (sym e ∙ k .answers) in
@@ -90,3 +101,79 @@ module _ (points : List ℤ) (out : List ℕ) {result : Measured} (k : result �
   area-refused {r} e a b =
       let f = area-laws.turned-refused (verdict (areas.refusals points)) (areas.areaOf points) r (sym k ∙ e) in
       record { returns = returned-refused f a; writes = out-refused f (wordOf (areas.areaOf points) ∷ []) out b }
+
+-- ---- Read layer
+
+-- a height that was cast to 64 bits
+pub told-wide : (z : ℤ) → mag z < 2 ^ 31 → SFits w64 (toZ w32 (ofZ w32 z))
+told-wide z f = subst (SFits w64) (sym (same w32 z f)) (record { sfits = omega arith })
+
+pub told-same : (z : ℤ) → mag z < 2 ^ 31 → toZ w64 (ofZ w64 (toZ w32 (ofZ w32 z))) ≡ z
+told-same z f = toZ-ofZ w64 (toZ w32 (ofZ w32 z)) (told-wide z f) ∙ same w32 z f
+
+pub read-fine : (v : Verdict) (ls : List Layer) (i : ℕ) {n j k : ℕ} {z : ℤ} → Found n z j k ≡ reading.answer v ls i
+    → (v ≡ Fine) × ((n ≡ length ls) × ((z ≡ reading.layerAt ls i .height) × ((j ≡ length (reading.layerAt ls i .contours)) × (k ≡ pointTotal (reading.layerAt ls i .contours)))))
+unfolding reading.answer
+read-fine Fine ls i e = (refl, (cc, (cc, (cc, cc))))
+read-fine (Refused r) ls i e = absurd (let z : _≡_ {A = ℕ} 0 1 = cc in omega arith)
+
+pub unread-refused : (v : Verdict) (ls : List Layer) (i : ℕ) (r : Refusal) → Unread r ≡ reading.answer v ls i → v ≡ Refused r
+unfolding reading.answer
+unread-refused Fine ls i r e = absurd (let z : _≡_ {A = ℕ} 0 1 = cc in omega arith)
+unread-refused (Refused q) ls i r e = cc
+
+module _ {file : List ℕ} {i : ℕ} {points : List ℤ} {ends : List ℕ} {result : Reading} {points′ : List ℤ} {ends′ : List ℕ} (out : List ℕ)
+    (r : reading.Reads file i points ends result points′ ends′) where
+  pub read-layer : {n j k : ℕ} {z : ℤ} {w : ℕ} → result ≡ Found n z j k → w ≡ wordOf z → ReadLayerC file i points ends out 0 points′ ends′ (set (set (set (set out 0 n) 1 w) 2 j) 3 k)
+  read-layer {n} {j} {k} {z} {w} e q =
+      let f = read-fine _ (reading.layersIn file) i (sym e ∙ r .answers) in
+      record {
+        returns = returned-fine (f .0);
+        writes = out-fine (f .0) (length (reading.layersIn file) ∷ wordOf (reading.layerAt (reading.layersIn file) i .height) ∷ length (reading.layerAt (reading.layersIn file) i .contours) ∷ pointTotal (reading.layerAt (reading.layersIn file) i .contours) ∷ []) out
+            (λ t. set (set (set (set out 0 (f .1 .0 t)) 1 ((q ∙ ap wordOf (f .1 .1 .0)) t)) 2 (f .1 .1 .1 .0 t)) 3 (f .1 .1 .1 .1 t));
+        fills-points = r .fills-points;
+        fills-ends = r .fills-ends;
+      }
+
+  pub read-refused : {q : Refusal} {n : ℕ} {out′ : List ℕ} → result ≡ Unread q → n ≡ numberOf q → out′ ≡ set out 0 (placeOf q) → ReadLayerC file i points ends out n points′ ends′ out′
+  read-refused {q} e a b =
+      let f = unread-refused _ (reading.layersIn file) i q (sym e ∙ r .answers) in
+      record {
+        returns = returned-refused f a;
+        writes = out-refused f (length (reading.layersIn file) ∷ wordOf (reading.layerAt (reading.layersIn file) i .height) ∷ length (reading.layerAt (reading.layersIn file) i .contours) ∷ pointTotal (reading.layerAt (reading.layersIn file) i .contours) ∷ []) out b;
+        fills-points = r .fills-points;
+        fills-ends = r .fills-ends;
+      }
+
+-- ---- Read part
+
+pub part-counts : (v : Verdict) (p : Part) {a b c : ℕ} → Counts a b c ≡ parts.answer v p → (a ≡ countsOf p .0) × ((b ≡ countsOf p .1) × (c ≡ length (p .heights)))
+unfolding parts.answer
+part-counts Fine p e = (cc, (cc, cc))
+part-counts (Refused r) p e = absurd (let z : _≡_ {A = ℕ} 0 1 = cc in omega arith)
+
+module _ {file : List ℕ} {coords : List ℤ} {corners : List ℕ} {heights : List ℤ} {result : Parted} {coords′ : List ℤ} {corners′ : List ℕ} {heights′ : List ℤ} (out : List ℕ)
+    (r : parts.Reads file coords corners heights result coords′ corners′ heights′) where
+  pub part-read : {a b c : ℕ} → result ≡ Counts a b c → ReadPartC file coords corners heights out 0 coords′ corners′ heights′ (set (set (set out 0 a) 1 b) 2 c)
+  part-read {a} {b} {c} e =
+      let f = part-laws.counts-fine _ (parts.held (partOf file)) a b c (sym e ∙ r .answers) in
+      let n = part-counts _ (parts.held (partOf file)) (sym e ∙ r .answers) in
+      record {
+        returns = returned-fine f;
+        writes = out-fine f (countsOf (parts.held (partOf file)) .0 ∷ countsOf (parts.held (partOf file)) .1 ∷ length (parts.held (partOf file) .heights) ∷ []) out
+            (λ t. set (set (set out 0 (n .0 t)) 1 (n .1 .0 t)) 2 (n .1 .1 t));
+        coords-are = r .coords-are;
+        corners-are = r .corners-are;
+        heights-are = r .heights-are;
+      }
+
+  pub part-refused : {q : Refusal} {n : ℕ} {out′ : List ℕ} → result ≡ Unparted q → n ≡ numberOf q → out′ ≡ set out 0 (placeOf q) → ReadPartC file coords corners heights out n coords′ corners′ heights′ out′
+  part-refused {q} e a b =
+      let f = part-laws.turned-refused _ (parts.held (partOf file)) q (sym e ∙ r .answers) in
+      record {
+        returns = returned-refused f a;
+        writes = out-refused f (countsOf (parts.held (partOf file)) .0 ∷ countsOf (parts.held (partOf file)) .1 ∷ length (parts.held (partOf file) .heights) ∷ []) out b;
+        coords-are = r .coords-are;
+        corners-are = r .corners-are;
+        heights-are = r .heights-are;
+      }

@@ -13,6 +13,10 @@ use Rattle.section.specs.Contours.{namesOf}
 use Rattle.cutter.specs.Cut as cut
 use Rattle.contours.specs.Contours.{firstOf, spanOf}
 use Rattle.contours.specs.Areas as areas
+use Rattle.formats.specs.LayerRules.{pointTotal}
+use Rattle.formats.specs.PartFile.{countsOf, partOf}
+use Rattle.reader.specs.Reading as reading
+use Rattle.parts.specs.Parts as parts
 use Rattle.answers.specs.Answers.{returned, outAfter, wordOf}
 
 -- wadroles_check: no values
@@ -40,3 +44,21 @@ pub record ContourC (points : List ℤ) (ends : List ℕ) (j : ℕ) (out : List 
 pub record AreaC (points : List ℤ) (out : List ℕ) (result : ℕ) (out′ : List ℕ) : Type 0 where
   pub returns : result ≡ returned (verdict (areas.refusals points))
   pub writes : out′ ≡ outAfter (verdict (areas.refusals points)) (wordOf (areas.areaOf points) ∷ []) out
+
+-- wadroles_read_layer: the layer count, the layer's height and its counts of contours and points
+pub record ReadLayerC (file : List ℕ) (i : ℕ) (points : List ℤ) (ends out : List ℕ) (result : ℕ) (points′ : List ℤ) (ends′ out′ : List ℕ) : Type 0 where
+  pub returns : result ≡ returned (verdict (reading.refusals file i (length points) (length ends)))
+  pub writes : out′ ≡ outAfter (verdict (reading.refusals file i (length points) (length ends)))
+      (length (reading.layersIn file) ∷ wordOf (reading.layerAt (reading.layersIn file) i .height) ∷ length (reading.layerAt (reading.layersIn file) i .contours)
+      ∷ pointTotal (reading.layerAt (reading.layersIn file) i .contours) ∷ []) out
+  pub fills-points : points′ ≡ reading.after (verdict (reading.refusals file i (length points) (length ends))) (reading.pointsOf (reading.layerAt (reading.layersIn file) i .contours)) points
+  pub fills-ends : ends′ ≡ reading.after (verdict (reading.refusals file i (length points) (length ends))) (reading.endsFrom 0 (reading.layerAt (reading.layersIn file) i .contours)) ends
+
+-- wadroles_read_part: the counts of vertices, triangles and heights
+pub record ReadPartC (file : List ℕ) (coords : List ℤ) (corners : List ℕ) (heights : List ℤ) (out : List ℕ) (result : ℕ) (coords′ : List ℤ) (corners′ : List ℕ) (heights′ : List ℤ) (out′ : List ℕ) : Type 0 where
+  pub returns : result ≡ returned (verdict (parts.refusals file coords corners heights))
+  pub writes : out′ ≡ outAfter (verdict (parts.refusals file coords corners heights))
+      (countsOf (parts.held (partOf file)) .0 ∷ countsOf (parts.held (partOf file)) .1 ∷ length (parts.held (partOf file) .heights) ∷ []) out
+  pub coords-are : coords′ ≡ parts.after (verdict (parts.refusals file coords corners heights)) (parts.held (partOf file) .coords) coords
+  pub corners-are : corners′ ≡ parts.after (verdict (parts.refusals file coords corners heights)) (parts.held (partOf file) .corners) corners
+  pub heights-are : heights′ ≡ parts.after (verdict (parts.refusals file coords corners heights)) (parts.held (partOf file) .heights) heights

@@ -1,11 +1,13 @@
 // The C interface. Every function returns 0 or the refusal's number, and fills `out`: the place on refusal, the values on success.
 ghost use mathlib.Core.Path.{_≡_};
-ghost use Rattle.wadroles.specs.Interface.{CheckC, CutC, ContourC, AreaC};
+ghost use Rattle.wadroles.specs.Interface.{CheckC, CutC, ContourC, AreaC, ReadLayerC, ReadPartC};
 use answers::refuse;
 use answers::word;
 use checker::Checked;
 use contours::Measured;
 use cutter::Sliced;
+use parts::Parted;
+use reader::Reading;
 
 #[no_mangle]
 pub extern "C" fn wadroles_check(
@@ -77,5 +79,50 @@ pub extern "C" fn wadroles_area(points: &[i32], out: &mut [u64; 4]) -> u32
             0
         }
         Measured::Refused(r) => refuse(r, out),
+    }
+}
+
+#[no_mangle]
+pub extern "C" fn wadroles_read_layer(
+    file: &[u8],
+    i: usize,
+    points: &mut [i32],
+    ends: &mut [u32],
+    out: &mut [u64; 4],
+) -> u32
+    ensures { λ r. ⌜ ReadLayerC (now (file .entry)) i (now (points .entry)) (now (ends .entry)) (now (out .entry)) r (now (points .exit)) (now (ends .exit)) (now (out .exit)) ⌝ }
+{
+    let a = reader::read_layer(file, i, points, ends);
+    match a {
+        Reading::Layer(n, z, j, k) => {
+            out[0] = n as u64;
+            out[1] = word(z as i64);
+            out[2] = j as u64;
+            out[3] = k as u64;
+            0
+        }
+        Reading::Refused(r) => refuse(r, out),
+    }
+}
+
+#[no_mangle]
+pub extern "C" fn wadroles_read_part(
+    file: &[u8],
+    coords: &mut [i32],
+    corners: &mut [u32],
+    heights: &mut [i32],
+    out: &mut [u64; 4],
+) -> u32
+    ensures { λ r. ⌜ ReadPartC (now (file .entry)) (now (coords .entry)) (now (corners .entry)) (now (heights .entry)) (now (out .entry)) r (now (coords .exit)) (now (corners .exit)) (now (heights .exit)) (now (out .exit)) ⌝ }
+{
+    let a = parts::read_part(file, coords, corners, heights);
+    match a {
+        Parted::Counts(v, t, k) => {
+            out[0] = v as u64;
+            out[1] = t as u64;
+            out[2] = k as u64;
+            0
+        }
+        Parted::Refused(r) => refuse(r, out),
     }
 }

@@ -7,7 +7,8 @@ use mir.Val.{toZ, ofZ}
 use mir.ValLaws.{toZ-ofZ}
 use Rattle.cutter.specs.Cut.{section}
 use Rattle.cutter.specs.Outlines.{Traces}
-use Rattle.cutter.proofs.Slicing.{held, outlined, long-links, sliced}
+use Rattle.cutter.specs.OutlineLaws.{outlined, long-links, sliced}
+use Rattle.cutter.proofs.Slicing.{held}
 use borrow.Author.Needs.{needs}
 use Rattle.cutter.proofs.internal.slice.Statement.{statement}
 use Rattle.cutter.proofs.internal.slice.Tie as tie

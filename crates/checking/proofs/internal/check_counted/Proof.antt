@@ -1,0 +1,59 @@
+-- `check_counted` meets its contract.
+use mathlib.Core.Path.{_≡_, sym, _∙_}
+use Rattle.formats.specs.Numbers.{word}
+use Rattle.formats.specs.Positions.{numberAt}
+use Rattle.formats.specs.PositionLaws.{took}
+use Rattle.formats.specs.declared.Number.the-variants.{Value}
+use Rattle.checking.proofs.ContourSteps.{no-contours, contours-stop, room-low, contours-pass}
+use borrow.Author.Needs.{needs}
+use Rattle.checking.proofs.internal.check_counted.Statement.{statement}
+use Rattle.checking.proofs.internal.check_counted.Tie as tie
+
+read-number-requires : tie.Need-read-number-requires
+read-number-requires c κs = search needs
+
+enum-known-n : tie.Need-enum-known-n
+enum-known-n c = search needs
+
+enum-told : tie.Need-enum-told
+enum-told c = search needs
+
+returns : tie.Need-returns
+returns c = no-contours _ _ (c .before .before .before .before .pre) (sym (c .before .before .read-number .ensures) ∙ c .enum-told .given .1)
+
+-- the count read
+count : (c : tie.After-known-told) → numberAt word (c .before .before .before .before .before .args .file .now) (c .before .before .before .before .before .args .at) ≡ Value (c .before .n .given .0 .0) (c .before .n .given .0 .1 .0)
+count c = sym (c .before .before .before .read-number .ensures) ∙ c .before .n .given .1
+
+check-contours-requires : tie.Need-check-contours-requires
+check-contours-requires c κs = took _ _ _ _ _ (count c) .inside
+
+enum-known-c : tie.Need-enum-known-c
+enum-known-c c = search needs
+
+sub-t11 : tie.Need-sub-t11
+sub-t11 c = room-low _ _ (c .before .before .before .before .before .before .before .before .before .pre) _ _ (count (c .before .before .before .before)) _ _ (sym (c .before .before .before .check-contours .ensures) ∙ c .before .c .given .1)
+
+enum-known-c-2 : tie.Need-enum-known-c-2
+enum-known-c-2 c = search needs
+
+returns-2 : tie.Need-returns-2
+returns-2 c = contours-pass _ _ (c .before .before .before .before .before .before .before .before .before .pre) _ _ (count (c .before .before .before .before)) _ _ (sym (c .before .before .before .check-contours .ensures) ∙ c .before .c .given .1)
+
+returns-3 : tie.Need-returns-3
+returns-3 c = contours-stop _ _ (c .before .before .before .before .before .before .before .before .before .pre) _ _ (count (c .before .before .before .before)) _ (sym (c .before .before .before .check-contours .ensures) ∙ c .before .c2 .given .1)
+
+pub check-counted-spec : {M : Type 1} → statement M
+check-counted-spec =
+    tie.close
+    (tie.spec
+    read-number-requires
+    enum-known-n
+    enum-told
+    returns
+    check-contours-requires
+    enum-known-c
+    sub-t11
+    enum-known-c-2
+    returns-2
+    returns-3)

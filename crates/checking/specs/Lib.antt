@@ -1,0 +1,3 @@
+-- What the functions of this crate answer, and what follows from their answers.
+pub mod Answers
+pub mod AnswerLaws

@@ -1,0 +1,84 @@
+-- `check_from` meets its contract.
+use mathlib.Core.Path.{_≡_, sym, ap, _∙_}
+use native.Mathlib.Omega.{arith}
+use lib.IntN.{ℤ}
+use mir.Syntax.{w64}
+use mir.ValLaws.{toZ-ofZ}
+use Rattle.laws.specs.Machine.{same}
+use Rattle.checking.specs.Answers.{heightAt, countsAt}
+use Rattle.checking.specs.AnswerLaws.{height-inside, layer-no-height, layer-no-contours}
+use Rattle.checking.specs.declared.Height.the-variants.{Above}
+use Rattle.checking.specs.declared.Counts.the-variants.{End}
+use Rattle.reader.proofs.LayerSearch.{first-stops, next-inside, last-stops, last-passes}
+use borrow.Author.Needs.{needs}
+use Rattle.reader.proofs.internal.check_from.Statement.{statement}
+use Rattle.reader.proofs.internal.check_from.Tie as tie
+
+read-height-requires : tie.Need-read-height-requires
+read-height-requires c κs = search needs
+
+enum-known-h : tie.Need-enum-known-h
+enum-known-h c = search needs
+
+enum-told : tie.Need-enum-told
+enum-told c = search needs
+
+-- what `read_height` answered, of `low` as it was given
+answer : (c : tie.After-read-height) → heightAt (c .before .before .args .low) (c .before .before .args .file .now) (c .before .before .args .at) ≡ c .read-height .result
+answer c = sym (c .read-height .ensures ∙ ap (λ (z : ℤ). heightAt z (c .before .before .args .file .now) (c .before .before .args .at)) (toZ-ofZ w64 (c .before .before .args .low) (c .before .before .fits .low)))
+
+returns : tie.Need-returns
+returns c = first-stops (c .before .before .before .before .args .more) (c .before .before .before .before .args .low) _ _ _ (layer-no-height _ _ _ (c .before .before .before .before .pre) (answer (c .before .before) ∙ c .enum-told .given .1))
+
+-- the height read
+height : (c : tie.After-known-told) → heightAt (c .before .before .before .before .before .args .low) (c .before .before .before .before .before .args .file .now) (c .before .before .before .before .before .args .at) ≡ Above (c .before .h .given .0 .0) (c .before .h .given .0 .1 .0)
+height c = answer (c .before .before .before) ∙ c .before .h .given .1
+
+check-counted-requires : tie.Need-check-counted-requires
+check-counted-requires c κs = height-inside _ _ _ (c .before .before .before .before .before .pre) _ _ (height c)
+
+enum-known-c : tie.Need-enum-known-c
+enum-known-c c = search needs
+
+enum-known-c-2 : tie.Need-enum-known-c-2
+enum-known-c-2 c = search needs
+
+-- the counts of contours and points
+counts : (c : tie.After-known-told3) → countsAt (c .before .before .before .before .before .before .before .before .before .args .file .now) (c .before .before .before .before .before .h .given .0 .1 .0) ≡ End (c .before .c2 .given .0 .0) (c .before .c2 .given .0 .1 .0) (c .before .c2 .given .0 .1 .1 .0)
+counts c = sym (c .before .before .before .check-counted .ensures) ∙ c .before .c2 .given .1
+
+check-last-requires : tie.Need-check-last-requires
+check-last-requires c κs = next-inside (c .before .before .before .before .before .before .before .before .before .args .more) _ _ _ (c .before .before .before .before .before .before .before .before .before .pre) _ _ (height (c .before .before .before .before)) _ _ _ (counts c)
+
+enum-known-rest : tie.Need-enum-known-rest
+enum-known-rest c = search needs
+
+enum-told-2 : tie.Need-enum-told-2
+enum-told-2 c = search needs
+
+returns-2 : tie.Need-returns-2
+returns-2 c = first-stops (c .before .before .before .before .before .before .before .before .before .args .more) (c .before .before .before .before .before .before .before .before .before .args .low) _ _ _ (layer-no-contours _ _ _ (c .before .before .before .before .before .before .before .before .before .pre) _ _ (height (c .before .before .before .before)) _ (sym (c .before .before .before .check-counted .ensures) ∙ c .before .c .given .1))
+
+returns-3 : tie.Need-returns-3
+returns-3 c = last-stops (c .before .before .before .before .before .before .before .before .before .before .before .before .before .args .more) _ _ _ (c .before .before .before .before .before .before .before .before .before .before .before .before .before .pre) _ _ (height (c .before .before .before .before .before .before .before .before)) _ _ _ (counts (c .before .before .before .before)) _ (same w64 (c .before .before .before .before .before .before .before .before .before .h .given .0 .0) (omega arith)) _ (sym (c .before .before .before .check-last .ensures) ∙ c .before .rest .given .1)
+
+returns-4 : tie.Need-returns-4
+returns-4 c = last-passes (c .before .before .before .before .before .before .before .before .before .before .before .before .args .more) _ _ _ (c .before .before .before .before .before .before .before .before .before .before .before .before .pre) _ _ (height (c .before .before .before .before .before .before .before)) _ _ _ (counts (c .before .before .before)) _ (same w64 (c .before .before .before .before .before .before .before .before .h .given .0 .0) (omega arith)) _ (sym (c .before .before .check-last .ensures) ∙ c .enum-told2 .given .1)
+
+pub check-from-spec : {M : Type 1} → statement M
+check-from-spec =
+    tie.close
+    (tie.spec
+    read-height-requires
+    enum-known-h
+    enum-told
+    returns
+    check-counted-requires
+    enum-known-c
+    enum-known-c-2
+    check-last-requires
+    enum-known-rest
+    enum-told-2
+    returns-2
+    returns-3
+    returns-4)

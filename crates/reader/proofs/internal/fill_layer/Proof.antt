@@ -1,0 +1,124 @@
+-- `fill_layer` meets its contract.
+use mathlib.Core.Path.{_≡_, sym, _∙_}
+use Prim.Native.Nat.{_-_}
+use native.Mathlib.Omega.{arith}
+use Rattle.formats.specs.LayerFile.{mostPoints}
+use Rattle.formats.specs.Positions.{numberAt}
+use Rattle.formats.specs.declared.Number.the-variants.{Value}
+use Rattle.reader.proofs.LayerFills.{Filling, filling, count-there, filled, end-fits, points-there, still-low, fill-ready, next-contour}
+use borrow.Author.Needs.{needs}
+use Rattle.reader.proofs.internal.fill_layer.Statement.{statement}
+use Rattle.reader.proofs.internal.fill_layer.Tie as tie
+
+abbrev Inv-loop : tie.InvT-loop
+Inv-loop file at points₀ ends₀ count start i₀ done₀ c₀ points ends i done c = Filling file at points₀ ends₀ count points ends i done c
+
+abbrev μ-loop : tie.MeasureT-loop
+μ-loop file at points₀ ends₀ count start i₀ done₀ c₀ points ends i done c = count - c
+
+read-number-requires : tie.Need-read-number-requires Inv-loop μ-loop
+read-number-requires c κs = search needs
+
+enum-known-n : tie.Need-enum-known-n Inv-loop μ-loop
+enum-known-n c = search needs
+
+enum-told : tie.Need-enum-told Inv-loop μ-loop
+enum-told c = search needs
+
+returns : tie.Need-returns Inv-loop μ-loop
+returns c = absurd (count-there (c .before .before .before .before .before .pre) (sym (c .before .before .read-number .ensures) ∙ c .enum-told .given .1))
+
+loop-holds : tie.Need-loop-holds Inv-loop μ-loop
+loop-holds c = filling (c .before .before .before .before .before .before .pre) _ _ (sym (c .before .before .before .read-number .ensures) ∙ c .before .n .given .1)
+
+sub-read-number : tie.Need-sub-read-number Inv-loop μ-loop
+sub-read-number c = c .before .loop .inv .low
+
+read-number-requires-2 : tie.Need-read-number-requires-2 Inv-loop μ-loop
+read-number-requires-2 c κs = search needs
+
+enum-known-m : tie.Need-enum-known-m Inv-loop μ-loop
+enum-known-m c = search needs
+
+enum-told-2 : tie.Need-enum-told-2 Inv-loop μ-loop
+enum-told-2 c = search needs
+
+same-length : tie.Need-same-length Inv-loop μ-loop
+same-length c = c .before .before .before .before .loop .inv .points-go .size
+
+same-length-2 : tie.Need-same-length-2 Inv-loop μ-loop
+same-length-2 c = c .before .before .before .before .loop .inv .ends-go .size
+
+returns-2 : tie.Need-returns-2 Inv-loop μ-loop
+returns-2 c = absurd (points-there (c .before .before .before .before .loop .inv) (c .before .before .before .loop-test .taken) (sym (c .before .before .read-number2 .ensures) ∙ c .enum-told2 .given .1))
+
+-- the contour's count of points
+count : (c : tie.After-known-told2 Inv-loop μ-loop) → numberAt (mostPoints - c .before .before .before .before .before .loop .done) (c .before .before .before .before .before .before .before .before .before .before .before .before .args .file .now) (c .before .before .before .before .before .loop .i) ≡ Value (c .before .m .given .0 .0) (c .before .m .given .0 .1 .0)
+count c = sym (c .before .before .before .read-number2 .ensures) ∙ c .before .m .given .1
+
+mul-fill-points : tie.Need-mul-fill-points Inv-loop μ-loop
+mul-fill-points c = omega (arith, c .before .before .before .before .before .before .loop .inv .low)
+
+fill-points-requires : tie.Need-fill-points-requires Inv-loop μ-loop
+fill-points-requires c κs = fill-ready (c .before .before .before .before .before .before .loop .inv) (c .before .before .before .before .before .loop-test .taken) _ _ (count (c .before))
+
+add-done : tie.Need-add-done Inv-loop μ-loop
+add-done c = omega (arith, still-low (c .before .before .before .before .before .before .before .before .loop .inv) (c .before .before .before .before .before .before .before .loop-test .taken) _ _ (count (c .before .before .before)))
+
+cast-ends : tie.Need-cast-ends Inv-loop μ-loop
+cast-ends c = omega (arith, still-low (c .before .before .before .before .before .before .before .before .loop .inv) (c .before .before .before .before .before .before .before .loop-test .taken) _ _ (count (c .before .before .before)))
+
+mul-ends : tie.Need-mul-ends Inv-loop μ-loop
+mul-ends c = search needs
+
+slice-write-ends : tie.Need-slice-write-ends Inv-loop μ-loop
+slice-write-ends c = end-fits (c .before .before .before .before .before .before .before .before .loop .inv) (c .before .before .before .before .before .before .before .loop-test .taken)
+
+add-c : tie.Need-add-c Inv-loop μ-loop
+add-c c = search needs
+
+loop-less : tie.Need-loop-less Inv-loop μ-loop
+loop-less c = search needs
+
+loop-again : tie.Need-loop-again Inv-loop μ-loop
+loop-again c = next-contour (c .before .before .before .before .before .before .before .before .loop .inv) (c .before .before .before .before .before .before .before .loop-test .taken) _ _ (count (c .before .before .before)) _ _ (c .before .fill-points .ensures)
+
+same-length-3 : tie.Need-same-length-3 Inv-loop μ-loop
+same-length-3 c = c .before .loop .inv .points-go .size
+
+same-length-4 : tie.Need-same-length-4 Inv-loop μ-loop
+same-length-4 c = c .before .loop .inv .ends-go .size
+
+returns-3 : tie.Need-returns-3 Inv-loop μ-loop
+returns-3 c = filled (c .before .loop .inv) (c .loop-test .left)
+
+pub fill-layer-spec : {M : Type 1} → statement M
+fill-layer-spec =
+    tie.close
+    (tie.spec
+    Inv-loop
+    μ-loop
+    read-number-requires
+    enum-known-n
+    enum-told
+    returns
+    loop-holds
+    sub-read-number
+    read-number-requires-2
+    enum-known-m
+    enum-told-2
+    same-length
+    same-length-2
+    returns-2
+    mul-fill-points
+    fill-points-requires
+    add-done
+    cast-ends
+    mul-ends
+    slice-write-ends
+    add-c
+    loop-less
+    loop-again
+    same-length-3
+    same-length-4
+    returns-3)

@@ -1,0 +1,74 @@
+-- `find_layer` meets its contract.
+use mathlib.Core.Path.{_≡_, sym, _∙_}
+use native.Mathlib.Omega.{arith}
+use mir.Syntax.{w64}
+use Rattle.laws.specs.Machine.{same}
+use Rattle.formats.specs.LayerFile.{lowest}
+use Rattle.checking.specs.Answers.{levelsAt}
+use Rattle.checking.specs.AnswerLaws.{levels-off}
+use Rattle.checking.specs.declared.Levels.the-variants.{End}
+use Rattle.reader.proofs.LayerSearch.{before-inside, before-stops, before-passes, none-there, all-stop}
+use borrow.Author.Needs.{needs}
+use Rattle.reader.proofs.internal.find_layer.Statement.{statement}
+use Rattle.reader.proofs.internal.find_layer.Tie as tie
+
+check-layers-requires : tie.Need-check-layers-requires
+check-layers-requires c κs = search needs
+
+enum-known-b : tie.Need-enum-known-b
+enum-known-b c = search needs
+
+sub-check-from : tie.Need-sub-check-from
+sub-check-from c = search needs
+
+sub-check-from-2 : tie.Need-sub-check-from-2
+sub-check-from-2 c = search needs
+
+-- the layers before layer i
+before : (c : tie.After-known-told) → levelsAt (c .before .before .before .before .before .before .args .i) lowest (c .before .before .before .before .before .before .args .file .now) (c .before .before .before .before .before .before .args .at) ≡ End (c .before .b .given .0 .0) (c .before .b .given .0 .1 .0)
+before c = sym (c .before .before .before .check-layers .ensures) ∙ c .before .b .given .1
+
+check-from-requires : tie.Need-check-from-requires
+check-from-requires c κs = before-inside (c .before .before .before .before .before .before .args .count) (c .before .before .before .before .before .before .args .i) lowest _ _ (c .before .before .before .before .before .before .pre) _ _ (before c)
+
+enum-known-b-2 : tie.Need-enum-known-b-2
+enum-known-b-2 c = search needs
+
+returns : tie.Need-returns
+returns c = before-passes _ _ _ _ _ (c .before .before .before .before .before .before .before .pre) _ _ (before (c .before)) (c .before .before .before .before .before .if1 .taken) _ (same w64 (c .before .before .b .given .0 .1 .0) (omega arith)) _ (c .check-from .ensures)
+
+returns-2 : tie.Need-returns-2
+returns-2 c = before-stops _ _ _ _ _ (c .before .before .before .before .if1 .taken) _ (levels-off _ _ _ _ _ (sym (c .before .before .before .check-layers .ensures) ∙ c .before .b2 .given .1))
+
+check-last-requires : tie.Need-check-last-requires
+check-last-requires c κs = search needs
+
+enum-told : tie.Need-enum-told
+enum-told c = search needs
+
+enum-known-c : tie.Need-enum-known-c
+enum-known-c c = search needs
+
+returns-3 : tie.Need-returns-3
+returns-3 c = none-there _ _ _ _ _ (c .before .before .before .if1 .left) _ (sym (c .before .before .check-last .ensures) ∙ c .enum-told .given .1)
+
+returns-4 : tie.Need-returns-4
+returns-4 c = all-stop _ _ _ _ _ _ (sym (c .before .before .before .check-last .ensures) ∙ c .before .c .given .1)
+
+pub find-layer-spec : {M : Type 1} → statement M
+find-layer-spec =
+    tie.close
+    (tie.spec
+    check-layers-requires
+    enum-known-b
+    sub-check-from
+    sub-check-from-2
+    check-from-requires
+    enum-known-b-2
+    returns
+    returns-2
+    check-last-requires
+    enum-told
+    enum-known-c
+    returns-3
+    returns-4)

@@ -1,0 +1,91 @@
+-- Internal: where a layer stands in a file, and what filling the tables from there needs and does.
+use Prim.Native.Nat.{ℕ, _+_, _*_, _-_, _<_, _≤_}
+use mathlib.Core.Path.{_≡_}
+use mathlib.Core.List.{List, []}
+use lib.ListN.{length}
+use lib.Seq.{sets}
+use lib.IntN.{ℤ}
+use Rattle.laws.specs.Tables.{overwrite}
+use Rattle.mesh.specs.Refusals.{verdict}
+use Rattle.mesh.specs.declared.Verdict.the-variants.{Fine, Refused}
+use Rattle.formats.specs.Formats.{Parse, parsed, refused, sequence}
+use Rattle.formats.specs.Numbers.{Word}
+use Rattle.formats.specs.LayerFile.{Point, Layer, point, origin, latest, contourList}
+use Rattle.formats.specs.LayerRules.{pointTotal}
+use Rattle.formats.specs.Positions.{extentAt}
+use Rattle.formats.specs.PositionLaws.{ParsedAt}
+use Rattle.formats.specs.declared.Extent.the-variants.{End}
+use Rattle.checking.specs.Answers.{toldAt}
+use Rattle.reader.specs.Reading.{layersIn, layerAt, flatten, pointsOf, endsFrom, refusals}
+use Rattle.reader.specs.declared.Place.{Place}
+use Rattle.reader.specs.declared.Search.{Search}
+use Rattle.reader.specs.declared.Search.the-variants.{Found, Missing, Broken}
+use Rattle.reader.specs.declared.Location.{Location}
+use Rattle.reader.specs.declared.Location.the-variants.{At, Refused as Turned}
+
+-- a place is that of a layer
+pub record Stands (file : List ℕ) (l : Layer) (p : Place) : Type 0 where
+  pub height : p .height ≡ l .height
+  pub word : Word (l .height)
+  pub contours : p .contours ≡ length (l .contours)
+  pub points : p .points ≡ pointTotal (l .contours)
+  pub inside : p .at ≤ length file
+  pub next : ℕ
+  pub stands : ParsedAt contourList file (p .at) (l .contours) next
+
+-- what a search for layer i answers, where the layers of the file are parsed so
+abbrev pub Searched : List ℕ → ℕ → Parse (List Layer) → Search → Type 0
+Searched file i (refused r) s = s ≡ Broken (length file - length r)
+Searched file i (parsed ls r) (Found p) = (i < length ls) × Stands file (layerAt ls i) p
+Searched file i (parsed ls r) Missing = length ls ≤ i
+Searched file i (parsed ls r) (Broken q) = ⊥
+
+-- the layer that is to be read, for tables of these lengths
+pub record Ready (file : List ℕ) (i points ends count : ℕ) (p : Place) : Type 0 where
+  pub fine : verdict (refusals file i points ends) ≡ Fine
+  pub counted : count ≡ length (layersIn file)
+  pub place : Stands file (layerAt (layersIn file) i) p
+  pub points-long : 2 * pointTotal (layerAt (layersIn file) i .contours) ≤ points
+  pub ends-long : length (layerAt (layersIn file) i .contours) ≤ ends
+
+-- what the tests of a call answer
+abbrev pub Located : List ℕ → ℕ → ℕ → ℕ → Location → Type 0
+Located file i points ends (At count p) = Ready file i points ends count p
+Located file i points ends (Turned r) = verdict (refusals file i points ends) ≡ Refused r
+
+-- ---- filling
+
+-- n points from a position on
+abbrev pub pointsFrom : ℕ → List ℕ → ℕ → List Point
+pointsFrom n = toldAt (λ ps next. ps) (λ q. []) (sequence point latest n origin)
+
+-- the contours of a layer from a position on
+abbrev pub contoursFrom : List ℕ → ℕ → List (List Point)
+contoursFrom = toldAt (λ cs next. cs) (λ q. []) contourList
+
+-- n points stand there, and the table has room for them from an entry on
+pub record FillPoints (file : List ℕ) (at n : ℕ) (points : List ℤ) (from : ℕ) : Type 0 where
+  pub inside : at ≤ length file
+  pub ps : List Point
+  pub next : ℕ
+  pub stands : ParsedAt (sequence point latest n origin) file at ps next
+  pub room : from + 2 * n ≤ length points
+
+-- they were written, and stand up to r
+pub record FilledPoints (file : List ℕ) (at n : ℕ) (points : List ℤ) (from r : ℕ) (points′ : List ℤ) : Type 0 where
+  pub next : End r ≡ extentAt (sequence point latest n origin) file at
+  pub table : points′ ≡ sets points from (flatten (pointsFrom n file at))
+
+-- contours stand there, and the tables have room for them
+pub record FillLayer (file : List ℕ) (at : ℕ) (points : List ℤ) (ends : List ℕ) : Type 0 where
+  pub inside : at ≤ length file
+  pub cs : List (List Point)
+  pub next : ℕ
+  pub stands : ParsedAt contourList file at cs next
+  pub points-long : 2 * pointTotal cs ≤ length points
+  pub ends-long : length cs ≤ length ends
+
+-- they were written
+pub record FilledLayer (file : List ℕ) (at : ℕ) (points : List ℤ) (ends : List ℕ) (points′ : List ℤ) (ends′ : List ℕ) : Type 0 where
+  pub points-table : points′ ≡ overwrite (pointsOf (contoursFrom file at)) points
+  pub ends-table : ends′ ≡ overwrite (endsFrom 0 (contoursFrom file at)) ends

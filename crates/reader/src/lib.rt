@@ -1,0 +1,89 @@
+// Read layer: checks a whole layer file, and fills two lent tables with the points and the ends of one of its layers.
+ghost use mathlib.Core.Path.{_≡_};
+ghost use Rattle.reader.specs.Reading.{roomFor, Reads};
+ghost use Rattle.reader.specs.Places.{Located};
+use crate::internal::fill_layer;
+use crate::internal::find_layer;
+use formats::Number;
+use formats::numbers::read_number;
+use mesh::Refusal;
+
+mod internal;
+
+// What Read layer answers: the layer count, and the layer's height and its counts of contours and points.
+pub enum Reading {
+    Layer(usize, i32, usize, usize),
+    Refused(Refusal),
+}
+
+// A layer in a file: its height, the position after that, and its counts of contours and points.
+struct Place {
+    height: i64,
+    at: usize,
+    contours: u64,
+    points: u64,
+}
+
+// Where a layer stands, or that there is no such layer; or the first refused position.
+enum Search {
+    Found(Place),
+    Missing,
+    Broken(usize),
+}
+
+// The layer count and the layer that is to be read, or why it is not.
+enum Location {
+    At(u64, Place),
+    Refused(Refusal),
+}
+
+// Whether tables of these lengths have two entries for each of so many points, and one for each contour.
+fn room_for(contours: u64, count: u64, points: u64, ends: u64) -> bool
+    ensures { λ r. ⌜ r ≡ roomFor contours count points ends ⌝ }
+{
+    if points / 2 < count {
+        return false;
+    }
+    contours <= ends
+}
+
+// Refusals 13, 15 and 9, for tables of these lengths.
+fn locate(file: &[u8], i: u64, points: u64, ends: u64) -> Location
+    ensures { λ r. ⌜ Located (now (file .entry)) i points ends r ⌝ }
+{
+    let n = read_number(file, 0, 4096);
+    let Number::Value(count, start) = n else {
+        return Location::Refused(Refusal::File(0));
+    };
+    let s = find_layer(file, start, count, i);
+    match s {
+        Search::Found(p) => {
+            if room_for(p.contours, p.points, points, ends) {
+                return Location::At(count, p);
+            }
+            Location::Refused(Refusal::Room(0))
+        }
+        Search::Missing => Location::Refused(Refusal::Layer(0)),
+        Search::Broken(e) => Location::Refused(Refusal::File(e)),
+    }
+}
+
+// Checks the whole file, then fills the first entries of the lent tables with the points and the ends of layer i.
+pub fn read_layer(file: &[u8], i: usize, points: &mut [i32], ends: &mut [u32]) -> Reading
+    ensures { λ r. ⌜ Reads (now (file .entry)) i (now (points .entry)) (now (ends .entry)) r (now (points .exit)) (now (ends .exit)) ⌝ }
+{
+    let a = locate(file, i as u64, points.len() as u64, ends.len() as u64);
+    match a {
+        Location::Refused(r) => Reading::Refused(r),
+        Location::At(count, p) => {
+            let at = p.at;
+            fill_layer(file, at, points, ends);
+            Reading::Layer(
+                count as usize,
+                p.height as i32,
+                p.contours as usize,
+                p.points as usize,
+            )
+        }
+    }
+}

@@ -1,0 +1,77 @@
+-- `wadroles_read_layer` meets its contract.
+use denote.Ref.{now}
+use mathlib.Core.Path.{ap, _∙_}
+use Rattle.answers.specs.Answers.{wordOf}
+use Rattle.wadroles.proofs.Answers.{told-wide, told-same, read-layer, read-refused}
+use borrow.Author.Needs.{needs}
+use Rattle.wadroles.proofs.wadroles_read_layer.Statement.{statement}
+use Rattle.wadroles.proofs.wadroles_read_layer.Tie as tie
+
+read-layer-requires : tie.Need-read-layer-requires
+read-layer-requires c κs = search needs
+
+enum-known-a : tie.Need-enum-known-a
+enum-known-a c = search needs
+
+element-write-out : tie.Need-element-write-out
+element-write-out c = search needs
+
+cast-word : tie.Need-cast-word
+cast-word c = told-wide (c .before .a .given .0 .1 .0) (c .known-told .given .1 .0 .1)
+
+word-requires : tie.Need-word-requires
+word-requires c κs = search needs
+
+element-write-out-2 : tie.Need-element-write-out-2
+element-write-out-2 c = search needs
+
+element-write-out-3 : tie.Need-element-write-out-3
+element-write-out-3 c = search needs
+
+element-write-out-4 : tie.Need-element-write-out-4
+element-write-out-4 c = search needs
+
+enum-known-a-2 : tie.Need-enum-known-a-2
+enum-known-a-2 c = search needs
+
+refuse-requires : tie.Need-refuse-requires
+refuse-requires c κs = search needs
+
+same-length : tie.Need-same-length
+same-length c = search needs
+
+same-length-2 : tie.Need-same-length-2
+same-length-2 c = search needs
+
+returns : tie.Need-returns
+returns c = let z = c .before .before .a .given .0 .1 .0 in read-layer (now (c .before .before .before .before .before .before .before .before .before .before .before .before .args .out)) (c .before .before .before .before .before .before .before .read-layer .ensures) (c .before .before .a .given .1) (c .word .ensures ∙ ap wordOf (told-same z (c .before .known-told .given .1 .0 .1)))
+
+same-length-3 : tie.Need-same-length-3
+same-length-3 c = search needs
+
+same-length-4 : tie.Need-same-length-4
+same-length-4 c = search needs
+
+returns-2 : tie.Need-returns-2
+returns-2 c = read-refused (now (c .before .before .before .before .before .before .before .before .before .before .before .before .before .args .out)) (c .before .before .before .before .before .before .before .before .read-layer .ensures) (c .before .before .before .a2 .given .1) (c .refuse .ensures .0) (c .refuse .ensures .1)
+
+pub wadroles-read-layer-spec : {M : Type 1} → statement M
+wadroles-read-layer-spec =
+    tie.close
+    (tie.spec
+    read-layer-requires
+    enum-known-a
+    element-write-out
+    cast-word
+    word-requires
+    element-write-out-2
+    element-write-out-3
+    element-write-out-4
+    enum-known-a-2
+    refuse-requires
+    same-length
+    same-length-2
+    returns
+    same-length-3
+    same-length-4
+    returns-2)

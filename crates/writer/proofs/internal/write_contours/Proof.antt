@@ -1,0 +1,93 @@
+-- `internal::write_contours` meets its contract.
+use Prim.Native.Nat.{_-_, _*_, _≤_}
+use native.Mathlib.Omega.{arith}
+use lib.ListN.{length}
+use Rattle.writer.proofs.Rows.{end-rises, end-within}
+use Rattle.writer.proofs.Writing.{Contours, contours-start, contour-room, contours-next, contours-end}
+use Rattle.writer.proofs.internal.write_contours.Statement.{statement}
+use Rattle.writer.proofs.internal.write_contours.Tie as tie
+
+abbrev Inv-loop : tie.InvT-loop
+Inv-loop points ends j output₀ at p₀ from₀ i₀ output p from i = Contours output₀ at points ends j output p from i
+
+abbrev μ-loop : tie.MeasureT-loop
+μ-loop points ends j output₀ at p₀ from₀ i₀ output p from i = j - i
+
+loop-holds : tie.Need-loop-holds Inv-loop μ-loop
+loop-holds c = contours-start (c .before .before .pre .0) (c .before .before .pre .1)
+
+mul-wide : tie.Need-mul-wide Inv-loop μ-loop
+mul-wide c = omega (arith, c .before .loop .inv .place .there)
+
+shared-slice-read-wide : tie.Need-shared-slice-read-wide Inv-loop μ-loop
+shared-slice-read-wide c = omega (arith, c .before .before .loop .inv .place .there)
+
+wide-requires : tie.Need-wide-requires Inv-loop μ-loop
+wide-requires c κs = tt
+
+mul-a : tie.Need-mul-a Inv-loop μ-loop
+mul-a c = omega (arith, c .before .before .before .loop .inv .place .within)
+
+-- the end lies within the points, and not below the end before
+module _ (c : tie.After-wide Inv-loop μ-loop) where
+  within : 2 * c .wide .result ≤ length (c .before .before .before .before .before .before .args .points .now)
+  within = end-within (c .before .before .before .loop .inv .place) (c .before .before .loop-test .taken) (c .wide .ensures)
+
+  rises : c .before .before .before .loop .from ≤ c .wide .result
+  rises = end-rises (c .before .before .before .loop .inv .place) (c .before .before .loop-test .taken) (c .wide .ensures)
+
+mul-b : tie.Need-mul-b Inv-loop μ-loop
+mul-b c = omega (arith, within c)
+
+mul-write-contour : tie.Need-mul-write-contour Inv-loop μ-loop
+mul-write-contour c = omega (arith, rises c, within c)
+
+sub-write-contour : tie.Need-sub-write-contour Inv-loop μ-loop
+sub-write-contour c = omega (arith, rises c)
+
+part-write-contour-start : tie.Need-part-write-contour-start Inv-loop μ-loop
+part-write-contour-start c = omega (arith, rises c)
+
+part-write-contour-end : tie.Need-part-write-contour-end Inv-loop μ-loop
+part-write-contour-end c = omega (arith, within c)
+
+write-contour-requires : tie.Need-write-contour-requires Inv-loop μ-loop
+write-contour-requires c κs = contour-room (c .before .before .before .before .before .loop .inv) (c .before .before .before .before .loop-test .taken) (c .before .before .wide .ensures)
+
+add-i : tie.Need-add-i Inv-loop μ-loop
+add-i c = omega arith
+
+loop-less : tie.Need-loop-less Inv-loop μ-loop
+loop-less c = omega arith
+
+loop-again : tie.Need-loop-again Inv-loop μ-loop
+loop-again c = contours-next (c .before .before .before .before .before .before .before .before .loop .inv) (c .before .before .before .before .before .before .before .loop-test .taken) (c .before .before .before .before .before .wide .ensures) (c .before .before .write-contour .ensures)
+
+same-length : tie.Need-same-length Inv-loop μ-loop
+same-length c = c .before .loop .inv .bytes .size
+
+returns : tie.Need-returns Inv-loop μ-loop
+returns c = contours-end (c .before .loop .inv) (c .loop-test .left)
+
+pub write-contours-spec : {M : Type 1} → statement M
+write-contours-spec =
+    tie.close
+    (tie.spec
+    Inv-loop
+    μ-loop
+    loop-holds
+    mul-wide
+    shared-slice-read-wide
+    wide-requires
+    mul-a
+    mul-b
+    mul-write-contour
+    sub-write-contour
+    part-write-contour-start
+    part-write-contour-end
+    write-contour-requires
+    add-i
+    loop-less
+    loop-again
+    same-length
+    returns)

@@ -1,0 +1,51 @@
+-- `internal::write_layer` meets its contract.
+use mathlib.Core.Path.{_≡_, ap, _∙_}
+use borrow.Author.Needs.{needs}
+use mir.Syntax.{w32, w64}
+use Rattle.laws.specs.Machine.{Rd, fit, cast, cast-ok}
+use Rattle.formats.specs.Numbers.{zigzag}
+use Rattle.writer.proofs.Writing.{height-room, count-room, contours-room, layer-put}
+use Rattle.writer.proofs.internal.write_layer.Statement.{statement}
+use Rattle.writer.proofs.internal.write_layer.Tie as tie
+
+-- the height
+module _ (c : tie.Start) where
+  abbrev height : Rd w32 (c .args .h) 2147483648
+  height = fit (c .fits .h)
+
+cast-unsigned-of : tie.Need-cast-unsigned-of
+cast-unsigned-of c = cast-ok (height (c .before .before .before)) tt
+
+unsigned-of-requires : tie.Need-unsigned-of-requires
+unsigned-of-requires c κs = search needs
+
+-- what the height is sent as
+sent : (c : tie.After-unsigned-of) → c .unsigned-of .result ≡ zigzag (c .before .before .before .before .args .h)
+sent c = c .unsigned-of .ensures ∙ ap zigzag (cast {w′ = w64} (height (c .before .before .before .before)) tt .is)
+
+write-number-requires : tie.Need-write-number-requires
+write-number-requires c κs = height-room (c .before .before .before .before .args .output .now) _ (c .before .before .before .before .pre .0) (c .before .before .before .before .args .h) (sent c) (c .before .before .before .before .pre .1)
+
+write-number-requires-2 : tie.Need-write-number-requires-2
+write-number-requires-2 c κs = count-room (c .before .before .before .before .before .before .before .before .args .output .now) _ (c .before .before .before .before .before .before .before .before .pre .0) (c .before .before .before .before .before .before .before .before .args .h) (sent (c .before .before .before .before)) (c .before .before .before .before .before .before .before .before .pre .1) (c .before .before .before .write-number .ensures)
+
+write-contours-requires : tie.Need-write-contours-requires
+write-contours-requires c κs = (c .before .before .before .before .before .before .before .before .before .before .before .before .pre .0, contours-room (c .before .before .before .before .before .before .before .before .before .before .before .before .args .output .now) _ (c .before .before .before .before .before .before .before .before .before .before .before .before .pre .0) (c .before .before .before .before .before .before .before .before .before .before .before .before .args .h) (sent (c .before .before .before .before .before .before .before .before)) (c .before .before .before .before .before .before .before .before .before .before .before .before .pre .1) (c .before .before .before .before .before .before .before .write-number .ensures) (c .before .before .before .write-number2 .ensures))
+
+same-length : tie.Need-same-length
+same-length c = search needs
+
+returns : tie.Need-returns
+returns c = layer-put _ _ (c .before .before .before .before .before .before .before .before .before .before .before .before .before .before .before .pre .0) _ (sent (c .before .before .before .before .before .before .before .before .before .before .before)) (c .before .before .before .before .before .before .before .before .before .before .before .before .before .before .before .pre .1) (c .before .before .before .before .before .before .before .before .before .before .write-number .ensures) (c .before .before .before .before .before .before .write-number2 .ensures) (c .before .before .write-contours .ensures)
+
+pub write-layer-spec : {M : Type 1} → statement M
+write-layer-spec =
+    tie.close
+    (tie.spec
+    cast-unsigned-of
+    unsigned-of-requires
+    write-number-requires
+    write-number-requires-2
+    write-contours-requires
+    same-length
+    returns)

@@ -1,0 +1,86 @@
+-- `internal::write_points` meets its contract.
+use Prim.Native.Nat.{_-_}
+use native.Mathlib.Omega.{arith}
+use mir.Syntax.{w32}
+use mir.Val.{toZ}
+use Rattle.laws.specs.Machine.{same}
+use Rattle.writer.proofs.Writing.{Points, points-start, x-room, y-room, points-next, points-end}
+use Rattle.writer.proofs.internal.write_points.Statement.{statement}
+use Rattle.writer.proofs.internal.write_points.Tie as tie
+
+abbrev Inv-loop : tie.InvT-loop
+Inv-loop points output₀ at n x₀ y₀ p₀ k₀ output x y p k = Points output₀ at points output (toZ w32 x) (toZ w32 y) p k
+
+abbrev μ-loop : tie.MeasureT-loop
+μ-loop points output₀ at n x₀ y₀ p₀ k₀ output x y p k = n - k
+
+loop-holds : tie.Need-loop-holds Inv-loop μ-loop
+loop-holds c = points-start (c .before .pre)
+
+mul-i : tie.Need-mul-i Inv-loop μ-loop
+mul-i c = omega arith
+
+add-j : tie.Need-add-j Inv-loop μ-loop
+add-j c = omega arith
+
+mul-nx : tie.Need-mul-nx Inv-loop μ-loop
+mul-nx c = omega arith
+
+shared-slice-copy-out-nx : tie.Need-shared-slice-copy-out-nx Inv-loop μ-loop
+shared-slice-copy-out-nx c = omega arith
+
+mul-ny : tie.Need-mul-ny Inv-loop μ-loop
+mul-ny c = omega arith
+
+shared-slice-copy-out-ny : tie.Need-shared-slice-copy-out-ny Inv-loop μ-loop
+shared-slice-copy-out-ny c = omega arith
+
+difference-requires : tie.Need-difference-requires Inv-loop μ-loop
+difference-requires c κs = tt
+
+difference-requires-2 : tie.Need-difference-requires-2 Inv-loop μ-loop
+difference-requires-2 c κs = tt
+
+write-number-requires : tie.Need-write-number-requires Inv-loop μ-loop
+write-number-requires c κs = x-room (c .before .before .before .before .before .before .loop .inv) (c .before .before .before .before .before .loop-test .taken) (same w32 _ (c .before .before .before .before .nx .given)) (same w32 _ (c .before .before .before .ny .given)) (c .before .before .difference .ensures) (c .before .difference2 .ensures)
+
+write-number-requires-2 : tie.Need-write-number-requires-2 Inv-loop μ-loop
+write-number-requires-2 c κs = y-room (c .before .before .before .before .before .before .before .before .before .before .loop .inv) (c .before .before .before .before .before .before .before .before .before .loop-test .taken) (same w32 _ (c .before .before .before .before .before .before .before .before .nx .given)) (same w32 _ (c .before .before .before .before .before .before .before .ny .given)) (c .before .before .before .before .before .before .difference .ensures) (c .before .before .before .before .before .difference2 .ensures) (c .before .before .before .write-number .ensures)
+
+add-k : tie.Need-add-k Inv-loop μ-loop
+add-k c = omega arith
+
+loop-less : tie.Need-loop-less Inv-loop μ-loop
+loop-less c = omega arith
+
+loop-again : tie.Need-loop-again Inv-loop μ-loop
+loop-again c = points-next (c .before .before .before .before .before .before .before .before .before .before .before .before .before .loop .inv) (c .before .before .before .before .before .before .before .before .before .before .before .before .loop-test .taken) (same w32 _ (c .before .before .before .before .before .before .before .before .before .before .before .nx .given)) (same w32 _ (c .before .before .before .before .before .before .before .before .before .before .ny .given)) (c .before .before .before .before .before .before .before .before .before .difference .ensures) (c .before .before .before .before .before .before .before .before .difference2 .ensures) (c .before .before .before .before .before .before .write-number .ensures) (c .before .before .write-number2 .ensures)
+
+same-length : tie.Need-same-length Inv-loop μ-loop
+same-length c = c .before .loop .inv .bytes .size
+
+returns : tie.Need-returns Inv-loop μ-loop
+returns c = points-end (c .before .loop .inv) (c .loop-test .left)
+
+pub write-points-spec : {M : Type 1} → statement M
+write-points-spec =
+    tie.close
+    (tie.spec
+    Inv-loop
+    μ-loop
+    loop-holds
+    mul-i
+    add-j
+    mul-nx
+    shared-slice-copy-out-nx
+    mul-ny
+    shared-slice-copy-out-ny
+    difference-requires
+    difference-requires-2
+    write-number-requires
+    write-number-requires-2
+    add-k
+    loop-less
+    loop-again
+    same-length
+    returns)
