@@ -1,4 +1,4 @@
--- Internal: the contours of a table of links, one for each corner: the corner that follows, or none.
+-- The contours that a ring table has: one entry for each corner, the corner that follows or none.
 use Prim.Native.Nat.{ℕ}
 use mathlib.Core.Bool.{Bool, not}
 use mathlib.Core.List.{List}

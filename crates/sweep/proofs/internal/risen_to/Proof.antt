@@ -1,0 +1,85 @@
+-- `internal::risen_to` meets its contract.
+use Prim.Native.Nat.{_+_, _-_, _*_, _<_}
+use mathlib.Core.Path.{ap, _∙_}
+use native.Mathlib.Omega.{arith}
+use borrow.Author.Needs.{needs}
+use lib.ListN.{length}
+use lib.IntN.{ℤ}
+use mir.Syntax.{w32}
+use mir.Val.{toZ}
+use Rattle.mesh.specs.Corners.{vertexCount}
+use Rattle.sweep.specs.Sweep.{risenTo}
+use denote.Ref.{now}
+use Rattle.sweep.proofs.Moves.{back, Rising, rising-start, rising-stop, rising-more, may-not, may, may-end}
+use Rattle.sweep.proofs.internal.risen_to.Statement.{statement}
+use Rattle.sweep.proofs.internal.risen_to.Tie as tie
+
+abbrev Inv-loop : tie.InvT-loop
+Inv-loop coords order n h vertices p₀ p = Rising coords order (toZ w32 h) n p
+
+abbrev μ-loop : tie.MeasureT-loop
+μ-loop coords order n h vertices p₀ p = vertices - p
+
+inside : (c : tie.After-wide Inv-loop μ-loop) → 3 * c .wide .result + 2 < length (now (c .before .before .before .before .before .args .coords))
+inside c =
+    let s = c .before .before .before .before .before in
+    omega (arith, c .wide .ensures, s .pre .1 (c .before .before .before .loop .p) (c .before .before .loop-test .taken) .vertex)
+
+loop-holds : tie.Need-loop-holds Inv-loop μ-loop
+loop-holds c = rising-start _ _ _ _ (c .before .pre .0)
+
+mul-wide : tie.Need-mul-wide Inv-loop μ-loop
+mul-wide c = let r = c .before .before .before .pre .1 (c .before .loop .p) (c .loop-test .taken) in omega (arith, r .there)
+
+shared-slice-read-wide : tie.Need-shared-slice-read-wide Inv-loop μ-loop
+shared-slice-read-wide c = c .before .before .before .before .pre .1 (c .before .before .loop .p) (c .before .loop-test .taken) .there
+
+wide-requires : tie.Need-wide-requires Inv-loop μ-loop
+wide-requires c κs = search needs
+
+mul-j : tie.Need-mul-j Inv-loop μ-loop
+mul-j c = omega (arith, inside c)
+
+add-j : tie.Need-add-j Inv-loop μ-loop
+add-j c = omega (arith, inside c)
+
+mul-if1 : tie.Need-mul-if1 Inv-loop μ-loop
+mul-if1 c = omega (arith, inside c)
+
+shared-slice-copy-out-if1 : tie.Need-shared-slice-copy-out-if1 Inv-loop μ-loop
+shared-slice-copy-out-if1 c = inside c
+
+returns : tie.Need-returns Inv-loop μ-loop
+returns c = let s = c .before .before .before .before .before .before .before in rising-stop _ _ _ _ _ (c .before .before .before .before .before .loop .inv) (may-not (now (s .args .coords)) _ _ (c .before .before .before .before .before .loop .p) (c .before .before .wide .result) (c .before .if12 .given) (c .before .before .wide .ensures) (c .before .before .before .before .loop-test .taken) (c .if1 .taken)) ∙ ap (λ (z : ℤ). risenTo (now (s .args .coords)) (now (s .args .order)) z (vertexCount (now (s .args .coords))) (s .args .n)) (back (s .fits .h))
+
+add-p : tie.Need-add-p Inv-loop μ-loop
+add-p c = omega (arith, c .before .before .before .before .loop-test .taken)
+
+loop-less : tie.Need-loop-less Inv-loop μ-loop
+loop-less c = omega (arith, c .before .before .before .before .loop-test .taken)
+
+loop-again : tie.Need-loop-again Inv-loop μ-loop
+loop-again c = let s = c .before .before .before .before .before .before .before in rising-more _ _ _ _ _ (c .before .before .before .before .before .loop .inv) (c .before .before .before .before .loop-test .taken) (may (now (s .args .coords)) _ _ (c .before .before .before .before .before .loop .p) (c .before .before .wide .result) (c .before .if12 .given) (c .before .before .wide .ensures) (c .before .before .before .before .loop-test .taken) (c .if1 .left))
+
+returns-2 : tie.Need-returns-2 Inv-loop μ-loop
+returns-2 c = let s = c .before .before .before in rising-stop _ _ _ _ _ (c .before .loop .inv) (may-end _ _ _ (c .before .loop .p) (c .loop-test .left)) ∙ ap (λ (z : ℤ). risenTo (now (s .args .coords)) (now (s .args .order)) z (vertexCount (now (s .args .coords))) (s .args .n)) (back (s .fits .h))
+
+pub risen-to-spec : {M : Type 1} → statement M
+risen-to-spec =
+    tie.close
+    (tie.spec
+    Inv-loop
+    μ-loop
+    loop-holds
+    mul-wide
+    shared-slice-read-wide
+    wide-requires
+    mul-j
+    add-j
+    mul-if1
+    shared-slice-copy-out-if1
+    returns
+    add-p
+    loop-less
+    loop-again
+    returns-2)

@@ -1,0 +1,39 @@
+-- `start` meets its contract.
+use denote.Ref.{now}
+use Rattle.sweep.proofs.Operating.{starts-refused, start-long, starts-fresh}
+use borrow.Author.Needs.{needs}
+use Rattle.sweep.proofs.start.Statement.{statement}
+use Rattle.sweep.proofs.start.Tie as tie
+
+start-test-requires : tie.Need-start-test-requires
+start-test-requires c κs = search needs
+
+enum-known-v : tie.Need-enum-known-v
+enum-known-v c = search needs
+
+returns : tie.Need-returns
+returns c = starts-refused (now (c .before .before .before .before .before .before .args .coords)) (now (c .before .before .before .before .before .before .args .corners)) (now (c .before .before .before .before .before .before .args .ring)) (c .before .before .before .start-test .result) (c .before .before .before .start-test .ensures) _ (c .before .v .given .1)
+
+enum-told : tie.Need-enum-told
+enum-told c = search needs
+
+fill-requires : tie.Need-fill-requires
+fill-requires c κs = start-long (now (c .before .before .before .before .before .before .args .coords)) (now (c .before .before .before .before .before .before .args .corners)) (now (c .before .before .before .before .before .before .args .ring)) (c .before .before .before .start-test .result) (c .before .before .before .start-test .ensures) (c .before .enum-told .given .1)
+
+same-length : tie.Need-same-length
+same-length c = search needs
+
+returns-2 : tie.Need-returns-2
+returns-2 c = starts-fresh (now (c .before .before .before .before .before .before .before .before .before .args .coords)) (now (c .before .before .before .before .before .before .before .before .before .args .corners)) (now (c .before .before .before .before .before .before .before .before .before .args .ring)) (c .before .before .before .before .before .before .start-test .result) (c .before .before .before .before .before .before .start-test .ensures) (c .before .before .before .before .enum-told .given .1) _ (c .before .before .fill .ensures)
+
+pub start-spec : {M : Type 1} → statement M
+start-spec =
+    tie.close
+    (tie.spec
+    start-test-requires
+    enum-known-v
+    returns
+    enum-told
+    fill-requires
+    same-length
+    returns-2)

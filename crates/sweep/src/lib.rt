@@ -1,0 +1,248 @@
+// The sweep: a plane that starts below a mesh and rises past its vertices, with the rings of the section kept in a lent table.
+ghost use mathlib.Core.Path.{_≡_};
+ghost use mathlib.Core.List.{[], _∷_};
+ghost use Rattle.mesh.specs.Refusals.{verdict};
+ghost use Rattle.mesh.specs.Tests.{size, range, vertex, triangle, pairs, ordered};
+ghost use Rattle.mesh.specs.Corners.{vertexCount};
+ghost use Rattle.section.specs.Section.{Right};
+ghost use Rattle.sweep.specs.Operations.{tooMany, wrongRing, notAbove, startRefusals, Starts, stepRefusals, Steps, riseTests, Rises};
+use crate::internal::height_test;
+use crate::internal::raise;
+use crate::internal::relink;
+use crate::internal::ring_test;
+use cutter::tables_test;
+use mesh::Refusal;
+use mesh::Verdict;
+use mesh::internal::fill;
+use mesh::internal::wide;
+use mesh::tests::mesh_test;
+use mesh::tests::size_test;
+use tables::internal::pairing_test;
+use tables::ordering::order_test;
+
+pub mod internal;
+
+// How many vertices are passed: the first so many of the order.
+pub struct State {
+    pub passed: usize,
+}
+
+// What Start answers.
+pub enum Started {
+    Fresh(State),
+    Refused(Refusal),
+}
+
+// What Step answers: the next vertex is passed, or all were passed already.
+pub enum Stepping {
+    Stepped(State),
+    Top,
+    Refused(Refusal),
+}
+
+// What Layer answers: the state and the counts of contours and points.
+pub enum Rise {
+    Layer(State, usize, usize),
+    Refused(Refusal),
+}
+
+// Refusals 1 and 9 of Start, for a ring table of this length.
+fn start_test(coords: &[i32], corners: &[u32], ring: usize) -> Verdict
+    ensures { λ r. ⌜ r ≡ verdict (startRefusals (now (coords .entry)) (now (corners .entry)) ring) ⌝ }
+{
+    let a = size_test(coords, corners);
+    if let Verdict::Refused(_) = a {
+        return a;
+    }
+    if ring < corners.len() {
+        return Verdict::Refused(Refusal::Room(0));
+    }
+    Verdict::Fine
+}
+
+// A fresh sweep: no vertex passed, and no crossing in the ring table.
+pub fn start(coords: &[i32], corners: &[u32], ring: &mut [u32]) -> Started
+    ensures { λ r. ⌜ Starts (now (coords .entry)) (now (corners .entry)) (now (ring .entry)) r (now (ring .exit)) ⌝ }
+{
+    let v = start_test(coords, corners, ring.len());
+    if let Verdict::Refused(r) = v {
+        return Started::Refused(r);
+    }
+    fill(ring, corners.len(), 4294967295);
+    Started::Fresh(State { passed: 0 })
+}
+
+// Refusals 1, 2, 3, 4 and 7.
+fn linked_test(coords: &[i32], corners: &[u32], pairing: &[u32]) -> Verdict
+    ensures { λ r. ⌜ r ≡ verdict (size (now (coords .entry)) (now (corners .entry)) ∷ range (now (coords .entry)) ∷ vertex (vertexCount (now (coords .entry))) (now (corners .entry)) ∷ triangle (now (corners .entry)) ∷ pairs (now (corners .entry)) (now (pairing .entry)) ∷ []) ⌝ }
+{
+    let a = size_test(coords, corners);
+    if let Verdict::Refused(_) = a {
+        return a;
+    }
+    let b = mesh_test(coords, corners);
+    if let Verdict::Refused(_) = b {
+        return b;
+    }
+    pairing_test(corners, pairing)
+}
+
+// Refusals 8 and 10.
+fn state_test(coords: &[i32], order: &[u32], n: usize) -> Verdict
+    ensures { λ r. ⌜ r ≡ verdict (ordered (now (coords .entry)) (now (order .entry)) ∷ tooMany (now (coords .entry)) n ∷ []) ⌝ }
+{
+    let a = order_test(coords, order);
+    if let Verdict::Refused(_) = a {
+        return a;
+    }
+    if coords.len() / 3 < n {
+        return Verdict::Refused(Refusal::Passed(0));
+    }
+    Verdict::Fine
+}
+
+// Refusals 1, 2, 3, 4, 7, 8, 10 and 11 of Step, for a ring table of this length.
+fn step_test(
+    coords: &[i32],
+    corners: &[u32],
+    pairing: &[u32],
+    order: &[u32],
+    ring: usize,
+    n: usize,
+) -> Verdict
+    ensures { λ r. ⌜ r ≡ verdict (stepRefusals (now (coords .entry)) (now (corners .entry)) (now (pairing .entry)) (now (order .entry)) ring n) ⌝ }
+{
+    let a = linked_test(coords, corners, pairing);
+    if let Verdict::Refused(_) = a {
+        return a;
+    }
+    let b = state_test(coords, order, n);
+    if let Verdict::Refused(_) = b {
+        return b;
+    }
+    if ring < corners.len() {
+        return Verdict::Refused(Refusal::Ring(ring));
+    }
+    Verdict::Fine
+}
+
+// Passes the next vertex of the order, and rewrites the entries of the corners paired into its triangles.
+pub fn step(
+    coords: &[i32],
+    corners: &[u32],
+    pairing: &[u32],
+    order: &[u32],
+    ring: &mut [u32],
+    state: State,
+) -> Stepping
+    ensures { λ r. ⌜ Steps (now (coords .entry)) (now (corners .entry)) (now (pairing .entry)) (now (order .entry)) (now (ring .entry)) (state .passed) r (now (ring .exit)) ⌝ }
+{
+    let n = state.passed;
+    let v = step_test(coords, corners, pairing, order, ring.len(), n);
+    if let Verdict::Refused(r) = v {
+        return Stepping::Refused(r);
+    }
+    if n == coords.len() / 3 {
+        return Stepping::Top;
+    }
+    let w = wide(order[n]);
+    let i = 3 * w + 2;
+    let z = coords[i];
+    relink(coords, corners, pairing, z, w + 1, w, ring);
+    Stepping::Stepped(State { passed: n + 1 })
+}
+
+// Refusals 8, 10, 11 and 12 of Layer.
+fn sweep_test(
+    coords: &[i32],
+    corners: &[u32],
+    pairing: &[u32],
+    order: &[u32],
+    ring: &[u32],
+    n: usize,
+    h: i32,
+) -> Verdict
+    requires { ⌜ Right (now coords) (now corners) (now pairing) ⌝ }
+    ensures { λ r. ⌜ r ≡ verdict (ordered (now (coords .entry)) (now (order .entry)) ∷ tooMany (now (coords .entry)) n ∷ wrongRing (now (corners .entry)) (now (pairing .entry)) (now (order .entry)) (now (ring .entry)) n ∷ notAbove (now (coords .entry)) (now (order .entry)) n h ∷ []) ⌝ }
+{
+    let a = state_test(coords, order, n);
+    if let Verdict::Refused(_) = a {
+        return a;
+    }
+    let b = ring_test(coords, corners, pairing, order, ring, n);
+    if let Verdict::Refused(_) = b {
+        return b;
+    }
+    height_test(coords, order, n, h)
+}
+
+// Refusals 1, 9, 2, 3, 4, 7, 8, 10, 11 and 12 of Layer, for lent tables of these lengths.
+fn rise_test(
+    coords: &[i32],
+    corners: &[u32],
+    pairing: &[u32],
+    order: &[u32],
+    ring: &[u32],
+    n: usize,
+    h: i32,
+    names: usize,
+    points: usize,
+    ends: usize,
+    marks: usize,
+) -> Verdict
+    ensures { λ r. ⌜ r ≡ verdict (riseTests (now (coords .entry)) (now (corners .entry)) (now (pairing .entry)) (now (order .entry)) (now (ring .entry)) n h names points ends marks) ⌝ }
+{
+    let a = tables_test(coords, corners, pairing, names, points, ends, marks);
+    if let Verdict::Refused(_) = a {
+        return a;
+    }
+    sweep_test(coords, corners, pairing, order, ring, n, h)
+}
+
+// Layer at h: rises by steps until no unpassed vertex has z < h, and writes the contours that the ring table has there.
+pub fn layer(
+    coords: &[i32],
+    corners: &[u32],
+    pairing: &[u32],
+    order: &[u32],
+    ring: &mut [u32],
+    state: State,
+    h: i32,
+    names: &mut [u32],
+    points: &mut [i32],
+    ends: &mut [u32],
+    marks: &mut [u32],
+) -> Rise
+    ensures { λ r. ⌜ Rises (now (coords .entry)) (now (corners .entry)) (now (pairing .entry)) (now (order .entry)) (now (ring .entry)) (state .passed) h (now (names .entry)) (now (points .entry)) (now (ends .entry)) (now (marks .entry)) r (now (ring .exit)) (now (names .exit)) (now (points .exit)) (now (ends .exit)) (now (marks .exit)) ⌝ }
+{
+    let n = state.passed;
+    let v = rise_test(
+        coords,
+        corners,
+        pairing,
+        order,
+        ring,
+        n,
+        h,
+        names.len(),
+        points.len(),
+        ends.len(),
+        marks.len(),
+    );
+    if let Verdict::Refused(r) = v {
+        return Rise::Refused(r);
+    }
+    raise(
+        coords,
+        corners,
+        pairing,
+        order,
+        ring,
+        n,
+        h,
+        names,
+        points,
+        ends,
+        marks,
+    )
+}
