@@ -11,6 +11,11 @@
  * Corner 3 t + k (k = 0, 1, 2) stands for the directed edge from its vertex to
  * that of the next corner of triangle t, the last leading back to the first.
  *
+ * A file is a table of bytes that holds numbers, its values, one after another.
+ * A value is a plain number of 32 bits in groups of seven, lowest group first,
+ * with 128 added to every byte but the last, in the fewest bytes: five at most.
+ * A signed number n is sent as the plain number 2 n if n >= 0, else -2 n - 1.
+ *
  * Rules for every function:
  *
  * - It returns 0, or the number of a refusal (enum wadroles_refusal).
@@ -46,8 +51,11 @@ extern "C" {
 /* The farthest a coordinate may be from zero, on either side. */
 #define WADROLES_MAX_COORDINATE 1048576
 
-/* The most points that wadroles_area takes. */
+/* The most points that wadroles_area takes, and that a layer of a file has. */
 #define WADROLES_MAX_POINTS 98304
+
+/* The most layers that a layer file has. */
+#define WADROLES_MAX_LAYERS 4096
 
 /* The refusals, by number. */
 enum wadroles_refusal {
@@ -216,6 +224,98 @@ uint32_t wadroles_contour(const int32_t *points, size_t points_len,
  */
 uint32_t wadroles_area(const int32_t *points, size_t points_len,
                        uint64_t out[4]);
+
+/*
+ * Reads layer i (from 0) of a layer file. The file holds these values and ends
+ * after the last of them:
+ *
+ *   the layer count, at most WADROLES_MAX_LAYERS; then for each layer
+ *     its height, signed, above that of the layer before
+ *     its contour count; then for each contour
+ *       its point count, at least 2, and together with those of the layer's
+ *         contours before it at most WADROLES_MAX_POINTS
+ *       x and y of its first point, signed
+ *       for each later point the differences in x and in y to the point
+ *         before, signed
+ *
+ * Points lie in the range of coordinates.
+ *
+ * Writes the layer into the first entries of two lent tables:
+ *
+ *   points  two entries per point: x and y
+ *   ends    one entry per contour: the number of points up to its end
+ *
+ * Later entries of both tables stay.
+ *
+ * On success out[0] is the number of layers in the file, out[1] the height of
+ * the layer, as two's complement, out[2] the number of its contours and out[3]
+ * the number of its points.
+ *
+ * The tests, in this sequence; the first that fails is the refusal:
+ *
+ *   WADROLES_FILE      a value of the file, whichever layer it belongs to, is
+ *                      missing, cut short, longer than it need be, over 32 bits
+ *                      or breaks a rule above (the height that is not above the
+ *                      one before, the point count that makes them too many,
+ *                      the difference that leads out of range); place the first
+ *                      byte of the first such value, or file_len if it is
+ *                      missing. Or bytes are left over after the last value;
+ *                      place the first of them
+ *   WADROLES_LAYER     the file has no layer i; place 0
+ *   WADROLES_ROOM      points_len is less than twice the layer's points, or
+ *                      ends_len less than its contours; place 0
+ *
+ * After a refusal both tables are as before.
+ */
+uint32_t wadroles_read_layer(const uint8_t *file, size_t file_len,
+                             size_t i,
+                             int32_t *points, size_t points_len,
+                             uint32_t *ends, size_t ends_len,
+                             uint64_t out[4]);
+
+/*
+ * Reads a part file: a mesh, and the heights to cut it at. The file holds these
+ * values and ends after the last of them:
+ *
+ *   the vertex count
+ *   the triangle count
+ *   three coordinates per vertex, signed
+ *   three corners per triangle
+ *   the height count
+ *   the heights, signed
+ *
+ * Writes the part into the first entries of three lent tables:
+ *
+ *   coords   three entries per vertex
+ *   corners  three entries per triangle
+ *   heights  one entry per height
+ *
+ * Later entries of the three tables stay.
+ *
+ * On success out[0] is the number of vertices, out[1] the number of triangles
+ * and out[2] the number of heights.
+ *
+ * Nothing but the form of the values is tested. The counts may pass the limits
+ * of a mesh, coordinates and heights may be any numbers of 32 bits, corners may
+ * name no vertex, and heights need not rise; wadroles_check tests the mesh.
+ *
+ * The tests, in this sequence; the first that fails is the refusal:
+ *
+ *   WADROLES_FILE      a value is missing, cut short, longer than it need be or
+ *                      over 32 bits; place the first byte of the first such
+ *                      value, or file_len if it is missing. Or bytes are left
+ *                      over after the last value; place the first of them
+ *   WADROLES_ROOM      coords_len is less than three times the vertices,
+ *                      corners_len less than three times the triangles, or
+ *                      heights_len less than the heights; place 0
+ *
+ * After a refusal all three tables are as before.
+ */
+uint32_t wadroles_read_part(const uint8_t *file, size_t file_len,
+                            int32_t *coords, size_t coords_len,
+                            uint32_t *corners, size_t corners_len,
+                            int32_t *heights, size_t heights_len,
+                            uint64_t out[4]);
 
 #ifdef __cplusplus
 }

@@ -4,7 +4,8 @@
 //! lent tables are refilled before each call, outside the time measured. Neither version is built
 //! into its caller.
 //!
-//! Arguments choose among `check`, `cut` and `area`; without any, all are timed.
+//! Arguments choose among `check`, `cut`, `area`, `read_layer` and `read_part`; without any, all are
+//! timed.
 
 #![forbid(unsafe_code)]
 
@@ -12,6 +13,8 @@ mod area;
 mod check;
 mod cut;
 mod inputs;
+mod read_layer;
+mod read_part;
 mod unproved;
 mod versions;
 
@@ -21,6 +24,8 @@ fn main() {
         ("check", check::run as fn()),
         ("cut", cut::run),
         ("area", area::run),
+        ("read_layer", read_layer::run),
+        ("read_part", read_part::run),
     ];
     for (name, run) in benches {
         if chosen.is_empty() || chosen.iter().any(|choice| choice == name) {

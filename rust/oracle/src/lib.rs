@@ -1,7 +1,8 @@
 //! An independent slicer, to compare the proved library with.
 //!
 //! It is written from document 01 alone, for clarity and not for speed. Its functions leave the
-//! result, the place and every entry of the lent tables as the document says.
+//! result, the place and every entry of the lent tables as the document says. Both files can also
+//! be written.
 
 #![forbid(unsafe_code)]
 
@@ -9,7 +10,10 @@ mod area;
 mod check;
 mod contour;
 mod cut;
+mod layer_file;
 mod mesh;
+mod numbers;
+mod part_file;
 mod refusal;
 mod section;
 
@@ -17,5 +21,8 @@ pub use area::area;
 pub use check::check;
 pub use contour::contour;
 pub use cut::{cut, Layer, Tables};
+pub use layer_file::{decode_layers, encode_layers, read_layer, FileLayer, LayerRead};
+pub use numbers::{encode_plain, encode_signed};
+pub use part_file::{decode_part, encode_part, read_part, Part, PartRead};
 pub use refusal::Refusal;
 pub use section::section_area;

@@ -24,8 +24,16 @@ pub(crate) fn refuse_least(
 
 /// Refuses with place 0 if `broken`.
 pub(crate) fn refuse_if(number: u32, broken: bool) -> Result<(), Refusal> {
+    refuse_at(number, 0, broken)
+}
+
+/// Refuses the place if `broken`.
+pub(crate) fn refuse_at(number: u32, place: usize, broken: bool) -> Result<(), Refusal> {
     if broken {
-        Err(Refusal { number, place: 0 })
+        Err(Refusal {
+            number,
+            place: place as u64,
+        })
     } else {
         Ok(())
     }

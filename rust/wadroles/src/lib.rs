@@ -10,7 +10,8 @@
 //!
 //! [`check()`] tests a mesh and finds its pairing, which the cutting operations ask for. [`cut()`]
 //! gives the layer at a height, [`contour()`] the points of one of its contours, and [`area()`] their
-//! doubled area.
+//! doubled area. [`read_layer()`] takes a layer out of a layer file, and [`read_part()`] a mesh and
+//! heights out of a part file.
 //!
 //! The operations work on tables that the caller lends them. Each answers with its values or with
 //! a [`Refusal`]. They keep no state between calls, so several threads may call them at once.
@@ -29,12 +30,16 @@ mod check;
 mod contour;
 mod cut;
 pub mod raw;
+mod read_layer;
+mod read_part;
 mod refusal;
 
 pub use area::area;
 pub use check::check;
 pub use contour::contour;
 pub use cut::{cut, Layer, LayerTables};
+pub use read_layer::{read_layer, LayerRead};
+pub use read_part::{read_part, Part};
 pub use refusal::Refusal;
 
 /// The most vertices a mesh may have.
@@ -46,5 +51,8 @@ pub const MAX_TRIANGLES: usize = 65_536;
 /// The farthest a coordinate may be from zero, on either side.
 pub const MAX_COORDINATE: i32 = 1_048_576;
 
-/// The most points that [`area()`] takes.
+/// The most points that [`area()`] takes, and that a layer of a layer file may have.
 pub const MAX_POINTS: usize = 98_304;
+
+/// The most layers that a layer file may have.
+pub const MAX_LAYERS: usize = 4_096;

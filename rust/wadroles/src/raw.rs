@@ -74,4 +74,40 @@ extern "C" {
     ///
     /// As [above](self#safety).
     pub fn wadroles_area(points: *const i32, points_len: usize, out: *mut u64) -> u32;
+
+    /// Reads a layer of a layer file, as [`crate::read_layer()`] does. Success writes the number of
+    /// layers in the file, the layer's height as two's complement, and its counts of contours and
+    /// of points.
+    ///
+    /// # Safety
+    ///
+    /// As [above](self#safety).
+    pub fn wadroles_read_layer(
+        file: *const u8,
+        file_len: usize,
+        i: usize,
+        points: *mut i32,
+        points_len: usize,
+        ends: *mut u32,
+        ends_len: usize,
+        out: *mut u64,
+    ) -> u32;
+
+    /// Reads a part file, as [`crate::read_part()`] does. Success writes the counts of vertices, of
+    /// triangles and of heights.
+    ///
+    /// # Safety
+    ///
+    /// As [above](self#safety).
+    pub fn wadroles_read_part(
+        file: *const u8,
+        file_len: usize,
+        coords: *mut i32,
+        coords_len: usize,
+        corners: *mut u32,
+        corners_len: usize,
+        heights: *mut i32,
+        heights_len: usize,
+        out: *mut u64,
+    ) -> u32;
 }

@@ -4,8 +4,13 @@
 mod area;
 mod check;
 mod cut;
+mod numbers;
+mod read_layer;
+mod read_part;
 mod tables;
 
 pub use area::area;
 pub use check::check;
 pub use cut::cut;
+pub use read_layer::read_layer;
+pub use read_part::read_part;

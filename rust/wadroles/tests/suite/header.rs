@@ -1,4 +1,4 @@
-use wadroles::{Refusal, MAX_COORDINATE, MAX_POINTS, MAX_TRIANGLES, MAX_VERTICES};
+use wadroles::{Refusal, MAX_COORDINATE, MAX_LAYERS, MAX_POINTS, MAX_TRIANGLES, MAX_VERTICES};
 
 const HEADER: &str = include_str!("../../../../include/wadroles.h");
 const RAW: &str = include_str!("../../src/raw.rs");
@@ -35,6 +35,7 @@ fn the_header_gives_the_same_limits() {
         format!("#define WADROLES_MAX_TRIANGLES {MAX_TRIANGLES}\n"),
         format!("#define WADROLES_MAX_COORDINATE {MAX_COORDINATE}\n"),
         format!("#define WADROLES_MAX_POINTS {MAX_POINTS}\n"),
+        format!("#define WADROLES_MAX_LAYERS {MAX_LAYERS}\n"),
     ] {
         assert!(HEADER.contains(&line), "no {line:?} in the header");
     }
@@ -56,7 +57,9 @@ fn the_header_declares_the_same_functions() {
             "wadroles_check",
             "wadroles_cut",
             "wadroles_contour",
-            "wadroles_area"
+            "wadroles_area",
+            "wadroles_read_layer",
+            "wadroles_read_part"
         ]
     );
 }
@@ -83,6 +86,7 @@ fn in_rust(parameter: &str) -> String {
         None => (false, declared),
     };
     let number = match declared {
+        "uint8_t" => "u8",
         "int32_t" => "i32",
         "uint32_t" => "u32",
         "uint64_t" => "u64",

@@ -11,5 +11,8 @@ mod cut;
 mod header;
 mod lent;
 mod pointers;
+mod read_layer;
+mod read_part;
 mod runs;
 mod tally;
+mod variants;

@@ -1,6 +1,7 @@
 //! A layer as the library gives it, taken out of the lent tables by contour and area.
 
 use super::compare::{compare, library, Case, Given};
+use meshes::Mesh;
 use wadroles::{area, contour};
 
 /// The contours of a layer. Each part of a list is for the contour of that number.
@@ -51,6 +52,17 @@ pub fn library_layer(given: &Given) -> Layer {
         ends: ends.to_vec(),
         areas: parts().map(|part| area(part).unwrap()).collect(),
     }
+}
+
+/// The contours that the library cuts, x and y of each point.
+#[track_caller]
+pub fn contours(mesh: &Mesh, pairing: &[u32], height: i32) -> Vec<Vec<[i32; 2]>> {
+    let given = Given {
+        mesh: mesh.clone(),
+        pairing: pairing.to_vec(),
+        height,
+    };
+    library_layer(&given).points
 }
 
 fn pairs(points: &[i32]) -> Vec<[i32; 2]> {

@@ -10,3 +10,6 @@ mod random;
 mod raw;
 mod refusal_order;
 mod worked;
+
+pub use layer::contours;
+pub use random::random_mesh;

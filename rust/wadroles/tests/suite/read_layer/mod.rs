@@ -1,0 +1,10 @@
+mod compare;
+mod every_small;
+mod faults;
+mod forms;
+mod limits;
+mod promises;
+mod random;
+mod raw;
+mod refusal_order;
+mod worked;

@@ -1,0 +1,143 @@
+//! What document 01 says of every layer file, asked of the library. The oracle only writes files.
+
+use super::compare::{library, Case, Given, Tables};
+use crate::cut;
+use crate::runs::rounds;
+use files::{random_layers, Damage};
+use meshes::{random_height, random_pairing, Random};
+use oracle::{encode_layers, FileLayer};
+use std::collections::BTreeSet;
+
+/// The layers that the library reads out of a file, or a refusal's number and place.
+fn library_layers(file: &[u8]) -> Result<Vec<FileLayer>, (u32, u64)> {
+    let mut layers = Vec::new();
+    loop {
+        let i = layers.len();
+        match library_layer(file, i) {
+            Ok((layer, count)) if i + 1 < count => layers.push(layer),
+            Ok((layer, _)) => {
+                layers.push(layer);
+                return Ok(layers);
+            }
+            // Only a file without layers has no layer 0.
+            Err((15, 0)) if i == 0 => return Ok(layers),
+            Err(refusal) => return Err(refusal),
+        }
+    }
+}
+
+/// A layer that the library reads, and the number of layers in the file.
+fn library_layer(file: &[u8], i: usize) -> Result<(FileLayer, usize), (u32, u64)> {
+    // Each value takes a byte at least.
+    let (mut points, mut ends) = (vec![0; file.len()], vec![0; file.len()]);
+    let read = wadroles::read_layer(file, i, &mut points, &mut ends)
+        .map_err(|refusal| (refusal.number, refusal.place))?;
+    let ends = &ends[..read.contours];
+    assert_eq!(ends.last().map_or(0, |&end| end as usize), read.points);
+    let contours = (0..read.contours)
+        .map(|j| wadroles::contour(&points, ends, j))
+        .map(|part| part.chunks(2).map(|p| [p[0], p[1]]).collect());
+    let layer = FileLayer {
+        height: read.height,
+        contours: contours.collect(),
+    };
+    Ok((layer, read.layers))
+}
+
+/// The file of random layers after some damage.
+fn spoiled(random: &mut Random) -> Vec<u8> {
+    let mut file = encode_layers(&random_layers(random));
+    for _ in 0..random.choose(&[1, 1, 2]) {
+        Damage::any(random).apply(&mut file, random);
+    }
+    file
+}
+
+#[test]
+fn layers_are_read_back_into_the_first_entries() {
+    let share = rounds("layer files, read back", 10, |random| {
+        let layers = random_layers(random);
+        for (i, layer) in layers.iter().enumerate() {
+            let (points, ends) = entries(layer);
+            let mut case = Case {
+                given: Given::new(&layers, i),
+                tables: Tables::long([points.len(), ends.len()], random),
+            };
+            let mut filled = case.tables.clone();
+            filled.points.table()[..points.len()].copy_from_slice(&points);
+            filled.ends.table()[..ends.len()].copy_from_slice(&ends);
+            let answer = (layers.len(), layer.height, ends.len(), points.len() / 2);
+            assert_eq!(case.run(library), Ok(answer));
+            assert_eq!(case.tables.difference(&filled), None);
+        }
+        layers.iter().any(|layer| !layer.contours.is_empty())
+    });
+    assert!(share > 0.3, "too few files have a contour");
+}
+
+/// The points and the ends of a layer.
+fn entries(layer: &FileLayer) -> (Vec<i32>, Vec<u32>) {
+    let (mut points, mut ends) = (Vec::new(), Vec::new());
+    for contour in &layer.contours {
+        points.extend(contour.concat());
+        ends.push(points.len() as u32 / 2);
+    }
+    (points, ends)
+}
+
+#[test]
+fn what_is_accepted_is_the_file_of_its_layers() {
+    let share = rounds("layer files, accepted", 5, |random| {
+        let file = spoiled(random);
+        match library_layers(&file) {
+            Ok(layers) => {
+                assert_eq!(encode_layers(&layers), file);
+                true
+            }
+            Err((number, _)) => {
+                assert_eq!(number, 13);
+                false
+            }
+        }
+    });
+    assert!(share > 0.1, "too few files are accepted");
+}
+
+#[test]
+fn the_bytes_before_the_place_are_right() {
+    let share = rounds("layer files, places", 5, |random| {
+        let file = spoiled(random);
+        let Err((13, place)) = library_layers(&file) else {
+            return false;
+        };
+        // Up to the place it is a whole file, or one that lacks the next value.
+        match library_layers(&file[..place as usize]) {
+            Ok(_) => assert!(file.len() as u64 > place),
+            Err(refusal) => assert_eq!(refusal, (13, place)),
+        }
+        true
+    });
+    assert!(share > 0.3, "too few files are refused");
+}
+
+#[test]
+fn the_layers_of_a_mesh_are_read_back() {
+    let share = rounds("layer files, of cuts", 100, |random| {
+        let mesh = cut::random_mesh(random);
+        let pairing = random_pairing(&mesh, random);
+        let heights: BTreeSet<i32> = (0..5).map(|_| random_height(&mesh, random)).collect();
+        let layers: Vec<FileLayer> = heights
+            .into_iter()
+            .map(|height| FileLayer {
+                height,
+                contours: cut::contours(&mesh, &pairing, height),
+            })
+            .collect();
+        assert_eq!(
+            library_layers(&encode_layers(&layers)).as_ref(),
+            Ok(&layers)
+        );
+        layers.iter().any(|layer| !layer.contours.is_empty())
+    });
+    assert!(share > 0.3, "too few files have a contour");
+}
