@@ -1,6 +1,6 @@
 -- Two's complement: what a number below zero and any other is sent as.
 use Prim.Native.Nat.{_-_}
-use mathlib.Core.Path.{_≡_, ap, _∙_}
+use mathlib.Core.Path.{_≡_, ap}
 use lib.IntN.{ℤ}
 use Rattle.laws.specs.SignLaws.{Below, Above}
 use Rattle.answers.specs.Answers.{wordOf}

@@ -5,6 +5,7 @@ use mathlib.Core.List.{List, [], _∷_}
 use lib.Dec.{leb, eqb}
 use lib.ListN.{length, getD}
 use lib.IntN.{ℤ, pos, _+ℤ_, _-ℤ_, _*ℤ_}
+pub use Rattle.mesh.specs.Corners.{mostPoints}
 use Rattle.mesh.specs.Refusals.{Condition, whole, verdict}
 use Rattle.mesh.specs.Tests.{range}
 use Rattle.mesh.specs.declared.Refusal.the-variants.{Size}
@@ -12,10 +13,6 @@ use Rattle.mesh.specs.declared.Verdict.{Verdict}
 use Rattle.mesh.specs.declared.Verdict.the-variants.{Fine, Refused}
 use Rattle.contours.specs.declared.Measured.{Measured}
 use Rattle.contours.specs.declared.Measured.the-variants.{Area, Refused as Turned}
-
--- the limit: most points
-abbrev pub mostPoints : ℕ
-mostPoints = 98304
 
 -- ---- the area
 

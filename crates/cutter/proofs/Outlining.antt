@@ -1,21 +1,16 @@
 -- The layer of a ring table: what tracing and its points leave.
-use Prim.Native.Nat.{ℕ, _+_, _*_, _<_, _≤_}
-use mathlib.Core.Path.{_≡_, refl, sym, ap, _∙_, subst}
-use mathlib.Core.Bool.{Bool, true, false}
-use mathlib.Core.List.{List, [], _∷_, _++_}
+use Prim.Native.Nat.{ℕ, _*_, _<_, _≤_}
+use mathlib.Core.Path.{_≡_, sym, ap, _∙_, subst}
+use mathlib.Core.List.{List, [], _∷_}
 use native.Mathlib.Omega.{arith}
 use lib.ListN.{length, getD, take, drop, replicate}
 use lib.Seq.{take-at}
 use lib.IntN.{ℤ, pos}
 use Rattle.laws.specs.Tables.{overwrite}
 use Rattle.laws.specs.TableLaws.{length-overwrite, overwrite-at}
-use Rattle.mesh.specs.Refusals.{test, _then_, verdict}
-use Rattle.mesh.specs.RefusalLaws.{nowhere-fine, verdict-one}
-use Rattle.mesh.specs.declared.Refusal.the-variants.{Used}
-use Rattle.mesh.specs.declared.Verdict.{Verdict}
-use Rattle.mesh.specs.declared.Verdict.the-variants.{Fine, Refused}
-use Rattle.section.specs.Section.{Among}
-use Rattle.section.specs.Contours.{Traced, contours, stuck, member, namesOf, endsOf}
+use Rattle.mesh.specs.Refusals.{verdict}
+use Rattle.mesh.specs.declared.Verdict.the-variants.{Fine}
+use Rattle.section.specs.Contours.{Traced, contours, namesOf, endsOf}
 use Rattle.section.specs.Links.{hasLink, linkOf, traceLinks}
 use Rattle.section.specs.OrbitLaws.{at-member}
 use Rattle.section.specs.LayerLaws.{Begun, trace-all, begun-few}
@@ -25,9 +20,8 @@ use Rattle.tracer.specs.Traces.{found, zeroed, namesAfter, endsAfter}
 use Rattle.tracer.specs.Walks.{Traceable}
 use Rattle.tracer.specs.declared.Found.{Found}
 use Rattle.tracer.specs.declared.Found.the-variants.{Contours, Stuck}
-use Rattle.cutter.specs.declared.Sliced.{Sliced}
 use Rattle.cutter.specs.declared.Sliced.the-variants.{Layer}
-use Rattle.cutter.specs.Cut.{metAt, used, contoursOf, answer, after, Leaves}
+use Rattle.cutter.specs.Cut.{used, contoursOf, answer, after}
 use Rattle.cutter.specs.Outlines.{Long, Outlined, Traces}
 use Rattle.cutter.specs.OutlineLaws.{used-fine}
 

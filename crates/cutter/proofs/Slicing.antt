@@ -1,35 +1,25 @@
 -- The layer of a height: its ring table, and the verdict of all tests.
-use Prim.Native.Nat.{ℕ, _+_, _*_, _<_, _≤_}
+use Prim.Native.Nat.{ℕ}
 use mathlib.Core.Path.{_≡_, refl, sym, ap, _∙_, subst}
-use mathlib.Core.Bool.{Bool, true, false, cond}
-use mathlib.Core.List.{List, [], _∷_, _++_}
+use mathlib.Core.Bool.{false}
+use mathlib.Core.List.{List, [], _∷_}
 use native.Mathlib.Omega.{arith}
 use borrow.Author.Tests.{not-false}
-use lib.ListN.{length, getD, replicate, length-replicate}
-use lib.IntN.{ℤ, pos}
+use lib.ListN.{length}
+use lib.IntN.{ℤ}
 use mir.Syntax.{w32}
 use mir.Val.{toZ, ofZ}
-use Rattle.laws.specs.Tables.{tabulate, overwrite, refill}
-use Rattle.laws.specs.TableLaws.{refill-at, length-refill, overwrite-twice, length-tabulate}
-use Rattle.mesh.specs.Corners.{startOf, endOf, zOf, vertexCount}
-use Rattle.mesh.specs.Refusals.{Condition, test, _then_, verdict}
-use Rattle.mesh.specs.RefusalLaws.{None, more, done, fine-none, join-stop, join-next, Every, refused-every}
-use Rattle.mesh.specs.Tests.{sizesFit}
+use Rattle.mesh.specs.Refusals.{verdict}
+use Rattle.mesh.specs.RefusalLaws.{None, more, done, fine-none, join-stop, join-next, refused-every}
 use Rattle.mesh.specs.declared.Refusal.{Refusal}
 use Rattle.mesh.specs.declared.Verdict.{Verdict}
 use Rattle.mesh.specs.declared.Verdict.the-variants.{Fine, Refused}
-use Rattle.section.specs.Section.{below, under, rising, ringEntry, Among, Right}
-use Rattle.section.specs.SectionLaws.{below-under}
-use Rattle.section.specs.Contours.{Traced, trace}
-use Rattle.section.specs.LayerLaws.{trace-layer}
-use Rattle.section.specs.Links.{hasLink, linkOf, traceLinks}
-use Rattle.section.specs.LinkLaws.{table-trace, table-leads, link-rises}
+use Rattle.section.specs.Section.{Right}
 use Rattle.section.specs.RightLaws.{right-of}
 use Rattle.cutter.specs.declared.Sliced.{Sliced}
 use Rattle.cutter.specs.declared.Sliced.the-variants.{Refused as Turned}
-use Rattle.cutter.specs.Cut.{roomFor, tests, used, section, contoursOf, refusals, answer, cleared, after, Leaves, Cuts}
-use Rattle.cutter.specs.Outlines.{Long, Outlined, Traces}
-use Rattle.cutter.specs.SolidLaws.{crossing-climbs}
+use Rattle.cutter.specs.Cut.{tests, used, section, contoursOf, refusals, answer, cleared, Leaves, Cuts}
+use Rattle.cutter.specs.Outlines.{Long, Traces}
 use Rattle.cutter.specs.OutlineLaws.{room-long, kept}
 
 -- a signed argument as the code holds it

@@ -1,9 +1,8 @@
 -- What Cut promises: it refuses exactly if a listed condition holds, at the least place; and what it gives is the layer: closed contours of every
 -- crossing once, solid on the left, with points in coordinate range and at most half a unit from the exact crossing.
-use Prim.Native.Nat.{ℕ, zero, suc, _+_, _*_, _/_, _<_, _≤_}
-use mathlib.Core.Path.{_≡_, refl, sym, ap, _∙_, subst}
-use mathlib.Core.Bool.{Bool, true}
-use mathlib.Core.List.{List, [], _∷_, _++_}
+use Prim.Native.Nat.{ℕ, _*_, _<_, _≤_}
+use mathlib.Core.Path.{_≡_, refl, sym, ap, _∙_}
+use mathlib.Core.List.{List}
 use mathlib.Core.Logic.{_↔_}
 use native.Mathlib.Omega.{arith}
 use native.Mathlib.Decide.{decLt}
@@ -13,15 +12,15 @@ use lib.IntN.{ℤ, pos, natAbs, _-ℤ_, _*ℤ_}
 use Rattle.laws.specs.Tables.{overwrite}
 use Rattle.mesh.specs.Corners.{largest, triangleCount, triangleOf}
 use Rattle.mesh.specs.Refusals.{Condition, verdict}
-use Rattle.mesh.specs.RefusalLaws.{First, None, more, done, first-refused, refused-first, none-fine, fine-none}
+use Rattle.mesh.specs.RefusalLaws.{First, None, more, first-refused, refused-first, none-fine, fine-none}
 use Rattle.mesh.specs.declared.Refusal.{Refusal}
 use Rattle.mesh.specs.declared.Verdict.{Verdict}
 use Rattle.mesh.specs.declared.Verdict.the-variants.{Fine, Refused}
-use Rattle.section.specs.Section.{VertexSet, below, rising, Crossing, Linked, Right}
+use Rattle.section.specs.Section.{VertexSet, below, Crossing, Linked, Right}
 use Rattle.section.specs.SectionLaws.{rising-unique}
 use Rattle.section.specs.RightLaws.{right-of}
 use Rattle.section.specs.RingLaws.{pigeonhole}
-use Rattle.section.specs.Contours.{member, contours, namesOf, endsOf}
+use Rattle.section.specs.Contours.{namesOf, endsOf}
 use Rattle.section.specs.Layers as layers
 use Rattle.section.specs.OrbitLaws.{at-member}
 use Rattle.section.specs.LayerLaws.{trace-layer}

@@ -1,17 +1,16 @@
 -- Laws of the layer of a ring table: what a ring table of a height asks and gives, and what a refusal leaves.
-use Prim.Native.Nat.{ℕ, _+_, _*_, _<_, _≤_}
+use Prim.Native.Nat.{ℕ, _<_}
 use mathlib.Core.Path.{_≡_, refl, sym, ap, _∙_, subst}
-use mathlib.Core.Bool.{Bool, true, false, cond, _&&_}
+use mathlib.Core.Bool.{Bool, true, false, cond}
 use mathlib.Core.List.{List, [], _∷_}
 use native.Mathlib.Omega.{arith}
 use borrow.Author.Tests.{leb-true}
-use lib.Dec.{leb}
 use lib.ListN.{length, getD, replicate, length-replicate}
-use lib.IntN.{ℤ, pos}
+use lib.IntN.{ℤ}
 use Rattle.laws.specs.Booleans.{and-parts}
 use Rattle.laws.specs.Tables.{tabulate, overwrite, refill}
 use Rattle.laws.specs.TableLaws.{refill-at, overwrite-twice, length-tabulate}
-use Rattle.mesh.specs.Refusals.{test, _then_, verdict}
+use Rattle.mesh.specs.Refusals.{verdict}
 use Rattle.mesh.specs.RefusalLaws.{nowhere-fine, verdict-one}
 use Rattle.mesh.specs.declared.Refusal.{Refusal}
 use Rattle.mesh.specs.declared.Verdict.{Verdict}
@@ -23,7 +22,7 @@ use Rattle.section.specs.LayerLaws.{trace-layer}
 use Rattle.section.specs.Links.{traceLinks}
 use Rattle.section.specs.LinkLaws.{table-trace, table-leads, link-rises}
 use Rattle.cutter.specs.declared.Sliced.{Sliced}
-use Rattle.cutter.specs.Cut.{roomFor, metAt, used, section, cleared, after, Leaves}
+use Rattle.cutter.specs.Cut.{roomFor, metAt, used, section, cleared, after}
 use Rattle.cutter.specs.Outlines.{Long, Outlined, Traces}
 use Rattle.cutter.specs.SolidLaws.{crossing-climbs}
 

@@ -1,19 +1,17 @@
 -- The worked pieces of document 01 on sections and Cut, by computation from the definitions.
-use Prim.Native.Nat.{ℕ, _+_}
+use Prim.Native.Nat.{ℕ}
 use mathlib.Core.Path.{_≡_, refl}
-use mathlib.Core.Bool.{Bool}
 use mathlib.Core.List.{List, [], _∷_}
 use lib.Dec.{ltb}
 use lib.IntN.{ℤ, pos}
 use Rattle.laws.specs.Least.{least, some}
-use Rattle.laws.specs.Tables.{tabulate, overwrite}
 use Rattle.mesh.specs.Refusals.{test, _then_, verdict}
 use Rattle.mesh.specs.Tests.{sizesFit, outOfRange, namesNone, namesTwice, reverse, pairedAt}
 use Rattle.mesh.specs.declared.Verdict.the-variants.{Fine}
-use Rattle.section.specs.Section.{VertexSet, below, rising, risingIn, successor, ringEntry}
-use Rattle.section.specs.Contours.{member, walk, Traced, contours, traceAt, traceTo, trace, namesOf, endsFrom, endsOf}
+use Rattle.section.specs.Section.{VertexSet, below, rising, risingIn, successor}
+use Rattle.section.specs.Contours.{member, walk, contours, traceAt, traceTo, trace, endsFrom, endsOf}
 use Rattle.points.specs.Points.{numerator, denominator, rounded, exactOver, exactUnder, pointAt, pointsOf}
-use Rattle.cutter.specs.Cut.{roomFor, metAt, section, contoursOf, refusals}
+use Rattle.cutter.specs.Cut.{roomFor, metAt, section, refusals}
 
 -- part P, and its pairing
 abbrev coords : List ℤ

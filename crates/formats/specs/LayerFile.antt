@@ -7,6 +7,7 @@ use lib.ListN.{length}
 use lib.IntN.{ℤ, pos, negsuc, natAbs, _+ℤ_, _-ℤ_}
 use lib.Signed.{ltZ}
 use Rattle.mesh.specs.Corners.{largest}
+pub use Rattle.mesh.specs.Corners.{mostPoints}
 use Rattle.formats.specs.Formats.{Format, through, ruled, pair, counted, Decoded, decode}
 use Rattle.formats.specs.Numbers.{word, number, signed}
 
@@ -20,12 +21,9 @@ pub record Layer : Type 0 where
   pub height : ℤ
   pub contours : List (List Point)
 
--- the limits: most layers of a file, most points of a layer, fewest points of a contour
+-- the limits beside `mostPoints` of a layer: most layers of a file, fewest points of a contour
 abbrev pub mostLayers : ℕ
 mostLayers = 4096
-
-abbrev pub mostPoints : ℕ
-mostPoints = 98304
 
 abbrev pub fewestPoints : ℕ
 fewestPoints = 2

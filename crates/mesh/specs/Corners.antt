@@ -14,6 +14,10 @@ mostTriangles = 65536
 abbrev pub largest : ℕ
 largest = 1048576
 
+-- the most points of a run whose area is asked, and of a layer of a file
+abbrev pub mostPoints : ℕ
+mostPoints = 98304
+
 -- how many vertices and triangles two tables of these lengths hold
 abbrev pub vertexCount : List ℤ → ℕ
 vertexCount coords = length coords / 3

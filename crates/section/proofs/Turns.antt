@@ -1,7 +1,7 @@
 -- What the code's branches say, in the definitions' terms.
 use Prim.Native.Nat.{ℕ, _+_, _*_, _/_, _^_, _≤_, _<_}
-use mathlib.Core.Path.{_≡_, refl, sym, ap, _∙_, subst}
-use mathlib.Core.Bool.{Bool, true, false, not, cond, _&&_, _||_}
+use mathlib.Core.Path.{_≡_, sym, ap, _∙_}
+use mathlib.Core.Bool.{Bool, true, false, not, cond, _&&_}
 use mathlib.Core.List.{List}
 use native.Mathlib.Omega.{arith}
 use lib.Dec.{ltb}
@@ -14,7 +14,7 @@ use mir.ValLaws.{toZ-ofZ}
 use Rattle.laws.specs.Machine.{same}
 use Rattle.laws.specs.Tables.{refill}
 use Rattle.laws.specs.TableLaws.{refill-more}
-use Rattle.mesh.specs.Corners.{nextCorner, startOf, endOf, zOf}
+use Rattle.mesh.specs.Corners.{nextCorner, startOf, zOf}
 use Rattle.mesh.specs.Tests.{pairOf}
 use Rattle.section.specs.Section.{VertexSet, under, rising, risingIn, successor, noCorner, ringEntry}
 

@@ -1,7 +1,7 @@
 -- The contours of a section of a right mesh are a layer: with a right pairing no walk meets a used crossing other than its start.
-use Prim.Native.Nat.{ℕ, zero, suc, _+_, _-_, _*_, _/_, _≤_, _<_}
+use Prim.Native.Nat.{ℕ, zero, suc, _+_, _-_, _≤_, _<_}
 use mathlib.Core.Path.{_≡_, refl, sym, ap, _∙_, subst}
-use mathlib.Core.Logic.{_⊎_, inl, inr, ⊎-elim}
+use mathlib.Core.Logic.{_⊎_, ⊎-elim}
 use mathlib.Core.Bool.{Bool, true, false, not, _&&_, _||_}
 use mathlib.Core.List.{List, [], _∷_, _++_, append-assoc, append-nil}
 use native.Mathlib.Omega.{arith}
@@ -16,7 +16,7 @@ use Rattle.section.specs.Section.{VertexSet, rising, successor, Among, L
 use Rattle.section.specs.SectionLaws.{successor-crosses, successor-injective, two-crossings}
 use Rattle.section.specs.Rings.{iterate, Ring}
 use Rattle.section.specs.RingLaws.{ring-of}
-use Rattle.section.specs.Contours.{member, Way, closed, met, walk, Traced, contours, stuck, namesOf, more, traceAt, traceTo, trace}
+use Rattle.section.specs.Contours.{member, contours, stuck, namesOf, traceAt, traceTo, trace}
 use Rattle.section.specs.Layers.{first, Contour, contourAt, Distinct, Layer}
 use Rattle.section.specs.OrbitLaws.{member-none, member-join, at-member, distinct-few, orbit, iterate-add, length-orbit, getD-orbit, orbit-at, at-orbit, walk-closes, next-in, distinct-ring}
 

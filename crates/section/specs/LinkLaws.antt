@@ -1,16 +1,16 @@
 -- A table whose entries are as the ring table's gives the same contours as the definition of crossing and successor.
-use Prim.Native.Nat.{ℕ, zero, suc, _+_, _≤_, _<_}
+use Prim.Native.Nat.{ℕ, zero, suc, _≤_, _<_}
 use mathlib.Core.Path.{_≡_, refl, sym, ap, _∙_, subst}
 use mathlib.Core.Bool.{Bool, true, false, not, cond, _&&_}
-use mathlib.Core.List.{List, [], _∷_, _++_}
+use mathlib.Core.List.{List, [], _∷_}
 use native.Mathlib.Omega.{arith}
-use borrow.Author.Tests.{eqb-true, eq-eqb, ne-eqb, not-true}
+use borrow.Author.Tests.{eq-eqb, ne-eqb}
 use lib.Dec.{eqb}
 use lib.ListN.{length, getD}
-use Rattle.laws.specs.Booleans.{clash, and-parts}
+use Rattle.laws.specs.Booleans.{and-parts}
 use Rattle.section.specs.Section.{VertexSet, rising, successor, noCorner, ringEntry, Among, Linked}
 use Rattle.section.specs.SectionLaws.{successor-crosses}
-use Rattle.section.specs.Contours.{member, Way, closed, met, onward, walk, Traced, contours, stuck, namesOf, more, traceAt, traceTo, trace}
+use Rattle.section.specs.Contours.{member, closed, met, onward, walk, Traced, contours, stuck, namesOf, more, traceAt, traceTo, trace}
 use Rattle.section.specs.Links.{hasLink, linkOf, traceLinks}
 use Rattle.section.specs.LayerLaws.{Leads, leads-on}
 

@@ -1,21 +1,21 @@
 -- Walks along a ring: they close, and have its places and no others; membership and lists without repeats.
 use Prim.Native.Nat.{ℕ, zero, suc, _+_, _-_, _≤_, _<_}
 use mathlib.Core.Path.{_≡_, refl, sym, ap, _∙_, subst}
-use mathlib.Core.Logic.{_⊎_, inl, inr, ⊎-elim}
-use mathlib.Core.Bool.{Bool, true, false, not, cond, _&&_, _||_}
-use mathlib.Core.List.{List, [], _∷_, _++_, append-assoc, append-nil}
+use mathlib.Core.Logic.{_⊎_, inl, inr}
+use mathlib.Core.Bool.{Bool, true, false, _||_}
+use mathlib.Core.List.{List, [], _∷_, _++_, append-nil}
 use native.Mathlib.Omega.{arith}
 use native.Mathlib.Decide.{ℕ-discrete, decLt}
 use native.Mathlib.Nat.{not-suc-le-zero, le-of-suc-le-suc}
 use borrow.Author.Tests.{eqb-true, eq-eqb, ne-eqb}
 use lib.Dec.{eqb}
-use lib.ListN.{length, getD, length-append, List·getD-append}
+use lib.ListN.{length, getD, List·getD-append}
 use lib.Seq.{append-snoc, getD-at}
 use Rattle.laws.specs.Booleans.{clash, or-left, or-right, or-cases}
 use Rattle.laws.specs.TableLaws.{length-snoc}
 use Rattle.section.specs.Rings.{iterate, Ring}
 use Rattle.section.specs.RingLaws.{pigeonhole}
-use Rattle.section.specs.Contours.{member, Way, closed, met, walk}
+use Rattle.section.specs.Contours.{member, closed, walk}
 use Rattle.section.specs.Layers.{Distinct}
 
 -- ---- membership

@@ -10,7 +10,7 @@ use Rattle.mesh.specs.Corners.{vertexCount}
 use Rattle.mesh.specs.RefusalLaws.{Nowhere}
 use Rattle.mesh.specs.Tests.{sizesFit, range, vertex, triangle, pairs}
 use Rattle.mesh.specs.TestLaws.{sizes-whole, in-range, names-vertex, proper-edge, paired-of}
-use Rattle.section.specs.Section.{Named, Linked, Right}
+use Rattle.section.specs.Section.{Right}
 
 pub right-of : (coords : List ℤ) (corners pairing : List ℕ) → sizesFit (length coords) (length corners) ≡ true
     → Nowhere (range coords) → Nowhere (vertex (vertexCount coords) corners) → Nowhere (triangle corners) → Nowhere (pairs corners pairing) → Right coords corners pairing

@@ -1,5 +1,5 @@
 -- Laws of the section: a triangle has none of either or one of each, and the successor leads every crossing round a ring of at least two.
-use Prim.Native.Nat.{ℕ, zero, suc, _+_, _-_, _*_, _/_, _%_, _≤_, _<_}
+use Prim.Native.Nat.{ℕ, _+_, _*_, _/_, _%_, _<_}
 use mathlib.Core.Path.{_≡_, refl, sym, ap, _∙_, subst, fun-ext}
 use mathlib.Core.Logic.{_⊎_, inl, inr, ⊎-elim}
 use mathlib.Core.Bool.{Bool, true, false, not, cond, _&&_, _||_}
@@ -13,10 +13,10 @@ use lib.IntN.{ℤ}
 use lib.Signed.{ltZ}
 use Rattle.laws.specs.Booleans.{clash, is-false}
 use Rattle.mesh.specs.Corners.{triangleOf, nextCorner, startOf, endOf, zOf}
-use Rattle.mesh.specs.Tests.{pairOf, reverse}
-use Rattle.mesh.specs.TestLaws.{next-below, reverse-parts, Paired}
-use Rattle.section.specs.Section.{VertexSet, below, under, rising, falling, risingIn, successor, noCorner, ringEntry, Crossing, Linked}
-use Rattle.section.specs.Rings.{iterate, Ring}
+use Rattle.mesh.specs.Tests.{pairOf}
+use Rattle.mesh.specs.TestLaws.{next-below, reverse-parts}
+use Rattle.section.specs.Section.{VertexSet, below, under, rising, falling, risingIn, successor, Crossing, Linked}
+use Rattle.section.specs.Rings.{Ring}
 use Rattle.section.specs.RingLaws.{ring-of}
 
 -- the set of a height is that of the place before its first vertex

@@ -1,37 +1,34 @@
 -- What the branches and loops of the sweep's parts say, in the definitions' terms.
 use Prim.Native.Nat.{ℕ, zero, suc, _+_, _-_, _*_, _/_, _^_, _≤_, _<_}
-use mathlib.Core.Path.{_≡_, refl, sym, ap, _∙_, subst}
-use mathlib.Core.Logic.{⊎-elim}
+use mathlib.Core.Path.{_≡_, refl, sym, ap, _∙_}
 use mathlib.Core.Bool.{Bool, true, false, not, cond, _&&_, _||_}
 use mathlib.Core.List.{List}
 use native.Mathlib.Omega.{arith}
 use native.Mathlib.Numerals.{add-one}
-use native.Mathlib.Nat.{not-suc-le-zero}
 use borrow.Author.Tests.{lt-ltb, le-ltb, eq-eqb, ne-eqb, not-true}
-use lib.Dec.{T, ltb, eqb}
-use lib.ListN.{length, getD, set, drop}
-use lib.IntN.{ℤ, pos, negsuc, natAbs}
+use lib.Dec.{ltb, eqb}
+use lib.ListN.{length, getD, set}
+use lib.IntN.{ℤ, negsuc, natAbs}
 use lib.Signed.{ltZ, leZ, mag}
 use mir.Syntax.{w32}
 use mir.Val.{SFits, toZ, ofZ}
 use mir.ValLaws.{toZ-ofZ}
-use Rattle.laws.specs.Booleans.{clash, is-false, is-true, split-eq}
-use Rattle.laws.specs.Integers.{up, dn, abs-is, one-zero, lt-not-le}
-use Rattle.laws.specs.Least.{least, some}
+use Rattle.laws.specs.Booleans.{clash, is-false}
+use Rattle.laws.specs.Integers.{abs-is, lt-not-le}
+use Rattle.laws.specs.Least.{least}
 use Rattle.laws.specs.LeastLaws.{least-same, some-of, some-at}
 use Rattle.laws.specs.Machine.{same}
 use Rattle.laws.specs.Tables.{refill}
 use Rattle.laws.specs.TableLaws.{refill-more, refill-kept}
 use Rattle.mesh.specs.Corners.{largest, vertexCount, triangleOf, startOf, zOf}
-use Rattle.mesh.specs.Refusals.{Condition, test}
+use Rattle.mesh.specs.Refusals.{test}
 use Rattle.mesh.specs.RefusalLaws.{test-refused, test-fine, whole-refused, whole-fine}
 use Rattle.mesh.specs.Tests.{pairOf}
-use Rattle.mesh.specs.RankLaws.{rank, lower-sum, not-lower-sum, sum-lower, sum-not-lower}
+use Rattle.mesh.specs.RankLaws.{lower-sum}
 use Rattle.mesh.specs.OrderTableLaws.{Ranked}
 use Rattle.mesh.specs.declared.Refusal.the-variants.{Ring, Height}
-use Rattle.mesh.specs.declared.Verdict.{Verdict}
 use Rattle.mesh.specs.declared.Verdict.the-variants.{Fine, Refused}
-use Rattle.section.specs.Section.{VertexSet, below, under, ringEntry, Named, Linked, Right}
+use Rattle.section.specs.Section.{VertexSet, below, under, ringEntry}
 use Rattle.section.specs.Contours.{member}
 use Rattle.sweep.specs.Sweep.{passedAt, touches, relinked, mayRise, risenTo}
 use Rattle.sweep.specs.Operations.{linkedAt, wrongRing, passedHigh, notAbove}

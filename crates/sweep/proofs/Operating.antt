@@ -1,17 +1,17 @@
 -- Start, Step and Layer: what each return leaves, by the verdict of its tests.
-use Prim.Native.Nat.{ℕ, suc, _+_, _*_, _≤_, _<_}
+use Prim.Native.Nat.{ℕ, suc, _+_, _≤_, _<_}
 use mathlib.Core.Path.{_≡_, refl, sym, ap, _∙_, subst}
-use mathlib.Core.Bool.{Bool, true, false, not, cond}
-use mathlib.Core.List.{List, [], _∷_, _++_}
+use mathlib.Core.Bool.{Bool, true, false, cond}
+use mathlib.Core.List.{List, [], _∷_}
 use native.Mathlib.Omega.{arith}
 use native.Mathlib.Numerals.{add-one}
 use borrow.Author.Tests.{lt-ltb, le-ltb, ltb-false, not-false}
 use lib.Dec.{ltb}
 use lib.ListN.{length, getD, replicate}
-use lib.IntN.{ℤ, pos}
+use lib.IntN.{ℤ}
 use mir.Syntax.{w32}
 use mir.Val.{SFits}
-use Rattle.laws.specs.Tables.{tabulate, overwrite, refill}
+use Rattle.laws.specs.Tables.{overwrite, refill}
 use Rattle.laws.specs.TableLaws.{refill-same, refill-at, tabulate-const}
 use Rattle.mesh.specs.Corners.{vertexCount, triangleOf, zOf}
 use Rattle.mesh.specs.Refusals.{Condition, verdict}
@@ -21,30 +21,27 @@ use Rattle.mesh.specs.Tests.{pairOf, size, range, vertex, triangle, pairs, orde
 use Rattle.mesh.specs.declared.Refusal.{Refusal}
 use Rattle.mesh.specs.declared.Verdict.{Verdict}
 use Rattle.mesh.specs.declared.Verdict.the-variants.{Fine, Refused}
-use Rattle.section.specs.Section.{below, under, noCorner, ringEntry, Right}
+use Rattle.section.specs.Section.{under, noCorner, ringEntry, Right}
 use Rattle.section.specs.SectionLaws.{below-under}
 use Rattle.section.specs.RightLaws.{right-of}
-use Rattle.section.specs.Contours.{Traced, namesOf}
+use Rattle.section.specs.Contours.{Traced}
 use Rattle.section.specs.Links.{traceLinks}
 use Rattle.cutter.specs.declared.Sliced.{Sliced}
 use Rattle.cutter.specs.declared.Sliced.the-variants.{Layer as Cut, Refused as Uncut}
-use Rattle.cutter.specs.Cut.{tests, used, section, contoursOf, answer, cleared, Leaves}
-use Rattle.cutter.specs.CutLaws.{layer-fine, layer-counts, uncut-refused}
+use Rattle.cutter.specs.Cut.{tests, used, section, contoursOf, cleared, Leaves}
+use Rattle.cutter.specs.CutLaws.{layer-counts, uncut-refused}
 use Rattle.cutter.specs.Outlines.{Long, Outlined, Traces}
 use Rattle.cutter.specs.OutlineLaws.{outlined, section-is, sliced, section-fine, kept}
-use Rattle.sweep.specs.declared.State.{State}
-use Rattle.sweep.specs.declared.Started.{Started}
 use Rattle.sweep.specs.declared.Started.the-variants.{Fresh, Refused as Unstarted}
-use Rattle.sweep.specs.declared.Stepping.{Stepping}
 use Rattle.sweep.specs.declared.Stepping.the-variants.{Stepped, Top, Refused as Unstepped}
 use Rattle.sweep.specs.declared.Rise.{Rise}
 use Rattle.sweep.specs.declared.Rise.the-variants.{Layer, Refused as Unrisen}
-use Rattle.sweep.specs.Sweep.{passedAt, freshRing, touches, relinked, stepRing, risenTo, risenRing, countBelow}
+use Rattle.sweep.specs.Sweep.{passedAt, freshRing, touches, relinked, stepRing, risenTo, risenRing}
 use Rattle.sweep.specs.SweepLaws.{entry-same, passed-under, passed-count, count-few, risen-is}
 use Rattle.sweep.specs.Operations.{at, tooMany, wrongRing, notAbove, startRefusals, startAnswer, startRing, Starts, stepRefusals, stepAnswer, stepAfter, Steps, risenSection, riseTests, riseRefusals, riseAnswer, riseAfter, Rises}
 use Rattle.sweep.specs.Places.{Placed, Liftable, Lifts}
 use Rattle.sweep.proofs.Moves.{held, back}
-use Rattle.sweep.specs.AnswerLaws.{StepTested, step-tested, RiseTested, rise-passed}
+use Rattle.sweep.specs.AnswerLaws.{StepTested, step-tested, rise-passed}
 
 -- ---- the lists of tests, by parts
 

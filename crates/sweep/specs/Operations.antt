@@ -1,5 +1,5 @@
 -- Start, Step and Layer of document 01: their refusals in order, what they answer, and what they leave in the lent tables.
-use Prim.Native.Nat.{ℕ, suc, _*_}
+use Prim.Native.Nat.{ℕ, suc}
 use mathlib.Core.Path.{_≡_}
 use mathlib.Core.Bool.{Bool, not, cond, _&&_}
 use mathlib.Core.List.{List, [], _∷_, _++_}
@@ -10,7 +10,6 @@ use Rattle.laws.specs.Least.{some}
 use Rattle.mesh.specs.Corners.{vertexCount}
 use Rattle.mesh.specs.Refusals.{Condition, whole, verdict}
 use Rattle.mesh.specs.Tests.{size, range, vertex, triangle, pairs, ordered}
-use Rattle.mesh.specs.declared.Refusal.{Refusal}
 use Rattle.mesh.specs.declared.Refusal.the-variants.{Room, Passed, Ring, Height}
 use Rattle.mesh.specs.declared.Verdict.{Verdict}
 use Rattle.mesh.specs.declared.Verdict.the-variants.{Fine, Refused}

@@ -1,35 +1,32 @@
 -- Laws of the sweep: the passed vertices are those of a lower rank, a step keeps a ring table as it is defined, and a rise ends with the vertices below its height.
-use Prim.Native.Nat.{ℕ, zero, suc, _+_, _-_, _*_, _/_, _%_, _≤_, _<_}
+use Prim.Native.Nat.{ℕ, zero, suc, _+_, _*_, _≤_, _<_}
 use mathlib.Core.Path.{_≡_, refl, sym, ap, _∙_, subst}
-use mathlib.Core.Logic.{_⊎_, inl, inr, ⊎-elim}
+use mathlib.Core.Logic.{_⊎_, ⊎-elim}
 use mathlib.Core.Bool.{Bool, true, false, not, cond, _&&_, _||_}
-use mathlib.Core.List.{List, [], _∷_, _++_}
+use mathlib.Core.List.{List, [], _∷_}
 use native.Mathlib.Omega.{arith}
 use native.Mathlib.Decide.{ℕ-discrete}
 use native.Mathlib.Nat.{not-suc-le-zero, le-of-suc-le-suc}
 use borrow.Author.Tests.{ltb-true, ltb-false, lt-ltb, le-ltb, eqb-true, eqb-false, eq-eqb, ne-eqb, not-true}
-use lib.Dec.{T, ltb, eqb}
+use lib.Dec.{ltb, eqb}
 use lib.ListN.{length, getD, take}
 use lib.Seq.{take-suc}
 use lib.IntN.{ℤ}
-use lib.Signed.{ltZ, _<ℤ_, _≤ℤ_, ltZ-yes, ltZ-no}
-use Rattle.laws.specs.Booleans.{clash, is-true, is-false, from-T, same-test, and-parts, and-of, or-parts, or-left, or-right, split-lt, split-eq}
-use Rattle.laws.specs.Integers.{up, dn, le-in, lt-in, lt-out}
-use Rattle.laws.specs.Count.{count}
+use lib.Signed.{ltZ}
+use Rattle.laws.specs.Booleans.{clash, is-true, same-test, and-parts, and-of, or-parts, or-left, or-right, split-lt, split-eq}
 use Rattle.laws.specs.CountLaws.{count-le, count-lt, count-bound}
 use Rattle.laws.specs.Tables.{refill}
 use Rattle.laws.specs.TableLaws.{length-refill, refill-at, refill-past, refill-is}
 use Rattle.mesh.specs.Corners.{vertexCount, triangleOf, nextCorner, startOf, endOf, zOf}
 use Rattle.mesh.specs.Order.{before}
 use Rattle.mesh.specs.Tests.{pairOf}
-use Rattle.mesh.specs.TestLaws.{next-below, Paired}
 use Rattle.mesh.specs.RankLaws.{rank, lower-sum, not-lower-sum, sum-lower, before-irreflexive, before-total, before-rank, rank-inj, rank-before}
 use Rattle.mesh.specs.OrderTableLaws.{Ranked}
-use Rattle.section.specs.Section.{VertexSet, below, under, rising, risingIn, successor, noCorner, ringEntry, Named, Linked}
+use Rattle.section.specs.Section.{VertexSet, below, under, rising, risingIn, successor, ringEntry, Named, Linked}
 use Rattle.section.specs.SectionLaws.{next-triangle, turned}
 use Rattle.section.specs.Contours.{member}
 use Rattle.section.specs.OrbitLaws.{member-join, member-one}
-use Rattle.sweep.specs.Sweep.{passedAt, freshRing, touches, relinked, stepRing, mayRise, risenTo, risenRing, countBelow}
+use Rattle.sweep.specs.Sweep.{passedAt, touches, relinked, stepRing, mayRise, risenTo, risenRing, countBelow}
 
 -- ---- an entry depends only on the vertices of the paired corner's triangle
 

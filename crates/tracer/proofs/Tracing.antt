@@ -1,27 +1,25 @@
 -- The pass over the corners: what the tables hold when corner c is reached, and after the last.
-use Prim.Native.Nat.{ℕ, zero, suc, _+_, _-_, _≤_, _<_}
+use Prim.Native.Nat.{ℕ, zero, suc, _+_, _≤_, _<_}
 use mathlib.Core.Path.{_≡_, refl, sym, ap, _∙_, subst}
 use mathlib.Core.Bool.{Bool, true, false, not, _&&_}
-use mathlib.Core.List.{List, [], _∷_, _++_, append-nil}
+use mathlib.Core.List.{List, [], _∷_, _++_}
 use native.Mathlib.Omega.{arith}
 use native.Mathlib.Numerals.{add-one}
-use borrow.Author.Tests.{eq-eqb, ne-eqb, not-true}
-use lib.Dec.{eqb}
+use borrow.Author.Tests.{eq-eqb, ne-eqb}
 use lib.ListN.{length, getD, set, drop, replicate, length-append, length-replicate}
 use lib.Seq.{sets}
-use Rattle.laws.specs.Booleans.{clash, is-true, is-false, and-parts, and-of, not-of}
+use Rattle.laws.specs.Booleans.{clash, is-false, and-parts}
 use Rattle.laws.specs.Tables.{overwrite}
 use Rattle.laws.specs.TableLaws.{length-snoc, overwrite-none, length-overwrite, overwrite-snoc, overwrite-more}
 use Rattle.section.specs.Section.{noCorner, Among}
 use Rattle.section.specs.Rings.{iterate, Ring}
-use Rattle.section.specs.Contours.{member, Traced, contours, stuck, namesOf as flat, traceTo, endsFrom, endsOf}
+use Rattle.section.specs.Contours.{member, Traced, contours, namesOf as flat, traceTo, endsFrom, endsOf}
 use Rattle.section.specs.Links.{hasLink, linkOf, traceLinks}
 use Rattle.section.specs.OrbitLaws.{orbit, length-orbit, orbit-snoc}
 use Rattle.section.specs.LayerLaws.{names-snoc, Leads, starting, Begun, begun-start, begun-skip, crosses, ring, contour, fresh, begun-ring, ring-room, begun-few}
 use Rattle.tracer.specs.Traces.{found, zeroed, namesAfter, endsAfter}
 use Rattle.tracer.specs.Walks.{ringOf, strike, Walkable, Traceable}
-use Rattle.tracer.specs.declared.Found.{Found}
-use Rattle.tracer.specs.declared.Found.the-variants.{Contours, Stuck}
+use Rattle.tracer.specs.declared.Found.the-variants.{Contours}
 use Rattle.tracer.proofs.Strikes.{length-strike, strike-join, strike-other, strike-same, strike-behind}
 use Rattle.tracer.proofs.Walking.{ring-is}
 

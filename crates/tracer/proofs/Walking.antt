@@ -1,17 +1,17 @@
 -- The walk along one ring: what it has written at each place, and at its end.
-use Prim.Native.Nat.{ℕ, zero, suc, _+_, _-_, _≤_, _<_}
-use mathlib.Core.Path.{_≡_, refl, sym, ap, _∙_, subst}
-use mathlib.Core.Bool.{Bool, true, false}
-use mathlib.Core.List.{List, [], _∷_, _++_}
+use Prim.Native.Nat.{ℕ, suc, _+_, _≤_, _<_}
+use mathlib.Core.Path.{_≡_, refl, sym, ap, _∙_}
+use mathlib.Core.Bool.{false}
+use mathlib.Core.List.{List, [], _∷_}
 use native.Mathlib.Omega.{arith}
 use native.Mathlib.Decide.{ℕ-discrete}
 use lib.ListN.{length, getD, set, length-set}
 use lib.Seq.{sets, length-sets}
-use Rattle.laws.specs.Booleans.{clash, is-false}
+use Rattle.laws.specs.Booleans.{is-false}
 use Rattle.laws.specs.TableLaws.{sets-snoc}
 use Rattle.section.specs.Section.{noCorner}
 use Rattle.section.specs.Rings.{iterate, Ring}
-use Rattle.section.specs.Contours.{member, Way, closed, met, walk}
+use Rattle.section.specs.Contours.{member}
 use Rattle.section.specs.Links.{linkOf}
 use Rattle.section.specs.OrbitLaws.{orbit, length-orbit, orbit-snoc, orbit-at, walk-closes}
 use Rattle.tracer.specs.Walks.{placesOf, ringOf, strike, Walkable}

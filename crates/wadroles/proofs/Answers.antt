@@ -4,7 +4,6 @@ use mathlib.Core.Path.{_≡_, refl, sym, ap, _∙_, subst}
 use mathlib.Core.List.{List, [], _∷_}
 use native.Mathlib.Omega.{arith}
 use lib.ListN.{length, set}
-use lib.Seq.{sets}
 use lib.IntN.{ℤ}
 use mir.Syntax.{w32, w64}
 use mir.Val.{SFits, toZ, ofZ}
@@ -42,7 +41,7 @@ use Rattle.parts.specs.Parts as parts
 use Rattle.parts.specs.PartLaws as part-laws
 use Rattle.parts.specs.declared.Parted.{Parted}
 use Rattle.parts.specs.declared.Parted.the-variants.{Counts, Refused as Unparted}
-use Rattle.answers.specs.Answers.{returned, outAfter, wordOf}
+use Rattle.answers.specs.Answers.{wordOf}
 use Rattle.answers.specs.AnswerLaws.{returned-fine, out-fine, returned-refused, out-refused}
 use Rattle.wadroles.specs.Interface.{CheckC, CutC, ContourC, AreaC, ReadLayerC, ReadPartC}
 

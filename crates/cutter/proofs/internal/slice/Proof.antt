@@ -3,7 +3,6 @@ use denote.Ref.{now}
 use mathlib.Core.Path.{subst}
 use lib.IntN.{ℤ}
 use mir.Syntax.{w32}
-use mir.Val.{toZ, ofZ}
 use mir.ValLaws.{toZ-ofZ}
 use Rattle.cutter.specs.Cut.{section}
 use Rattle.cutter.specs.Outlines.{Traces}

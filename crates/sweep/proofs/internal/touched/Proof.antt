@@ -1,6 +1,5 @@
 -- `internal::touched` meets its contract.
 use mathlib.Core.Path.{sym, _∙_}
-use denote.Ref.{now}
 use Rattle.sweep.proofs.Moves.{touches-1, touches-2, touches-3}
 use borrow.Author.Needs.{needs}
 use Rattle.sweep.proofs.internal.touched.Statement.{statement}

@@ -1,17 +1,12 @@
 -- `internal::trace` meets its contract.
 use denote.Enum.Declared.{tagOf, declared}
-use denote.Ref.{now}
 use Rattle.tracer.proofs.Walked.{enum}
-use Prim.Native.Nat.{ℕ, _+_, _-_}
+use Prim.Native.Nat.{ℕ, _-_}
 use mathlib.Core.Logic.{⊎-elim}
 use mathlib.Core.Path.{_≡_, refl, sym, ap, _∙_}
 use native.Mathlib.Omega.{arith}
-use borrow.Author.Needs.{needs}
-use lib.ListN.{length, set, length-set}
-use Rattle.section.specs.Section.{noCorner}
-use Rattle.tracer.specs.Walks.{ringOf}
 use Rattle.tracer.specs.declared.Walked.{Walked}
-use Rattle.tracer.specs.declared.Walked.the-variants.{Closed, Met}
+use Rattle.tracer.specs.declared.Walked.the-variants.{Closed}
 use Rattle.tracer.proofs.Tracing.{Tracing, tracing-start, tracing-same, names-length, ends-length, links-length, c-inside, j-inside, tracing-skip, walkable, end-few, tracing-ring, found-is, names-end, ends-end, links-end}
 use Rattle.tracer.proofs.internal.trace.Statement.{statement}
 use Rattle.tracer.proofs.internal.trace.Tie as tie
