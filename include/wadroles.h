@@ -57,6 +57,9 @@ extern "C" {
 /* The most layers that a layer file has. */
 #define WADROLES_MAX_LAYERS 4096
 
+/* An entry of a ring table whose corner is no crossing. */
+#define WADROLES_NO_CORNER 4294967295u
+
 /* The refusals, by number. */
 enum wadroles_refusal {
     /* A length not a multiple of three (points: two), or a count too big. */
@@ -224,6 +227,139 @@ uint32_t wadroles_contour(const int32_t *points, size_t points_len,
  */
 uint32_t wadroles_area(const int32_t *points, size_t points_len,
                        uint64_t out[4]);
+
+/*
+ * Starts a sweep: a plane that begins below the mesh and rises past its
+ * vertices, in their order. Its state is with the caller, who hands it to
+ * wadroles_step and wadroles_layer:
+ *
+ *   passed   how many vertices are passed: the first so many of the order
+ *   ring     one entry per corner: the successor of a crossing, else
+ *            WADROLES_NO_CORNER; crossings and successors as for wadroles_cut,
+ *            but with these vertices passed
+ *
+ * At the start no vertex is passed, so there is no crossing: it writes
+ * WADROLES_NO_CORNER into the first corners_len entries of ring. Later entries
+ * stay.
+ *
+ * On success out[0] is the number of passed vertices, 0.
+ *
+ * The tests, in this sequence; the first that fails is the refusal:
+ *
+ *   WADROLES_SIZE      coords_len or corners_len is not a multiple of three, or
+ *                      there are more vertices or triangles than allowed;
+ *                      place 0
+ *   WADROLES_ROOM      ring_len is less than corners_len; place 0
+ *
+ * It tests nothing else of the mesh; wadroles_step and wadroles_layer do. After
+ * a refusal the ring table is as before.
+ */
+uint32_t wadroles_start(const int32_t *coords, size_t coords_len,
+                        const uint32_t *corners, size_t corners_len,
+                        uint32_t *ring, size_t ring_len,
+                        uint64_t out[4]);
+
+/*
+ * Passes the next vertex of the order, the one at position `passed`. The
+ * pairing and the order may come from anyone (wadroles_check makes them); they
+ * are tested, and their entries beyond corners_len and beyond the number of
+ * vertices are ignored.
+ *
+ * Writes into the ring table, for the vertices passed then, the entry of each
+ * corner whose paired corner belongs to a triangle that names the vertex. All
+ * other entries stay; they are not tested, so one that was wrong stays wrong.
+ *
+ * On success out[0] is the number of passed vertices then, one more than
+ * before, and out[1] is 0. Where all vertices were passed already, the plane is
+ * at the top: out[0] is `passed`, out[1] is 1, and the ring table is as before.
+ *
+ * The tests, in this sequence; the first that fails is the refusal:
+ *
+ *   WADROLES_SIZE      coords_len or corners_len is not a multiple of three, or
+ *                      there are more vertices or triangles than allowed;
+ *                      place 0
+ *   WADROLES_RANGE     a coordinate is out of range; place its position in
+ *                      coords
+ *   WADROLES_VERTEX    a corner names no vertex; place the corner
+ *   WADROLES_TRIANGLE  a triangle names a vertex twice; place its first corner
+ *   WADROLES_PAIRING   a corner's entry in pairing is missing (the table is too
+ *                      short), is no corner, is a corner without the reverse
+ *                      edge, or is not paired back; place the corner
+ *   WADROLES_ORDER     an entry of order is missing (the table is too short) or
+ *                      is not the vertex that stands there by z and then by
+ *                      vertex number; place its position
+ *   WADROLES_PASSED    `passed` is more than the number of vertices; place 0
+ *   WADROLES_RING      ring_len is less than corners_len; place ring_len
+ *
+ * After a refusal the ring table is as before, and the caller goes on with
+ * `passed` as it was: out[0] is the place.
+ */
+uint32_t wadroles_step(const int32_t *coords, size_t coords_len,
+                       const uint32_t *corners, size_t corners_len,
+                       const uint32_t *pairing, size_t pairing_len,
+                       const uint32_t *order, size_t order_len,
+                       uint32_t *ring, size_t ring_len,
+                       size_t passed,
+                       uint64_t out[4]);
+
+/*
+ * Rises to the height h, any number of 32 bits: passes vertices, as
+ * wadroles_step does, until no unpassed vertex has z < h, and takes the
+ * contours out of the ring table. The same height may be asked twice. As in
+ * wadroles_step the pairing and the order may come from anyone.
+ *
+ * Writes the ring table, for the vertices passed then, into the first
+ * corners_len entries of ring; later ones stay. Fills names, points, ends and
+ * marks with what wadroles_cut gives at the same height: marks are zero in the
+ * first corners_len entries, and entries that are not filled stay.
+ *
+ * On success out[0] is the number of passed vertices then, out[1] the number of
+ * contours and out[2] the number of points.
+ *
+ * The tests, in this sequence; the first that fails is the refusal:
+ *
+ *   WADROLES_SIZE      coords_len or corners_len is not a multiple of three, or
+ *                      there are more vertices or triangles than allowed;
+ *                      place 0
+ *   WADROLES_ROOM      names_len, ends_len or marks_len is less than
+ *                      corners_len, or points_len less than twice corners_len;
+ *                      place 0
+ *   WADROLES_RANGE     a coordinate is out of range; place its position in
+ *                      coords
+ *   WADROLES_VERTEX    a corner names no vertex; place the corner
+ *   WADROLES_TRIANGLE  a triangle names a vertex twice; place its first corner
+ *   WADROLES_PAIRING   a corner's entry in pairing is missing (the table is too
+ *                      short), is no corner, is a corner without the reverse
+ *                      edge, or is not paired back; place the corner
+ *   WADROLES_ORDER     an entry of order is missing (the table is too short) or
+ *                      is not the vertex that stands there by z and then by
+ *                      vertex number; place its position
+ *   WADROLES_PASSED    `passed` is more than the number of vertices; place 0
+ *   WADROLES_RING      a corner's entry in ring is missing (the table is too
+ *                      short) or is not the one for `passed` vertices; place
+ *                      the corner
+ *   WADROLES_HEIGHT    a passed vertex has z >= h: the plane is too high
+ *                      already; place 0
+ *   WADROLES_USED      a walk along the ring table meets a crossing already
+ *                      used that is not its start; place that crossing
+ *
+ * After WADROLES_USED the ring table is as before; the first corners_len
+ * entries of names, ends and marks and the first 2 corners_len entries of
+ * points are zero, and later ones stay. After the other refusals all five
+ * tables are as before. The caller goes on with `passed` as it was: out[0] is
+ * the place.
+ */
+uint32_t wadroles_layer(const int32_t *coords, size_t coords_len,
+                        const uint32_t *corners, size_t corners_len,
+                        const uint32_t *pairing, size_t pairing_len,
+                        const uint32_t *order, size_t order_len,
+                        uint32_t *ring, size_t ring_len,
+                        size_t passed, int32_t h,
+                        uint32_t *names, size_t names_len,
+                        int32_t *points, size_t points_len,
+                        uint32_t *ends, size_t ends_len,
+                        uint32_t *marks, size_t marks_len,
+                        uint64_t out[4]);
 
 /*
  * Reads layer i (from 0) of a layer file. The file holds these values and ends

@@ -16,7 +16,7 @@ use tracer::Found;
 use tracer::internal::trace;
 
 // Zeroes the first n numbers.
-fn clear_points(t: &mut [i32], n: usize)
+pub fn clear_points(t: &mut [i32], n: usize)
     requires { ⌜ n ≤ length (now t) ⌝ }
     ensures { λ _. ⌜ now (t .exit) ≡ overwrite (replicate n (pos 0)) (now (t .entry)) ⌝ }
 {

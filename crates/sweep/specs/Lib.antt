@@ -1,11 +1,7 @@
--- The sweep: Start, Step and Layer, and demand 3.
+-- The sweep: Start, Step and Layer.
 pub mod Sweep
 pub mod Operations
 pub mod SweepLaws
 pub mod Places
 pub mod AnswerLaws
 pub mod RiseLaws
-pub mod Claim
-pub mod ClaimLaws
-pub mod RunLaws
-pub mod Run

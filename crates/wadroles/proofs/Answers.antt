@@ -1,15 +1,19 @@
 -- What the C interface answers, by each operation's answer.
-use Prim.Native.Nat.{ℕ, _*_, _^_, _<_}
+use Prim.Native.Nat.{ℕ, suc, _*_, _^_, _<_}
 use mathlib.Core.Path.{_≡_, refl, sym, ap, _∙_, subst}
+use mathlib.Core.Bool.{Bool, cond}
 use mathlib.Core.List.{List, [], _∷_}
 use native.Mathlib.Omega.{arith}
+use lib.Dec.{ltb}
 use lib.ListN.{length, set}
+use lib.Seq.{sets}
 use lib.IntN.{ℤ}
 use mir.Syntax.{w32, w64}
 use mir.Val.{SFits, toZ, ofZ}
 use mir.ValLaws.{toZ-ofZ}
 use lib.Signed.{mag}
 use Rattle.laws.specs.Machine.{same, same-in}
+use Rattle.mesh.specs.Corners.{vertexCount}
 use Rattle.mesh.specs.Refusals.{numberOf, placeOf, verdict}
 use Rattle.mesh.specs.declared.Refusal.{Refusal}
 use Rattle.mesh.specs.declared.Verdict.{Verdict}
@@ -31,6 +35,17 @@ use Rattle.contours.specs.Areas.{mostPoints}
 use Rattle.contours.specs.Runs.{largestCross}
 use Rattle.contours.specs.AreaLaws.{area-fine, area-is, area-bound}
 use Rattle.contours.specs.AreaLaws as area-laws
+use Rattle.sweep.specs.declared.State.{State}
+use Rattle.sweep.specs.declared.Started.{Started}
+use Rattle.sweep.specs.declared.Started.the-variants.{Fresh, Refused as Unstarted}
+use Rattle.sweep.specs.declared.Stepping.{Stepping}
+use Rattle.sweep.specs.declared.Stepping.the-variants.{Stepped, Top, Refused as Unstepped}
+use Rattle.sweep.specs.declared.Rise.{Rise}
+use Rattle.sweep.specs.declared.Rise.the-variants.{Layer as Risen, Refused as Unrisen}
+use Rattle.sweep.specs.Sweep.{risenTo}
+use Rattle.sweep.specs.Operations as sweep
+use Rattle.sweep.specs.AnswerLaws.{fresh-fine, stepped-fine, top-fine, unstepped-refused, unrisen-refused}
+use Rattle.sweep.specs.AnswerLaws as sweep-laws
 use Rattle.formats.specs.LayerFile.{Layer}
 use Rattle.formats.specs.LayerRules.{pointTotal}
 use Rattle.formats.specs.PartFile.{Part, countsOf, partOf}
@@ -43,7 +58,12 @@ use Rattle.parts.specs.declared.Parted.{Parted}
 use Rattle.parts.specs.declared.Parted.the-variants.{Counts, Refused as Unparted}
 use Rattle.answers.specs.Answers.{wordOf}
 use Rattle.answers.specs.AnswerLaws.{returned-fine, out-fine, returned-refused, out-refused}
-use Rattle.wadroles.specs.Interface.{CheckC, CutC, ContourC, AreaC, ReadLayerC, ReadPartC}
+use Rattle.heights.specs.Heights.{heightsTaken}
+use Rattle.layers.specs.declared.Filed.{Filed}
+use Rattle.layers.specs.declared.Filed.the-variants.{Length, Refused as Unfiled}
+use Rattle.layers.specs.AllLayers as layers
+use Rattle.layers.specs.LayersLaws.{length-fine, unfiled-refused}
+use Rattle.wadroles.specs.Interface.{CheckC, CutC, ContourC, AreaC, StartC, StepC, LayerC, ReadLayerC, ReadPartC, AllLayersC}
 
 -- ---- Check
 
@@ -100,6 +120,108 @@ module _ (points : List ℤ) (out : List ℕ) {result : Measured} (k : result �
   area-refused {r} e a b =
       let f = area-laws.turned-refused (verdict (areas.refusals points)) (areas.areaOf points) r (sym k ∙ e) in
       record { returns = returned-refused f a; writes = out-refused f (wordOf (areas.areaOf points) ∷ []) out b }
+
+-- ---- Start
+
+pub unstarted-refused : (v : Verdict) (r : Refusal) → Unstarted r ≡ sweep.startAnswer v → v ≡ Refused r
+unfolding sweep.startAnswer
+unstarted-refused Fine r e = absurd (let z : _≡_ {A = ℕ} 0 1 = cc in omega arith)
+unstarted-refused (Refused q) r e = cc
+
+module _ {coords : List ℤ} {corners ring : List ℕ} {result : Started} {ring′ : List ℕ} (out : List ℕ) (k : sweep.Starts coords corners ring result ring′) where
+  pub start-fresh : {s : State} → result ≡ Fresh s → StartC coords corners ring out 0 ring′ (set out 0 (s .passed))
+  start-fresh e =
+      let f = fresh-fine _ (sym e ∙ k .answers) in
+      record { returns = returned-fine (f .0); writes = out-fine (f .0) (0 ∷ []) out (λ t. set out 0 (f .1 t .passed)); rings = k .rings }
+
+  pub start-refused : {r : Refusal} {n : ℕ} {out′ : List ℕ} → result ≡ Unstarted r → n ≡ numberOf r → out′ ≡ set out 0 (placeOf r) → StartC coords corners ring out n ring′ out′
+  start-refused {r} e a b =
+      let f = unstarted-refused _ r (sym e ∙ k .answers) in
+      record { returns = returned-refused f a; writes = out-refused f (0 ∷ []) out b; rings = k .rings }
+
+-- ---- Step
+
+module _ {coords : List ℤ} {corners pairing order ring : List ℕ} {n : ℕ} {result : Stepping} {ring′ : List ℕ} (out : List ℕ)
+    (k : sweep.Steps coords corners pairing order ring n result ring′) where
+  abbrev step-values : Bool → List ℕ
+  step-values b = cond b (suc n ∷ 0 ∷ []) (n ∷ 1 ∷ [])
+
+  pub step-taken : {s : State} → result ≡ Stepped s → StepC coords corners pairing order ring n out 0 ring′ (set (set out 0 (s .passed)) 1 0)
+  step-taken e =
+      let f = stepped-fine _ _ _ (sym e ∙ k .answers) in
+      record {
+        returns = returned-fine (f .0);
+        writes = out-fine (f .0) (step-values (ltb n (vertexCount coords))) out
+            ((λ t. set (set out 0 (f .1 .1 t .passed)) 1 0) ∙ ap (λ (b : Bool). sets out 0 (step-values b)) (sym (f .1 .0)));
+        rings = k .rings;
+      }
+
+  pub step-top : result ≡ Top → StepC coords corners pairing order ring n out 0 ring′ (set (set out 0 n) 1 1)
+  step-top e =
+      let f = top-fine _ _ _ (sym e ∙ k .answers) in
+      record {
+        returns = returned-fine (f .0);
+        writes = out-fine (f .0) (step-values (ltb n (vertexCount coords))) out (ap (λ (b : Bool). sets out 0 (step-values b)) (sym (f .1)));
+        rings = k .rings;
+      }
+
+  pub step-refused : {r : Refusal} {m : ℕ} {out′ : List ℕ} → result ≡ Unstepped r → m ≡ numberOf r → out′ ≡ set out 0 (placeOf r) → StepC coords corners pairing order ring n out m ring′ out′
+  step-refused {r} e a b =
+      let f = unstepped-refused _ _ _ r (sym e ∙ k .answers) in
+      record { returns = returned-refused f a; writes = out-refused f (step-values (ltb n (vertexCount coords))) out b; rings = k .rings }
+
+-- ---- Layer
+
+-- of the height as it was handed in
+pub rise-at-height : {coords : List ℤ} {corners pairing order ring : List ℕ} {n : ℕ} {h : ℤ} {names : List ℕ} {points : List ℤ} {ends marks : List ℕ}
+    {result : Rise} {ring′ names′ : List ℕ} {points′ : List ℤ} {ends′ marks′ : List ℕ} → SFits w32 h
+    → sweep.Rises coords corners pairing order ring n (toZ w32 (ofZ w32 h)) names points ends marks result ring′ names′ points′ ends′ marks′
+    → sweep.Rises coords corners pairing order ring n h names points ends marks result ring′ names′ points′ ends′ marks′
+rise-at-height {coords} {corners} {pairing} {order} {ring} {n} {h} {names} {points} {ends} {marks} {result} {ring′} {names′} {points′} {ends′} {marks′} f =
+    subst (λ (z : ℤ). sweep.Rises coords corners pairing order ring n z names points ends marks result ring′ names′ points′ ends′ marks′) (toZ-ofZ w32 h f)
+
+module _ {coords : List ℤ} {corners pairing order ring : List ℕ} {n : ℕ} {h : ℤ} {names : List ℕ} {points : List ℤ} {ends marks : List ℕ}
+    {result : Rise} {ring′ names′ : List ℕ} {points′ : List ℤ} {ends′ marks′ : List ℕ} (out : List ℕ)
+    (k : sweep.Rises coords corners pairing order ring n h names points ends marks result ring′ names′ points′ ends′ marks′) where
+  abbrev risen : List (List ℕ)
+  risen = cut.contoursOf (sweep.risenSection coords corners pairing order ring n h)
+
+  abbrev layer-values : List ℕ
+  layer-values = risenTo coords order h (vertexCount coords) n ∷ length risen ∷ length (namesOf risen) ∷ []
+
+  pub layer-risen : {s : State} {i j : ℕ} → result ≡ Risen s i j → LayerC coords corners pairing order ring n h names points ends marks out 0 ring′ names′ points′ ends′ marks′ (set (set (set out 0 (s .passed)) 1 i) 2 j)
+  layer-risen e =
+      let f = sweep-laws.layer-fine _ _ _ (sym e ∙ k .answers) in
+      record {
+        returns = returned-fine (f .0);
+        writes = out-fine (f .0) layer-values out (λ t. set (set (set out 0 (f .1 .0 t .passed)) 1 (f .1 .1 .0 t)) 2 (f .1 .1 .1 t));
+        rings = k .rings;
+        leaves = k .leaves;
+      }
+
+  pub layer-refused : {r : Refusal} {m : ℕ} {out′ : List ℕ} → result ≡ Unrisen r → m ≡ numberOf r → out′ ≡ set out 0 (placeOf r) → LayerC coords corners pairing order ring n h names points ends marks out m ring′ names′ points′ ends′ marks′ out′
+  layer-refused {r} e a b =
+      let f = unrisen-refused _ _ _ r (sym e ∙ k .answers) in
+      record { returns = returned-refused f a; writes = out-refused f layer-values out b; rings = k .rings; leaves = k .leaves }
+
+-- ---- All layers
+
+module _ {coords : List ℤ} {corners pairing order : List ℕ} {heights : List ℤ} {names : List ℕ} {points : List ℤ} {ends marks ring output : List ℕ}
+    {result : Filed} {names′ : List ℕ} {points′ : List ℤ} {ends′ marks′ ring′ output′ : List ℕ} (out : List ℕ)
+    (k : layers.Files coords corners pairing order heights names points ends marks ring output result names′ points′ ends′ marks′ ring′ output′) where
+  abbrev file-values : List ℕ
+  file-values = length (layers.fileOf coords corners pairing (heightsTaken coords heights)) ∷ []
+
+  pub layers-filed : {n : ℕ} → result ≡ Length n → AllLayersC coords corners pairing order heights names points ends marks ring output out 0 names′ points′ ends′ marks′ ring′ output′ (set out 0 n)
+  layers-filed e =
+      let f = length-fine _ _ (sym e ∙ k .answers) in
+      record { returns = returned-fine (f .0); values = out-fine (f .0) file-values out (λ t. set out 0 (f .1 t)); writes = k .writes; leaves = k .leaves }
+
+  pub layers-refused : {r : Refusal} {m : ℕ} {out′ : List ℕ} → result ≡ Unfiled r → m ≡ numberOf r → out′ ≡ set out 0 (placeOf r)
+      → AllLayersC coords corners pairing order heights names points ends marks ring output out m names′ points′ ends′ marks′ ring′ output′ out′
+  layers-refused {r} e a b =
+      let f = unfiled-refused _ _ r (sym e ∙ k .answers) in
+      record { returns = returned-refused f a; values = out-refused f file-values out b; writes = k .writes; leaves = k .leaves }
 
 -- ---- Read layer
 

@@ -1,13 +1,18 @@
 // The C interface. Every function returns 0 or the refusal's number, and fills `out`: the place on refusal, the values on success.
 ghost use mathlib.Core.Path.{_≡_};
-ghost use Rattle.wadroles.specs.Interface.{CheckC, CutC, ContourC, AreaC, ReadLayerC, ReadPartC};
+ghost use Rattle.wadroles.specs.Interface.{CheckC, CutC, ContourC, AreaC, StartC, StepC, LayerC, AllLayersC, ReadLayerC, ReadPartC};
 use answers::refuse;
 use answers::word;
 use checker::Checked;
 use contours::Measured;
 use cutter::Sliced;
+use layers::Filed;
 use parts::Parted;
 use reader::Reading;
+use sweep::Rise;
+use sweep::Started;
+use sweep::State;
+use sweep::Stepping;
 
 #[no_mangle]
 pub extern "C" fn wadroles_check(
@@ -79,6 +84,135 @@ pub extern "C" fn wadroles_area(points: &[i32], out: &mut [u64; 4]) -> u32
             0
         }
         Measured::Refused(r) => refuse(r, out),
+    }
+}
+
+#[no_mangle]
+pub extern "C" fn wadroles_start(
+    coords: &[i32],
+    corners: &[u32],
+    ring: &mut [u32],
+    out: &mut [u64; 4],
+) -> u32
+    ensures { λ r. ⌜ StartC (now (coords .entry)) (now (corners .entry)) (now (ring .entry)) (now (out .entry)) r (now (ring .exit)) (now (out .exit)) ⌝ }
+{
+    let a = sweep::start(coords, corners, ring);
+    match a {
+        Started::Fresh(s) => {
+            out[0] = s.passed as u64;
+            0
+        }
+        Started::Refused(r) => refuse(r, out),
+    }
+}
+
+#[no_mangle]
+pub extern "C" fn wadroles_step(
+    coords: &[i32],
+    corners: &[u32],
+    pairing: &[u32],
+    order: &[u32],
+    ring: &mut [u32],
+    passed: usize,
+    out: &mut [u64; 4],
+) -> u32
+    ensures { λ r. ⌜ StepC (now (coords .entry)) (now (corners .entry)) (now (pairing .entry)) (now (order .entry)) (now (ring .entry)) passed (now (out .entry)) r (now (ring .exit)) (now (out .exit)) ⌝ }
+{
+    let s = State { passed: passed };
+    let a = sweep::step(coords, corners, pairing, order, ring, s);
+    match a {
+        Stepping::Stepped(t) => {
+            out[0] = t.passed as u64;
+            out[1] = 0;
+            0
+        }
+        Stepping::Top => {
+            out[0] = passed as u64;
+            out[1] = 1;
+            0
+        }
+        Stepping::Refused(r) => refuse(r, out),
+    }
+}
+
+#[no_mangle]
+pub extern "C" fn wadroles_layer(
+    coords: &[i32],
+    corners: &[u32],
+    pairing: &[u32],
+    order: &[u32],
+    ring: &mut [u32],
+    passed: usize,
+    h: i32,
+    names: &mut [u32],
+    points: &mut [i32],
+    ends: &mut [u32],
+    marks: &mut [u32],
+    out: &mut [u64; 4],
+) -> u32
+    ensures { λ r. ⌜ LayerC (now (coords .entry)) (now (corners .entry)) (now (pairing .entry)) (now (order .entry)) (now (ring .entry)) passed h (now (names .entry)) (now (points .entry)) (now (ends .entry)) (now (marks .entry)) (now (out .entry)) r (now (ring .exit)) (now (names .exit)) (now (points .exit)) (now (ends .exit)) (now (marks .exit)) (now (out .exit)) ⌝ }
+{
+    let s = State { passed: passed };
+    let a = sweep::layer(
+        coords,
+        corners,
+        pairing,
+        order,
+        ring,
+        s,
+        h,
+        names,
+        points,
+        ends,
+        marks,
+    );
+    match a {
+        Rise::Layer(t, j, k) => {
+            out[0] = t.passed as u64;
+            out[1] = j as u64;
+            out[2] = k as u64;
+            0
+        }
+        Rise::Refused(r) => refuse(r, out),
+    }
+}
+
+#[no_mangle]
+pub extern "C" fn wadroles_all_layers(
+    coords: &[i32],
+    corners: &[u32],
+    pairing: &[u32],
+    order: &[u32],
+    heights: &[i32],
+    names: &mut [u32],
+    points: &mut [i32],
+    ends: &mut [u32],
+    marks: &mut [u32],
+    ring: &mut [u32],
+    output: &mut [u8],
+    out: &mut [u64; 4],
+) -> u32
+    ensures { λ r. ⌜ AllLayersC (now (coords .entry)) (now (corners .entry)) (now (pairing .entry)) (now (order .entry)) (now (heights .entry)) (now (names .entry)) (now (points .entry)) (now (ends .entry)) (now (marks .entry)) (now (ring .entry)) (now (output .entry)) (now (out .entry)) r (now (names .exit)) (now (points .exit)) (now (ends .exit)) (now (marks .exit)) (now (ring .exit)) (now (output .exit)) (now (out .exit)) ⌝ }
+{
+    let a = layers::all_layers(
+        coords,
+        corners,
+        pairing,
+        order,
+        heights,
+        names,
+        points,
+        ends,
+        marks,
+        ring,
+        output,
+    );
+    match a {
+        Filed::Length(n) => {
+            out[0] = n as u64;
+            0
+        }
+        Filed::Refused(r) => refuse(r, out),
     }
 }
 

@@ -29,16 +29,25 @@ mul-wide : tie.Need-mul-wide Inv-loop μ-loop
 mul-wide c = omega (arith, c .loop-test .taken, c .before .before .before .before .before .pre .0 .whole .few)
 
 shared-slice-read-wide : tie.Need-shared-slice-read-wide Inv-loop μ-loop
-shared-slice-read-wide c = let s = c .before .before .before .before .before .before in s .pre .1 .0 .each (c .before .before .loop .c) (c .before .loop-test .taken) .there
+shared-slice-read-wide c =
+    let s = c .before .before .before .before .before .before in
+    let l : c .before .before .loop .c < length (now (s .args .corners)) = omega (arith, c .before .loop-test .taken) in
+    s .pre .1 .0 .each (c .before .before .loop .c) l .there
 
 wide-requires : tie.Need-wide-requires Inv-loop μ-loop
 wide-requires c κs = search needs
 
 touched-requires : tie.Need-touched-requires Inv-loop μ-loop
-touched-requires c κs = let s = c .before .before .before .before .before .before .before in omega (arith, c .wide .ensures, s .pre .1 .0 .each (c .before .before .before .loop .c) (c .before .before .loop-test .taken) .corner, s .pre .0 .whole .threes)
+touched-requires c κs =
+    let s = c .before .before .before .before .before .before .before in
+    let l : c .before .before .before .loop .c < length (now (s .args .corners)) = omega (arith, c .before .before .loop-test .taken) in
+    omega (arith, c .wide .ensures, s .pre .1 .0 .each (c .before .before .before .loop .c) l .corner, s .pre .0 .whole .threes)
 
 entry-of-requires : tie.Need-entry-of-requires Inv-loop μ-loop
-entry-of-requires c κs = let s = c .before .before .before .before .before .before .before .before .before in (s .pre .0, (s .pre .1 .0, c .before .before .before .before .loop-test .taken))
+entry-of-requires c κs =
+    let s = c .before .before .before .before .before .before .before .before .before in
+    let l : c .before .before .before .before .before .loop .c < length (now (s .args .corners)) = omega (arith, c .before .before .before .before .loop-test .taken) in
+    (s .pre .0, (s .pre .1 .0, l))
 
 mul-ring : tie.Need-mul-ring Inv-loop μ-loop
 mul-ring c = omega (arith, c .before .before .before .before .before .loop-test .taken, c .before .before .before .before .before .before .before .before .before .before .pre .0 .whole .few)

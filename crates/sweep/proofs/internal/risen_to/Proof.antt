@@ -1,5 +1,5 @@
 -- `internal::risen_to` meets its contract.
-use Prim.Native.Nat.{_+_, _-_, _*_, _<_}
+use Prim.Native.Nat.{_+_, _-_, _*_, _≤_, _<_}
 use mathlib.Core.Path.{ap, _∙_}
 use native.Mathlib.Omega.{arith}
 use borrow.Author.Needs.{needs}
@@ -23,16 +23,24 @@ abbrev μ-loop : tie.MeasureT-loop
 inside : (c : tie.After-wide Inv-loop μ-loop) → 3 * c .wide .result + 2 < length (now (c .before .before .before .before .before .args .coords))
 inside c =
     let s = c .before .before .before .before .before in
-    omega (arith, c .wide .ensures, s .pre .1 (c .before .before .before .loop .p) (c .before .before .loop-test .taken) .vertex)
+    let l : c .before .before .before .loop .p < vertexCount (now (s .args .coords)) = omega (arith, c .before .before .loop-test .taken) in
+    omega (arith, c .wide .ensures, s .pre .1 (c .before .before .before .loop .p) l .vertex)
 
 loop-holds : tie.Need-loop-holds Inv-loop μ-loop
 loop-holds c = rising-start _ _ _ _ (c .before .pre .0)
 
 mul-wide : tie.Need-mul-wide Inv-loop μ-loop
-mul-wide c = let r = c .before .before .before .pre .1 (c .before .loop .p) (c .loop-test .taken) in omega (arith, r .there)
+mul-wide c =
+    let s = c .before .before .before in
+    let l : c .before .loop .p < vertexCount (now (s .args .coords)) = omega (arith, c .loop-test .taken) in
+    let r = s .pre .1 (c .before .loop .p) l in
+    omega (arith, r .there)
 
 shared-slice-read-wide : tie.Need-shared-slice-read-wide Inv-loop μ-loop
-shared-slice-read-wide c = c .before .before .before .before .pre .1 (c .before .before .loop .p) (c .before .loop-test .taken) .there
+shared-slice-read-wide c =
+    let s = c .before .before .before .before in
+    let l : c .before .before .loop .p < vertexCount (now (s .args .coords)) = omega (arith, c .before .loop-test .taken) in
+    s .pre .1 (c .before .before .loop .p) l .there
 
 wide-requires : tie.Need-wide-requires Inv-loop μ-loop
 wide-requires c κs = search needs
@@ -50,7 +58,10 @@ shared-slice-copy-out-if1 : tie.Need-shared-slice-copy-out-if1 Inv-loop μ-loop
 shared-slice-copy-out-if1 c = inside c
 
 returns : tie.Need-returns Inv-loop μ-loop
-returns c = let s = c .before .before .before .before .before .before .before in rising-stop _ _ _ _ _ (c .before .before .before .before .before .loop .inv) (may-not (now (s .args .coords)) _ _ (c .before .before .before .before .before .loop .p) (c .before .before .wide .result) (c .before .if12 .given) (c .before .before .wide .ensures) (c .before .before .before .before .loop-test .taken) (c .if1 .taken)) ∙ ap (λ (z : ℤ). risenTo (now (s .args .coords)) (now (s .args .order)) z (vertexCount (now (s .args .coords))) (s .args .n)) (back (s .fits .h))
+returns c =
+    let s = c .before .before .before .before .before .before .before in
+    let l : c .before .before .before .before .before .loop .p < vertexCount (now (s .args .coords)) = omega (arith, c .before .before .before .before .loop-test .taken) in
+    rising-stop _ _ _ _ _ (c .before .before .before .before .before .loop .inv) (may-not (now (s .args .coords)) _ _ (c .before .before .before .before .before .loop .p) (c .before .before .wide .result) (c .before .if12 .given) (c .before .before .wide .ensures) l (c .if1 .taken)) ∙ ap (λ (z : ℤ). risenTo (now (s .args .coords)) (now (s .args .order)) z (vertexCount (now (s .args .coords))) (s .args .n)) (back (s .fits .h))
 
 add-p : tie.Need-add-p Inv-loop μ-loop
 add-p c = omega (arith, c .before .before .before .before .loop-test .taken)
@@ -59,10 +70,16 @@ loop-less : tie.Need-loop-less Inv-loop μ-loop
 loop-less c = omega (arith, c .before .before .before .before .loop-test .taken)
 
 loop-again : tie.Need-loop-again Inv-loop μ-loop
-loop-again c = let s = c .before .before .before .before .before .before .before in rising-more _ _ _ _ _ (c .before .before .before .before .before .loop .inv) (c .before .before .before .before .loop-test .taken) (may (now (s .args .coords)) _ _ (c .before .before .before .before .before .loop .p) (c .before .before .wide .result) (c .before .if12 .given) (c .before .before .wide .ensures) (c .before .before .before .before .loop-test .taken) (c .if1 .left))
+loop-again c =
+    let s = c .before .before .before .before .before .before .before in
+    let l : c .before .before .before .before .before .loop .p < vertexCount (now (s .args .coords)) = omega (arith, c .before .before .before .before .loop-test .taken) in
+    rising-more _ _ _ _ _ (c .before .before .before .before .before .loop .inv) l (may (now (s .args .coords)) _ _ (c .before .before .before .before .before .loop .p) (c .before .before .wide .result) (c .before .if12 .given) (c .before .before .wide .ensures) l (c .if1 .left))
 
 returns-2 : tie.Need-returns-2 Inv-loop μ-loop
-returns-2 c = let s = c .before .before .before in rising-stop _ _ _ _ _ (c .before .loop .inv) (may-end _ _ _ (c .before .loop .p) (c .loop-test .left)) ∙ ap (λ (z : ℤ). risenTo (now (s .args .coords)) (now (s .args .order)) z (vertexCount (now (s .args .coords))) (s .args .n)) (back (s .fits .h))
+returns-2 c =
+    let s = c .before .before .before in
+    let l : vertexCount (now (s .args .coords)) ≤ c .before .loop .p = omega (arith, c .loop-test .left) in
+    rising-stop _ _ _ _ _ (c .before .loop .inv) (may-end _ _ _ (c .before .loop .p) l) ∙ ap (λ (z : ℤ). risenTo (now (s .args .coords)) (now (s .args .order)) z (vertexCount (now (s .args .coords))) (s .args .n)) (back (s .fits .h))
 
 pub risen-to-spec : {M : Type 1} → statement M
 risen-to-spec =

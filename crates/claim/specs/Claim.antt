@@ -1,11 +1,12 @@
--- Demand 3: a list of vertex steps and rises that follows a start, the plain sweep that is fed the list, and the one claim about the list.
+-- Demand 3: a list of vertex steps and rises that follows a start, the plain sweep that is fed the list, and the one claim about the list; beside it
+-- the claim about All layers.
 use Prim.Native.Nat.{ℕ, suc, _<_, _≤_}
 use mathlib.Core.Path.{_≡_}
 use mathlib.Core.Logic.{_⊎_}
 use mathlib.Core.Bool.{Bool, true, false, cond}
 use mathlib.Core.List.{List, [], _∷_}
 use lib.Dec.{ltb}
-use lib.ListN.{length, getD}
+use lib.ListN.{length, getD, take, drop}
 use lib.IntN.{ℤ}
 use Rattle.mesh.specs.Corners.{vertexCount, triangleOf}
 use Rattle.mesh.specs.Tests.{pairOf}
@@ -13,17 +14,23 @@ use Rattle.section.specs.Section.{rising, ringEntry}
 use Rattle.section.specs.Rings.{Ring}
 use Rattle.section.specs.Contours.{trace}
 use Rattle.section.specs.Links.{traceLinks}
-use Rattle.cutter.specs.Cut.{Cuts}
+use Rattle.cutter.specs.Cut.{roomFor, Cuts}
 use Rattle.cutter.specs.declared.Sliced.{Sliced}
 use Rattle.cutter.specs.declared.Sliced.the-variants.{Layer as Cut}
+use Rattle.formats.specs.LayerFile as files
+use Rattle.formats.specs.LayerFile.{layerFile}
+use Rattle.writer.specs.Written.{layerOf}
 use Rattle.sweep.specs.declared.State.{State}
 use Rattle.sweep.specs.declared.Started.the-variants.{Fresh}
 use Rattle.sweep.specs.declared.Stepping.{Stepping}
 use Rattle.sweep.specs.declared.Stepping.the-variants.{Stepped, Top, Refused as Unstepped}
 use Rattle.sweep.specs.declared.Rise.{Rise}
 use Rattle.sweep.specs.declared.Rise.the-variants.{Layer, Refused as Unrisen}
 use Rattle.sweep.specs.Sweep.{passedAt, touches, countBelow}
 use Rattle.sweep.specs.Operations.{Starts, Steps, Rises}
+use Rattle.heights.specs.Heights.{heightsTaken}
+use Rattle.layers.specs.declared.Filed.the-variants.{Length}
+use Rattle.layers.specs.AllLayers.{Files}
 
 -- ---- calls
 
@@ -173,7 +180,7 @@ pub record Swept (coords : List ℤ) (corners pairing order : List ℕ) (calls :
   -- each unrefused rise gave what Cut gives; each step changed only entries whose paired triangle touches its vertex; a refused call left its ring table
   pub each : Each (Did coords corners pairing order) calls
 
--- Demand 3 about a list of calls. The hypotheses, and why a caller can meet them:
+-- Demand 3 about the list of calls. The hypotheses, and why a caller can meet them:
 -- * the start is not refused: Start refuses only tables of a wrong length or beyond the limits (1) and a ring table shorter than the corners (9);
 -- * the list is a run: the caller keeps mesh, pairing and order, and hands each call the state and the ring table that the last unrefused one left, which
 --   nobody else writes. A refused call may get anything, so whatever is refused leaves the list a run. No right pairing or order is asked for: an unrefused
@@ -183,3 +190,42 @@ SweepClaim =
     (coords : List ℤ) (corners pairing order ring : List ℕ) (fresh : State) (ring₀ : List ℕ) → Starts coords corners ring (Fresh fresh) ring₀
     → (calls : List Call) (state : State) (ring′ : List ℕ) → Run coords corners pairing order fresh ring₀ calls state ring′
     → Swept coords corners pairing order calls (planeAfter coords 0 (fed calls)) state ring′
+
+-- ---- All layers
+
+-- the layer of Cut at height h: Cut is not refused where its tables have room, whatever is in them, and the tables that it leaves hold this layer; so do those
+-- of every unrefused rise to h
+pub record LayerOfCut (coords : List ℤ) (corners pairing : List ℕ) (h : ℤ) (layer : files.Layer) : Type 0 where
+  pub cuts : (t : Lent) → roomFor (length corners) (length (t .names)) (length (t .points)) (length (t .ends)) (length (t .marks)) ≡ true
+      → (answer : Sliced) (t′ : Lent) → CutOf coords corners pairing h t answer t′ → (j : ℕ) × (k : ℕ) × (answer ≡ Cut j k)
+  pub holds : (t t′ : Lent) (j k : ℕ) → CutOf coords corners pairing h t (Cut j k) t′ → layerOf h (t′ .points) (t′ .ends) j ≡ layer
+  pub rises : (order ring ring′ : List ℕ) (s s′ : State) (t t′ : Lent) (j k : ℕ) → RiseOf (handed coords corners pairing order s ring) h t (Layer s′ j k) ring′ t′
+      → layerOf h (t′ .points) (t′ .ends) j ≡ layer
+
+-- at each of these heights
+pub data LayersOfCuts (coords : List ℤ) (corners pairing : List ℕ) : List ℤ → List files.Layer → Type 0 where
+  no-height : LayersOfCuts coords corners pairing [] []
+  next-height : {h : ℤ} {hs : List ℤ} {layer : files.Layer} {layers : List files.Layer} → LayerOfCut coords corners pairing h layer
+      → LayersOfCuts coords corners pairing hs layers → LayersOfCuts coords corners pairing (h ∷ hs) (layer ∷ layers)
+
+-- an answer n and an output are the length and the bytes of the layer file of Cut at each of these heights; what was in the output past them stays
+pub record FileOfCuts (coords : List ℤ) (corners pairing : List ℕ) (hs : List ℤ) (output : List ℕ) (n : ℕ) (output′ : List ℕ) : Type 0 where
+  pub layers : List files.Layer
+  pub cut : LayersOfCuts coords corners pairing hs layers
+  pub size : n ≡ length (layerFile .encode layers)
+  pub bytes : take n output′ ≡ layerFile .encode layers
+  pub past : drop n output′ ≡ drop n output
+
+-- Demand 3 about All layers: where it is not refused, it gives the length and the bytes of the layer file of Cut at each height taken. A caller can meet the
+-- hypothesis: only a listed condition refuses (`filed-exactly`, layers/LayersLaws).
+abbrev pub FileClaim : Type 0
+FileClaim =
+    (coords : List ℤ) (corners pairing order : List ℕ) (heights : List ℤ) (t : Lent) (ring output : List ℕ) (n : ℕ) (t′ : Lent) (ring′ output′ : List ℕ)
+    → Files coords corners pairing order heights (t .names) (t .points) (t .ends) (t .marks) ring output (Length n) (t′ .names) (t′ .points) (t′ .ends) (t′ .marks) ring′ output′
+    → FileOfCuts coords corners pairing (heightsTaken coords heights) output n output′
+
+-- ---- demand 3, whole
+
+pub record DemandThree : Type 0 where
+  pub sweeps : SweepClaim
+  pub files : FileClaim

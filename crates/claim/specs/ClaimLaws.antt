@@ -26,16 +26,16 @@ use Rattle.section.specs.Contours.{member, trace}
 use Rattle.section.specs.Links.{hasLink, linkOf, traceLinks}
 use Rattle.section.specs.LinkLaws.{same-trace, link-rises, table-trace, table-leads}
 use Rattle.cutter.specs.declared.Sliced.{Sliced}
 use Rattle.sweep.specs.declared.State.{State}
 use Rattle.sweep.specs.declared.Started.the-variants.{Fresh}
 use Rattle.sweep.specs.declared.Stepping.the-variants.{Stepped, Top, Refused as Unstepped}
 use Rattle.sweep.specs.declared.Rise.the-variants.{Layer, Refused as Unrisen}
 use Rattle.sweep.specs.Sweep.{passedAt, freshRing, stepRing}
 use Rattle.sweep.specs.SweepLaws.{RingAt, step-right, step-length, step-past, step-keeps, count-few}
 use Rattle.sweep.specs.Operations.{at, startRefusals, startRing, stepRefusals, stepAfter, Starts, Steps}
 use Rattle.sweep.specs.AnswerLaws.{StepTested, fresh-fine, stepped-fine, top-fine, unstepped-refused, step-tested}
 use Rattle.sweep.specs.RiseLaws.{rise-tests, rise-state, rise-ring, rise-is-cut, unrisen-ring}
-use Rattle.sweep.specs.Claim.{Given, Lent, StepOf, RiseOf, CutOf, Call, step, rise, refused, given, stateAfter, ringAfter, handed, Run, done, skipped, taken, up, to, moveOf, moved, planeAfter, fed, OnlyTouched, GivesCut, Did, Each, none, and, SweepClaim}
+use Rattle.claim.specs.Claim.{Given, Lent, StepOf, RiseOf, CutOf, Call, step, rise, refused, given, stateAfter, ringAfter, handed, Run, done, skipped, taken, up, to, moveOf, moved, planeAfter, fed, OnlyTouched, GivesCut, Did, Each, none, and, SweepClaim}
 
 -- ---- Step, unrefused
 

@@ -25,17 +25,17 @@ use Rattle.section.specs.Contours.{Traced, namesOf, endsOf}
 use Rattle.section.specs.LayerLaws.{trace-layer}
 use Rattle.points.specs.Points.{pointsOf}
 use Rattle.cutter.specs.Cut.{roomFor, metAt, used, contoursOf, after}
 use Rattle.sweep.specs.declared.State.{State}
 use Rattle.sweep.specs.declared.Started.the-variants.{Fresh}
 use Rattle.sweep.specs.declared.Stepping.the-variants.{Stepped, Top, Refused as Unstepped}
 use Rattle.sweep.specs.declared.Rise.the-variants.{Layer, Refused as Unrisen}
 use Rattle.sweep.specs.Sweep.{freshRing, stepRing, mayRise, risenTo, risenRing, countBelow}
 use Rattle.sweep.specs.SweepLaws.{RingAt, may-rise}
 use Rattle.sweep.specs.Operations.{at, linkedAt, passedHigh, startRefusals, startAnswer, startRing, stepRefusals, stepAnswer, stepAfter, risenSection, riseRefusals, riseAnswer, riseAfter, Starts, Steps}
 use Rattle.sweep.specs.AnswerLaws.{Tested, RiseTested, unstepped-refused, unrisen-refused}
 use Rattle.sweep.specs.RiseLaws.{rise-section}
-use Rattle.sweep.specs.Claim.{Lent, StepOf, RiseOf, Call, step, rise, refused, given, stateAfter, ringAfter, handed, Run, done, taken, Move, up, to, moveOf, moved, fed}
-use Rattle.sweep.specs.ClaimLaws.{Kept, start-keeps, call-keeps, run-keeps}
+use Rattle.claim.specs.Claim.{Lent, StepOf, RiseOf, Call, step, rise, refused, given, stateAfter, ringAfter, handed, Run, done, taken, Move, up, to, moveOf, moved, fed}
+use Rattle.claim.specs.ClaimLaws.{Kept, start-keeps, call-keeps, run-keeps}
 
 -- the tests of mesh, pairing and order: 1, 2, 3, 4, 7 and 8. A caller can pass them all: a mesh that Check accepts passes the first four, and the tables that
 -- Check then fills pass 7 and 8

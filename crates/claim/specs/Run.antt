@@ -20,13 +20,13 @@ use Rattle.section.specs.Contours.{member, walk, traceAt, traceTo, endsFrom}
 use Rattle.section.specs.Links.{hasLink, traceLinks}
 use Rattle.points.specs.Points.{numerator, denominator, rounded, exactOver, exactUnder, pointAt, pointsOf}
 use Rattle.cutter.specs.Cut.{roomFor, metAt, after}
 use Rattle.sweep.specs.declared.Started.the-variants.{Fresh}
 use Rattle.sweep.specs.declared.Stepping.the-variants.{Stepped, Top, Refused as Unstepped}
 use Rattle.sweep.specs.declared.Rise.the-variants.{Layer, Refused as Unrisen}
 use Rattle.sweep.specs.Sweep.{passedAt, freshRing, touches, relinked, stepRing, mayRise, risenTo, risenRing, countBelow}
 use Rattle.sweep.specs.Operations.{at, linkedAt, passedHigh, startAnswer, startRing, stepAnswer, stepAfter, riseAnswer, riseAfter, Starts}
-use Rattle.sweep.specs.Claim.{Given, Lent, StepOf, RiseOf, Call, step, rise, refused, given, stateAfter, ringAfter, handed, Run, done, skipped, taken, up, to, moveOf, moved, planeAfter, fed, Swept}
-use Rattle.sweep.specs.ClaimLaws.{sweep-claim}
+use Rattle.claim.specs.Claim.{Given, Lent, StepOf, RiseOf, Call, step, rise, refused, given, stateAfter, ringAfter, handed, Run, done, skipped, taken, up, to, moveOf, moved, planeAfter, fed, Swept}
+use Rattle.claim.specs.ClaimLaws.{sweep-claim}
 
 -- ---- part P, its pairing and its order
 

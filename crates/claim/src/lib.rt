@@ -1,0 +1,1 @@
+// Demand 3, proved; see specs/. The product has no function here.

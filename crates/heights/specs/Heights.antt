@@ -1,0 +1,70 @@
+-- The heights that All layers of document 01 takes: those given, else the default, and the refusals 1 and 12 that are about heights.
+use Prim.Native.Nat.{ℕ, zero, suc, _+_, _*_, _-_, _/_}
+use mathlib.Core.Bool.{Bool, not, cond, _&&_}
+use mathlib.Core.List.{List, [], _∷_}
+use lib.Dec.{ltb}
+use lib.ListN.{length, getD}
+use lib.IntN.{ℤ, pos, natAbs, _+ℤ_, _-ℤ_}
+use lib.Signed.{ltZ}
+use Rattle.laws.specs.Tables.{tabulate}
+use Rattle.mesh.specs.Corners.{vertexCount, zOf}
+use Rattle.mesh.specs.Refusals.{Condition, whole}
+use Rattle.mesh.specs.declared.Refusal.the-variants.{Size, Height}
+use Rattle.formats.specs.LayerFile.{mostLayers}
+
+-- "lowest z + 50 and every 100 after it"
+abbrev pub firstAbove : ℕ
+firstAbove = 50
+
+abbrev pub spacing : ℕ
+spacing = 100
+
+-- the lower and the higher of two numbers
+unfoldable pub lower : ℤ → ℤ → ℤ
+lower a b = cond (ltZ b a) b a
+
+unfoldable pub higher : ℤ → ℤ → ℤ
+higher a b = cond (ltZ a b) b a
+
+-- the lowest and the highest z of the first n vertices; that of vertex 0 where n is 0
+unfoldable pub lowestTo : List ℤ → ℕ → ℤ
+lowestTo coords zero = zOf coords 0
+lowestTo coords (suc n) = lower (lowestTo coords n) (zOf coords n)
+
+unfoldable pub highestTo : List ℤ → ℕ → ℤ
+highestTo coords zero = zOf coords 0
+highestTo coords (suc n) = higher (highestTo coords n) (zOf coords n)
+
+-- "lowest z" and "the highest z" of all vertices
+abbrev pub lowestZ : List ℤ → ℤ
+lowestZ coords = lowestTo coords (vertexCount coords)
+
+abbrev pub highestZ : List ℤ → ℤ
+highestZ coords = highestTo coords (vertexCount coords)
+
+-- how many default heights there are: "only those not above the highest z; with no vertices, none"
+unfoldable pub defaultCount : List ℤ → ℕ
+defaultCount coords = cond (ltb 0 (vertexCount coords)) ((natAbs (highestZ coords -ℤ lowestZ coords) + (spacing - firstAbove)) / spacing) 0
+
+-- default height k, from 0
+unfoldable pub defaultHeight : List ℤ → ℕ → ℤ
+defaultHeight coords k = lowestZ coords +ℤ pos (firstAbove + spacing * k)
+
+abbrev pub defaultHeights : List ℤ → List ℤ
+defaultHeights coords = tabulate (defaultCount coords) (defaultHeight coords)
+
+-- the heights taken: "with no heights given it takes the default"
+unfoldable pub heightsTaken : List ℤ → List ℤ → List ℤ
+heightsTaken coords [] = defaultHeights coords
+heightsTaken coords (h ∷ hs) = h ∷ hs
+
+-- 1: too many heights, default ones counted, place 0
+abbrev pub tooManyHeights : List ℤ → List ℤ → Condition
+tooManyHeights coords heights = whole Size (ltb mostLayers (length (heightsTaken coords heights)))
+
+-- 12: the position of the first height not above its forerunner
+unfoldable pub notAboveLast : List ℤ → ℕ → Bool
+notAboveLast hs i = ltb 0 i && not (ltZ (getD hs (i - 1) (pos 0)) (getD hs i (pos 0)))
+
+abbrev pub fallingHeight : List ℤ → Condition
+fallingHeight hs = record { refusal = Height; places = length hs; fits = notAboveLast hs }

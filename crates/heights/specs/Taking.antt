@@ -1,0 +1,17 @@
+-- Internal: one height taken, by its number, from the lowest z and the heights given, for functions that are not handed the coordinates.
+use Prim.Native.Nat.{ℕ, _+_, _*_, _<_}
+use mathlib.Core.Path.{_≡_}
+use mathlib.Core.List.{List, [], _∷_}
+use lib.ListN.{length, getD}
+use lib.IntN.{ℤ, pos, _+ℤ_}
+use Rattle.formats.specs.Numbers.{Word}
+use Rattle.heights.specs.Heights.{firstAbove, spacing}
+
+unfoldable pub heightAt : ℤ → List ℤ → ℕ → ℤ
+heightAt low [] k = low +ℤ pos (firstAbove + spacing * k)
+heightAt low (h ∷ hs) k = getD (h ∷ hs) k (pos 0)
+
+-- there is such a height, and it has 32 bits
+pub record Takable (low : ℤ) (heights : List ℤ) (k : ℕ) : Type 0 where
+  pub there : 0 < length heights → k < length heights
+  pub fits : length heights ≡ 0 → Word (low +ℤ pos (firstAbove + spacing * k))

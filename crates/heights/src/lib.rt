@@ -1,0 +1,139 @@
+// The heights that All layers takes: those given, else the default, and the refusals 1 and 12 that are about heights.
+ghost use mathlib.Core.Path.{_≡_};
+ghost use Prim.Native.Nat.{_<_};
+ghost use lib.ListN.{length};
+ghost use Rattle.laws.specs.Least.{least};
+ghost use Rattle.mesh.specs.Refusals.{test};
+ghost use Rattle.heights.specs.Heights.{lower, higher, lowestZ, highestZ, defaultCount, heightsTaken, tooManyHeights, notAboveLast, fallingHeight};
+use mesh::Refusal;
+use mesh::Verdict;
+
+pub mod internal;
+
+// The first default height above the lowest z, and how far each is from the next.
+const FIRST_ABOVE: usize = 50;
+
+const SPACING: usize = 100;
+
+// The lowest and the highest z.
+pub struct Span {
+    pub low: i32,
+    pub high: i32,
+}
+
+fn lower(a: i32, b: i32) -> i32
+    ensures { λ r. ⌜ r ≡ lower a b ⌝ }
+{
+    if b < a {
+        return b;
+    }
+    a
+}
+
+fn higher(a: i32, b: i32) -> i32
+    ensures { λ r. ⌜ r ≡ higher a b ⌝ }
+{
+    if a < b {
+        return b;
+    }
+    a
+}
+
+// The lowest and the highest z of all vertices, 0 where there are none.
+pub fn z_span(coords: &[i32]) -> Span
+    ensures { λ r. ⌜ (r .low ≡ lowestZ (now (coords .entry))) × (r .high ≡ highestZ (now (coords .entry))) ⌝ }
+{
+    let n = coords.len() / 3;
+    if n == 0 {
+        return Span { low: 0, high: 0 };
+    }
+    let mut low = coords[2];
+    let mut high = low;
+    let mut v: usize = 0;
+    while v < n {
+        let j = 3 * v + 2;
+        let z = coords[j];
+        low = lower(low, z);
+        high = higher(high, z);
+        v += 1;
+    }
+    Span { low, high }
+}
+
+// The lowest z, 0 where there are no vertices.
+pub fn lowest_z(coords: &[i32]) -> i32
+    ensures { λ r. ⌜ r ≡ lowestZ (now (coords .entry)) ⌝ }
+{
+    z_span(coords).low
+}
+
+// How many default heights there are. The difference may have 32 bits, so it is taken in 64.
+fn default_count(coords: &[i32]) -> usize
+    ensures { λ r. ⌜ r ≡ defaultCount (now (coords .entry)) ⌝ }
+{
+    if coords.len() / 3 == 0 {
+        return 0;
+    }
+    let s = z_span(coords);
+    let low = s.low as i64;
+    let high = s.high as i64;
+    let d = (high - low) as usize;
+    (d + (SPACING - FIRST_ABOVE)) / SPACING
+}
+
+// How many heights are taken.
+pub fn taken_count(coords: &[i32], heights: &[i32]) -> usize
+    ensures { λ r. ⌜ r ≡ length (heightsTaken (now (coords .entry)) (now (heights .entry))) ⌝ }
+{
+    if 0 < heights.len() {
+        return heights.len();
+    }
+    default_count(coords)
+}
+
+// Refusal 1 for heights.
+pub fn count_test(coords: &[i32], heights: &[i32]) -> Verdict
+    ensures { λ r. ⌜ r ≡ test (tooManyHeights (now (coords .entry)) (now (heights .entry))) ⌝ }
+{
+    if 4096 < taken_count(coords, heights) {
+        return Verdict::Refused(Refusal::Size(0));
+    }
+    Verdict::Fine
+}
+
+// Whether height i has a forerunner and is not above it.
+fn not_above_last(heights: &[i32], i: usize) -> bool
+    requires { ⌜ i < length (now heights) ⌝ }
+    ensures { λ r. ⌜ r ≡ notAboveLast (now (heights .entry)) i ⌝ }
+{
+    if i == 0 {
+        return false;
+    }
+    let j = i - 1;
+    heights[i] <= heights[j]
+}
+
+// The position of the first height not above its forerunner, else the number of heights.
+fn first_falling(heights: &[i32]) -> usize
+    ensures { λ r. ⌜ r ≡ least (length (now (heights .entry))) (notAboveLast (now (heights .entry))) ⌝ }
+{
+    let mut i: usize = 0;
+    while i < heights.len() {
+        if not_above_last(heights, i) {
+            return i;
+        }
+        i += 1;
+    }
+    i
+}
+
+// Refusal 12 of All layers.
+pub fn heights_test(heights: &[i32]) -> Verdict
+    ensures { λ r. ⌜ r ≡ test (fallingHeight (now (heights .entry))) ⌝ }
+{
+    let i = first_falling(heights);
+    if i < heights.len() {
+        return Verdict::Refused(Refusal::Height(i));
+    }
+    Verdict::Fine
+}

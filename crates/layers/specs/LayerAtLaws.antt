@@ -1,0 +1,223 @@
+-- The layer of a height: it is what Cut's tables hold, and keeps the rules of the layer file.
+use Prim.Native.Nat.{ℕ, zero, suc, _+_, _-_, _*_, _≤_, _<_}
+use mathlib.Core.Path.{_≡_, refl, sym, ap, _∙_, subst}
+use mathlib.Core.Bool.{Bool, true, _||_}
+use mathlib.Core.List.{List, [], _∷_, _++_, map, flatten}
+use native.Mathlib.Omega.{arith}
+use native.Mathlib.Nat.{le-of-suc-le-suc}
+use lib.ListN.{length, getD, drop, replicate, length-append, length-map, length-replicate}
+use lib.Seq.{drop-drop, drop-at}
+use lib.IntN.{ℤ, natAbs, pos}
+use lib.Dec.{eqb}
+use borrow.Author.Tests.{eq-eqb}
+use Rattle.laws.specs.Booleans.{or-left, or-right}
+use Rattle.laws.specs.Tables.{overwrite}
+use Rattle.laws.specs.TableLaws.{length-overwrite}
+use Rattle.mesh.specs.Corners.{largest, triangleCount}
+use Rattle.mesh.specs.Refusals.{verdict}
+use Rattle.mesh.specs.declared.Refusal.{Refusal}
+use Rattle.mesh.specs.declared.Verdict.{Verdict}
+use Rattle.mesh.specs.declared.Verdict.the-variants.{Fine, Refused}
+use Rattle.section.specs.Section.{below, successor, Crossing, Right}
+use Rattle.section.specs.Contours.{Traced, contours, member, namesOf, trace, endsFrom, endsOf}
+use Rattle.section.specs.Layers as layers
+use Rattle.section.specs.LayerLaws.{trace-layer}
+use Rattle.section.specs.OrbitLaws.{member-join}
+use Rattle.points.specs.Points.{pointAt, pointsOf}
+use Rattle.points.specs.PointLaws.{point-in, length-points}
+use Rattle.cutter.specs.Cut.{used, section, contoursOf, answer, after}
+use Rattle.cutter.specs.CutLaws.{layer-counts, one-each}
+use Rattle.cutter.specs.Outlines.{Long, Traces}
+use Rattle.cutter.specs.OutlineLaws.{section-fine}
+use Rattle.cutter.specs.SolidLaws.{crossing-climbs}
+use Rattle.cutter.specs.declared.Sliced.{Sliced}
+use Rattle.cutter.specs.declared.Sliced.the-variants.{Layer as Cut, Refused as Turned}
+use Rattle.formats.specs.Formats.{Each}
+use Rattle.formats.specs.Numbers.{Word}
+use Rattle.formats.specs.LayerFile.{Point, Layer, mostPoints}
+use Rattle.formats.specs.LayerRules.{PointRules, ContourRules, pointTotal, LayerRules}
+use Rattle.writer.specs.Written as written
+use Rattle.writer.specs.Written.{layerOf, numbersOf}
+use Rattle.writer.specs.LayerTables.{LayerTables}
+use Rattle.writer.specs.WrittenLaws.{layer-held, tables-held, flatten-map, ends-map, length-ends}
+use Rattle.layers.specs.AllLayers.{pointOf, layerAt}
+use Rattle.layers.specs.Works.{Spent, Works, Holds}
+
+-- ---- tables of which only the first entries may be other
+
+module _ {A : Type 0} where
+  -- what is written in front, at most n entries
+  pub spent-front : (n : ℕ) (vs t : List A) → length vs ≤ n → n ≤ length t → Spent n t (overwrite vs t)
+  unfolding overwrite
+  spent-front n vs t few long =
+      let e : length vs + (n - length vs) ≡ n = omega arith in
+      record {
+        same-length = length-overwrite vs t (omega arith);
+        past =
+            ap (λ (k : ℕ). drop k (vs ++ drop (length vs) t)) (sym e)
+            ∙ sym (drop-drop (n - length vs) (length vs) (vs ++ drop (length vs) t))
+            ∙ ap (drop (n - length vs)) (drop-at vs (drop (length vs) t) (length vs) refl)
+            ∙ drop-drop (n - length vs) (length vs) t
+            ∙ ap (λ (k : ℕ). drop k t) e;
+      }
+
+  pub spent-none : (n : ℕ) (t : List A) → Spent n t t
+  spent-none n t = record { same-length = refl; past = refl }
+
+  pub spent-more : {n : ℕ} {t u w : List A} → Spent n t u → Spent n u w → Spent n t w
+  spent-more p q = record { same-length = q .same-length ∙ p .same-length; past = q .past ∙ p .past }
+
+  -- zeros in front hide what was other
+  pub spent-zeros : {n : ℕ} {t u : List A} (z : A) → Spent n t u → overwrite (replicate n z) u ≡ overwrite (replicate n z) t
+  unfolding overwrite
+  spent-zeros {n} {t} {u} z p =
+      let e : length (replicate n z) ≡ n = length-replicate n z in
+      ap (λ (r : List A). replicate n z ++ r) (ap (λ (k : ℕ). drop k u) e ∙ p .past ∙ ap (λ (k : ℕ). drop k t) (sym e))
+
+-- ---- contours told by names, and by points
+
+same-ends : (k : ℕ) (rs : List (List ℕ)) → endsFrom k rs ≡ written.endsFrom k rs
+unfolding endsFrom written.endsFrom
+same-ends k [] = refl
+same-ends k (r ∷ rs) = ap (λ (l : List ℕ). (k + length r) ∷ l) (same-ends (k + length r) rs)
+
+same-names : (rs : List (List ℕ)) → namesOf rs ≡ flatten rs
+unfolding flatten
+same-names [] = refl
+same-names (r ∷ rs) = ap (λ (l : List ℕ). r ++ l) (same-names rs)
+
+module _ (coords : List ℤ) (corners : List ℕ) (h : ℤ) where
+  same-points : (names : List ℕ) → pointsOf coords corners h names ≡ numbersOf (map (pointOf coords corners h) names)
+  unfolding pointsOf numbersOf
+  same-points [] = refl
+  same-points (c ∷ names) = ap (λ (l : List ℤ). pointAt coords corners h 0 c ∷ pointAt coords corners h 1 c ∷ l) (same-points names)
+
+  -- the contours by their points
+  abbrev drawn : List (List ℕ) → List (List Point)
+  drawn rs = map (map (pointOf coords corners h)) rs
+
+  drawn-points : (rs : List (List ℕ)) → pointsOf coords corners h (namesOf rs) ≡ numbersOf (flatten (drawn rs))
+  drawn-points rs =
+      ap (pointsOf coords corners h) (same-names rs)
+      ∙ same-points (flatten rs)
+      ∙ ap numbersOf (sym (flatten-map (pointOf coords corners h) rs))
+
+  drawn-ends : (rs : List (List ℕ)) → endsOf rs ≡ written.endsOf (drawn rs)
+  drawn-ends rs = same-ends 0 rs ∙ sym (ends-map (pointOf coords corners h) 0 rs)
+
+  drawn-total : (rs : List (List ℕ)) → pointTotal (drawn rs) ≡ length (namesOf rs)
+  drawn-total [] = refl
+  drawn-total (r ∷ rs) = omega (arith, length-append r (namesOf rs), length-map r (pointOf coords corners h), drawn-total rs)
+
+  -- ---- the rules of the layer file
+
+  names-rule : (names : List ℕ) → ((x : ℕ) → member x names ≡ true → PointRules (pointOf coords corners h x)) → Each PointRules (map (pointOf coords corners h) names)
+  unfolding member
+  names-rule [] all = tt
+  names-rule (c ∷ names) all = (all c (or-left _ _ (eq-eqb c c refl)), names-rule names (λ x e. all x (or-right (eqb x c) (member x names) e)))
+
+  contours-rule : (rs : List (List ℕ)) → ((i : ℕ) → i < length rs → 2 ≤ length (layers.contourAt rs i))
+      → ((x : ℕ) → member x (namesOf rs) ≡ true → PointRules (pointOf coords corners h x)) → Each ContourRules (drawn rs)
+  contours-rule [] two all = tt
+  contours-rule (r ∷ rs) two all = (
+    (
+      omega (arith, two 0 (omega arith), length-map r (pointOf coords corners h)),
+      names-rule r (λ x e. all x (member-join x r (namesOf rs) ∙ or-left (member x r) (member x (namesOf rs)) e)),
+    ),
+    contours-rule rs (λ i l. two (suc i) (omega arith)) (λ x e. all x (member-join x r (namesOf rs) ∙ or-right (member x r) (member x (namesOf rs)) e)),
+  )
+
+-- ---- the layer of a right mesh
+
+module _ (coords : List ℤ) (corners pairing : List ℕ) (right : Right coords corners pairing) (h : ℤ) where
+  -- its contours
+  rings : List (List ℕ)
+  rings = trace-layer (below coords h) corners pairing (right .linked) .0
+
+  section-rings : section coords corners pairing h ≡ contours rings
+  unfolding rings
+  section-rings = trace-layer (below coords h) corners pairing (right .linked) .1 .0
+
+  rings-layer : layers.Layer (below coords h) corners pairing rings
+  unfolding rings
+  rings-layer = trace-layer (below coords h) corners pairing (right .linked) .1 .1
+
+  rings-few : length (namesOf rings) ≤ triangleCount corners
+  rings-few = one-each (below coords h) corners pairing rings (right .linked) rings-layer
+
+  layer-is : layerAt coords corners pairing h ≡ record { height = h; contours = drawn coords corners h rings }
+  unfolding layerAt
+  layer-is = ap (λ (t : Traced). record { height = h; contours = drawn coords corners h (contoursOf t) }) section-rings
+
+  pub layer-rules : Word h → LayerRules (layerAt coords corners pairing h)
+  layer-rules fits =
+      subst LayerRules (sym layer-is)
+      (record {
+        height-fits = fits;
+        few = omega (arith, drawn-total coords corners h rings, rings-few, right .named .whole .few);
+        each = contours-rule coords corners h rings (λ i l. rings-layer .each i l .two)
+            (λ x e. let t = crossing-climbs coords corners h pairing right x (rings-layer .only x e) in (point-in coords corners h x t 0 (omega arith), point-in coords corners h x t 1 (omega arith)));
+      })
+
+  -- ---- what Cut's tables hold
+
+  contours-few : (rs : List (List ℕ)) → ((i : ℕ) → i < length rs → 2 ≤ length (layers.contourAt rs i)) → length rs ≤ length (namesOf rs)
+  contours-few [] two = omega arith
+  contours-few (r ∷ rs) two = omega (arith, two 0 (omega arith), length-append r (namesOf rs), contours-few rs (λ i l. two (suc i) (omega arith)))
+
+  module _ {names : List ℕ} {points : List ℤ} {ends marks : List ℕ} (long : Long (length corners) (length names) (length points) (length ends) (length marks))
+      {result : Sliced} {names′ : List ℕ} {points′ : List ℤ} {ends′ marks′ : List ℕ}
+      (t : Traces (section coords corners pairing h) coords corners h names points ends marks result names′ points′ ends′ marks′) where
+    fine : verdict (used (length corners) (section coords corners pairing h) ∷ []) ≡ Fine
+    fine = section-fine coords corners pairing h right
+
+    is-answer : result ≡ answer Fine rings
+    is-answer = t .answers ∙ (λ i. answer (fine i) (contoursOf (section-rings i)))
+
+    written-points : points′ ≡ overwrite (numbersOf (flatten (drawn coords corners h rings))) points
+    unfolding after
+    written-points =
+        t .leaves .points-are
+        ∙ (λ i. after (fine i) (pointsOf coords corners h (namesOf (contoursOf (section-rings i)))) (2 * length corners) (pos 0) points)
+        ∙ ap (λ (l : List ℤ). overwrite l points) (drawn-points coords corners h rings)
+
+    written-ends : ends′ ≡ overwrite (written.endsOf (drawn coords corners h rings)) ends
+    unfolding after
+    written-ends =
+        t .leaves .ends-are
+        ∙ (λ i. after (fine i) (endsOf (contoursOf (section-rings i))) (length corners) 0 ends)
+        ∙ ap (λ (l : List ℕ). overwrite l ends) (drawn-ends coords corners h rings)
+
+    written-names : names′ ≡ overwrite (namesOf rings) names
+    unfolding after
+    written-names = t .leaves .names-are ∙ (λ i. after (fine i) (namesOf (contoursOf (section-rings i))) (length corners) 0 names)
+
+    written-marks : marks′ ≡ overwrite (replicate (length corners) 0) marks
+    unfolding after
+    written-marks = t .leaves .marks-are ∙ (λ i. after (fine i) (replicate (length corners) 0) (length corners) 0 marks)
+
+    -- it is never refused with 16
+    pub traced-never : {r : Refusal} → result ≡ Turned r → ⊥
+    unfolding answer
+    traced-never e = absurd (let q : Turned _ ≡ Cut _ _ = sym e ∙ is-answer in let z : _≡_ {A = ℕ} 0 1 = cc in omega arith)
+
+    -- the layer of height h
+    pub traced-holds : {j k : ℕ} → result ≡ Cut j k → Holds coords corners pairing h points′ ends′ j
+    traced-holds {j} {k} e =
+        let n : j ≡ length (drawn coords corners h rings) = layer-counts Fine rings (sym e ∙ is-answer) .0 ∙ sym (length-map rings (map (pointOf coords corners h))) in
+        record {
+          is = (λ i. layerOf h (written-points i) (written-ends i) (n i)) ∙ layer-held (drawn coords corners h rings) points ends h ∙ sym layer-is;
+          tables = subst (LayerTables points′ ends′) (sym n) (subst (λ (p : List ℤ). LayerTables p ends′ (length (drawn coords corners h rings))) (sym written-points) (subst (λ (l : List ℕ). LayerTables (overwrite (numbersOf (flatten (drawn coords corners h rings))) points) l (length (drawn coords corners h rings))) (sym written-ends) (tables-held (drawn coords corners h rings) points ends)));
+        }
+
+    -- only entries asked for are other
+    pub traced-works : Works (length corners) names points ends marks names′ points′ ends′ marks′
+    traced-works =
+        let n : length (namesOf rings) ≤ length corners = omega (arith, rings-few) in
+        let m : length rings ≤ length corners = omega (arith, n, contours-few rings (λ i l. rings-layer .each i l .two)) in
+        record {
+          names-spent = subst (Spent (length corners) names) (sym written-names) (spent-front _ _ _ n (long .names-long));
+          points-spent = subst (Spent (2 * length corners) points) (sym written-points) (spent-front _ _ _ (omega (arith, n, length-points coords corners h (namesOf rings), ap length (drawn-points coords corners h rings))) (long .points-long));
+          ends-spent = subst (Spent (length corners) ends) (sym written-ends) (spent-front _ _ _ (omega (arith, m, length-ends 0 (drawn coords corners h rings), length-map rings (map (pointOf coords corners h)))) (long .ends-long));
+          marks-spent = subst (Spent (length corners) marks) (sym written-marks) (spent-front _ _ _ (omega (arith, length-replicate {A = ℕ} (length corners) 0)) (long .marks-long));
+        }

@@ -1,0 +1,5 @@
+-- All layers.
+pub mod AllLayers
+pub mod Works
+pub mod LayerAtLaws
+pub mod LayersLaws

@@ -1,0 +1,87 @@
+-- `wadroles_all_layers` meets its contract.
+use denote.Ref.{now}
+use Rattle.wadroles.proofs.Answers.{layers-filed, layers-refused}
+use borrow.Author.Needs.{needs}
+use Rattle.wadroles.proofs.wadroles_all_layers.Statement.{statement}
+use Rattle.wadroles.proofs.wadroles_all_layers.Tie as tie
+
+all-layers-requires : tie.Need-all-layers-requires
+all-layers-requires c κs = search needs
+
+enum-known-a : tie.Need-enum-known-a
+enum-known-a c = search needs
+
+element-write-out : tie.Need-element-write-out
+element-write-out c = search needs
+
+enum-known-a-2 : tie.Need-enum-known-a-2
+enum-known-a-2 c = search needs
+
+refuse-requires : tie.Need-refuse-requires
+refuse-requires c κs = search needs
+
+same-length : tie.Need-same-length
+same-length c = search needs
+
+same-length-2 : tie.Need-same-length-2
+same-length-2 c = search needs
+
+same-length-3 : tie.Need-same-length-3
+same-length-3 c = search needs
+
+same-length-4 : tie.Need-same-length-4
+same-length-4 c = search needs
+
+same-length-5 : tie.Need-same-length-5
+same-length-5 c = search needs
+
+same-length-6 : tie.Need-same-length-6
+same-length-6 c = search needs
+
+returns : tie.Need-returns
+returns c = layers-filed (now (c .before .before .before .before .before .before .before .before .before .before .before .before .before .before .before .before .before .before .before .before .before .before .before .before .before .before .before .before .before .args .out)) (c .before .before .before .before .before .before .before .before .before .before .before .before .before .before .all-layers .ensures) (c .before .a .given .1)
+
+same-length-7 : tie.Need-same-length-7
+same-length-7 c = search needs
+
+same-length-8 : tie.Need-same-length-8
+same-length-8 c = search needs
+
+same-length-9 : tie.Need-same-length-9
+same-length-9 c = search needs
+
+same-length-10 : tie.Need-same-length-10
+same-length-10 c = search needs
+
+same-length-11 : tie.Need-same-length-11
+same-length-11 c = search needs
+
+same-length-12 : tie.Need-same-length-12
+same-length-12 c = search needs
+
+returns-2 : tie.Need-returns-2
+returns-2 c = layers-refused (now (c .before .before .before .before .before .before .before .before .before .before .before .before .before .before .before .before .before .before .before .before .before .before .before .before .before .before .before .before .before .before .before .args .out)) (c .before .before .before .before .before .before .before .before .before .before .before .before .before .before .before .before .all-layers .ensures) (c .before .before .before .a2 .given .1) (c .refuse .ensures .0) (c .refuse .ensures .1)
+
+pub wadroles-all-layers-spec : {M : Type 1} → statement M
+wadroles-all-layers-spec =
+    tie.close
+    (tie.spec
+    all-layers-requires
+    enum-known-a
+    element-write-out
+    enum-known-a-2
+    refuse-requires
+    same-length
+    same-length-2
+    same-length-3
+    same-length-4
+    same-length-5
+    same-length-6
+    returns
+    same-length-7
+    same-length-8
+    same-length-9
+    same-length-10
+    same-length-11
+    same-length-12
+    returns-2)

@@ -1,0 +1,47 @@
+-- `wadroles_start` meets its contract.
+use denote.Ref.{now}
+use Rattle.wadroles.proofs.Answers.{start-fresh, start-refused}
+use borrow.Author.Needs.{needs}
+use Rattle.wadroles.proofs.wadroles_start.Statement.{statement}
+use Rattle.wadroles.proofs.wadroles_start.Tie as tie
+
+start-requires : tie.Need-start-requires
+start-requires c κs = search needs
+
+enum-known-a : tie.Need-enum-known-a
+enum-known-a c = search needs
+
+element-write-out : tie.Need-element-write-out
+element-write-out c = search needs
+
+enum-known-a-2 : tie.Need-enum-known-a-2
+enum-known-a-2 c = search needs
+
+refuse-requires : tie.Need-refuse-requires
+refuse-requires c κs = search needs
+
+same-length : tie.Need-same-length
+same-length c = search needs
+
+returns : tie.Need-returns
+returns c = start-fresh (now (c .before .before .before .before .before .before .before .before .before .args .out)) (c .before .before .before .before .before .start .ensures) (c .before .a .given .1)
+
+same-length-2 : tie.Need-same-length-2
+same-length-2 c = search needs
+
+returns-2 : tie.Need-returns-2
+returns-2 c = start-refused (now (c .before .before .before .before .before .before .before .before .before .before .before .args .out)) (c .before .before .before .before .before .before .before .start .ensures) (c .before .before .before .a2 .given .1) (c .refuse .ensures .0) (c .refuse .ensures .1)
+
+pub wadroles-start-spec : {M : Type 1} → statement M
+wadroles-start-spec =
+    tie.close
+    (tie.spec
+    start-requires
+    enum-known-a
+    element-write-out
+    enum-known-a-2
+    refuse-requires
+    same-length
+    returns
+    same-length-2
+    returns-2)
