@@ -362,6 +362,63 @@ uint32_t wadroles_layer(const int32_t *coords, size_t coords_len,
                         uint64_t out[4]);
 
 /*
+ * Writes the layer file of a mesh at rising heights: for each height the layer
+ * that wadroles_cut, and a rise of wadroles_layer, give there. The file is the
+ * one that wadroles_read_layer reads.
+ *
+ *   heights  at most WADROLES_MAX_LAYERS, strictly rising. With heights_len 0
+ *            the heights are the lowest z + 50 and every 100 after it, those
+ *            that are not above the highest z; without vertices there are none
+ *   output   the file, from its first byte on; later bytes stay
+ *
+ * names, points, ends, marks and ring are work tables: what they hold before
+ * does not matter. On success they are zero, in the first corners_len entries,
+ * of points in the first 2 corners_len; later entries stay.
+ *
+ * On success out[0] is the length of the file.
+ *
+ * The tests, in this sequence; the first that fails is the refusal:
+ *
+ *   WADROLES_SIZE      coords_len or corners_len is not a multiple of three, or
+ *                      there are more vertices, triangles or heights (default
+ *                      ones counted) than allowed; place 0
+ *   WADROLES_ROOM      names_len, ends_len, marks_len or ring_len is less than
+ *                      corners_len, or points_len less than twice corners_len;
+ *                      place 0
+ *   WADROLES_RANGE     a coordinate is out of range; place its position in
+ *                      coords
+ *   WADROLES_VERTEX    a corner names no vertex; place the corner
+ *   WADROLES_TRIANGLE  a triangle names a vertex twice; place its first corner
+ *   WADROLES_PAIRING   a corner's entry in pairing is missing (the table is too
+ *                      short), is no corner, is a corner without the reverse
+ *                      edge, or is not paired back; place the corner
+ *   WADROLES_ORDER     an entry of order is missing (the table is too short) or
+ *                      is not the vertex that stands there by z and then by
+ *                      vertex number; place its position
+ *   WADROLES_HEIGHT    a height is not above the one before it; place its
+ *                      position in heights
+ *   WADROLES_USED      a walk meets a crossing already used that is not its
+ *                      start; place that crossing
+ *   WADROLES_OUTPUT    output_len is less than the length of the file; place 0
+ *
+ * After WADROLES_USED and WADROLES_OUTPUT the work tables are zero as on
+ * success; after the other refusals they are as before. After every refusal
+ * output is as before.
+ */
+uint32_t wadroles_all_layers(const int32_t *coords, size_t coords_len,
+                             const uint32_t *corners, size_t corners_len,
+                             const uint32_t *pairing, size_t pairing_len,
+                             const uint32_t *order, size_t order_len,
+                             const int32_t *heights, size_t heights_len,
+                             uint32_t *names, size_t names_len,
+                             int32_t *points, size_t points_len,
+                             uint32_t *ends, size_t ends_len,
+                             uint32_t *marks, size_t marks_len,
+                             uint32_t *ring, size_t ring_len,
+                             uint8_t *output, size_t output_len,
+                             uint64_t out[4]);
+
+/*
  * Reads layer i (from 0) of a layer file. The file holds these values and ends
  * after the last of them:
  *

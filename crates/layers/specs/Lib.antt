@@ -3,3 +3,4 @@ pub mod AllLayers
 pub mod Works
 pub mod LayerAtLaws
 pub mod LayersLaws
+pub mod Worked
