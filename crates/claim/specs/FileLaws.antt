@@ -1,8 +1,8 @@
 -- The claim about All layers: its file is that of Cut at each height taken. With the claim about the list of calls it is demand 3.
-use Prim.Native.Nat.{ℕ, _≤_}
+use Prim.Native.Nat.{ℕ}
 use mathlib.Core.Path.{_≡_, refl, sym, ap, _∙_, subst}
 use mathlib.Core.Bool.{true, not}
-use mathlib.Core.List.{List, [], _∷_, _++_, map}
+use mathlib.Core.List.{List, [], _∷_, map}
 use native.Mathlib.Omega.{arith}
 use borrow.Author.Tests.{not-false}
 use lib.ListN.{length, take, drop}
@@ -16,19 +16,16 @@ use Rattle.mesh.specs.declared.Verdict.the-variants.{Fine}
 use Rattle.section.specs.Section.{Right}
 use Rattle.cutter.specs.Cut.{roomFor, tests, used, section, contoursOf, refusals, answer, Leaves}
 use Rattle.cutter.specs.CutLaws.{layer-fine}
-use Rattle.cutter.specs.Outlines.{Long, Traces}
+use Rattle.cutter.specs.Outlines.{Long}
 use Rattle.cutter.specs.OutlineLaws.{room-long, section-fine}
-use Rattle.cutter.specs.declared.Sliced.{Sliced}
 use Rattle.cutter.specs.declared.Sliced.the-variants.{Layer as Cut}
-use Rattle.formats.specs.LayerFile.{layerFile}
 use Rattle.writer.specs.Written.{layerOf}
 use Rattle.sweep.specs.RiseLaws.{rise-is-cut}
 use Rattle.heights.specs.Heights.{heightsTaken}
-use Rattle.layers.specs.declared.Filed.the-variants.{Length}
-use Rattle.layers.specs.AllLayers.{layerAt, fileOf, layersTests, layersRefusals, outputAfter, Files}
+use Rattle.layers.specs.AllLayers.{layerAt, fileOf, layersTests, outputAfter}
 use Rattle.layers.specs.LayerAtLaws.{traced-holds}
 use Rattle.layers.specs.LayersLaws.{length-fine, filed-tests, filed-right}
-use Rattle.claim.specs.Claim.{Lent, CutOf, LayerOfCut, LayersOfCuts, no-height, next-height, FileOfCuts, FileClaim, DemandThree}
+use Rattle.claim.specs.Claim.{Lent, CutOf, LayerOfCut, LayersOfCuts, no-height, next-height, FileClaim, DemandThree}
 use Rattle.claim.specs.ClaimLaws.{sweep-claim}
 
 -- ---- Cut on a mesh that the tests of All layers have passed

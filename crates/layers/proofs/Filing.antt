@@ -15,7 +15,7 @@ use Rattle.mesh.specs.Corners.{vertexCount}
 use Rattle.mesh.specs.Tests.{Whole, size, range, vertex, triangle, mesh, pairs, ordered}
 use Rattle.mesh.specs.TestLaws.{sizes-whole}
 use Rattle.mesh.specs.Refusals.{Condition, test, verdict}
-use Rattle.mesh.specs.RefusalLaws.{None, more, done, fine-none, join-stop, join-next, verdict-one, verdict-stop, verdict-next, refused-every, whole-refused, whole-fine}
+use Rattle.mesh.specs.RefusalLaws.{None, more, fine-none, join-stop, join-next, verdict-one, verdict-stop, verdict-next, refused-every, whole-refused, whole-fine}
 use Rattle.mesh.specs.declared.Refusal.{Refusal}
 use Rattle.mesh.specs.declared.Refusal.the-variants.{Output}
 use Rattle.mesh.specs.declared.Verdict.{Verdict}

@@ -1,6 +1,6 @@
 -- The two passes over the heights: the file measured and written, layer by layer.
 use Prim.Native.Nat.{ℕ, suc, _+_, _*_, _^_, _≤_, _<_}
-use mathlib.Core.Path.{_≡_, refl, sym, ap, _∙_, subst}
+use mathlib.Core.Path.{_≡_, sym, ap, _∙_, subst}
 use mathlib.Core.List.{List, [], _∷_, _++_, map, flatMap, map-append}
 use native.Mathlib.Omega.{arith}
 use native.Mathlib.Numerals.{add-one}
@@ -18,10 +18,10 @@ use Rattle.cutter.specs.Outlines.{Long, Traces}
 use Rattle.cutter.specs.declared.Sliced.{Sliced}
 use Rattle.cutter.specs.declared.Sliced.the-variants.{Layer as Cut, Refused as Turned}
 use Rattle.formats.specs.Numbers.{encodeNumber, Word}
-use Rattle.formats.specs.NumberLaws.{encode-short, word-bytes}
+use Rattle.formats.specs.NumberLaws.{encode-short}
 use Rattle.formats.specs.EmitLaws.{Emit, emit-start}
-use Rattle.formats.specs.LayerFile.{Layer, layerFile}
-use Rattle.heights.specs.Heights.{lowestZ, heightsTaken}
+use Rattle.formats.specs.LayerFile.{Layer}
+use Rattle.heights.specs.Heights.{heightsTaken}
 use Rattle.heights.specs.Taking.{heightAt}
 use Rattle.heights.specs.TakingLaws.{height-at}
 use Rattle.writer.specs.Written.{layerOf, layerBytes, mostLayerBytes, HasRoom, Puts, totalOf}

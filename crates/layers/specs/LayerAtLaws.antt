@@ -1,25 +1,23 @@
 -- The layer of a height: it is what Cut's tables hold, and keeps the rules of the layer file.
-use Prim.Native.Nat.{ℕ, zero, suc, _+_, _-_, _*_, _≤_, _<_}
+use Prim.Native.Nat.{ℕ, suc, _+_, _-_, _*_, _≤_, _<_}
 use mathlib.Core.Path.{_≡_, refl, sym, ap, _∙_, subst}
-use mathlib.Core.Bool.{Bool, true, _||_}
+use mathlib.Core.Bool.{true}
 use mathlib.Core.List.{List, [], _∷_, _++_, map, flatten}
 use native.Mathlib.Omega.{arith}
-use native.Mathlib.Nat.{le-of-suc-le-suc}
-use lib.ListN.{length, getD, drop, replicate, length-append, length-map, length-replicate}
+use lib.ListN.{length, drop, replicate, length-append, length-map, length-replicate}
 use lib.Seq.{drop-drop, drop-at}
-use lib.IntN.{ℤ, natAbs, pos}
+use lib.IntN.{ℤ, pos}
 use lib.Dec.{eqb}
 use borrow.Author.Tests.{eq-eqb}
 use Rattle.laws.specs.Booleans.{or-left, or-right}
 use Rattle.laws.specs.Tables.{overwrite}
 use Rattle.laws.specs.TableLaws.{length-overwrite}
-use Rattle.mesh.specs.Corners.{largest, triangleCount}
+use Rattle.mesh.specs.Corners.{triangleCount}
 use Rattle.mesh.specs.Refusals.{verdict}
 use Rattle.mesh.specs.declared.Refusal.{Refusal}
-use Rattle.mesh.specs.declared.Verdict.{Verdict}
-use Rattle.mesh.specs.declared.Verdict.the-variants.{Fine, Refused}
-use Rattle.section.specs.Section.{below, successor, Crossing, Right}
-use Rattle.section.specs.Contours.{Traced, contours, member, namesOf, trace, endsFrom, endsOf}
+use Rattle.mesh.specs.declared.Verdict.the-variants.{Fine}
+use Rattle.section.specs.Section.{below, Right}
+use Rattle.section.specs.Contours.{Traced, contours, member, namesOf, endsFrom, endsOf}
 use Rattle.section.specs.Layers as layers
 use Rattle.section.specs.LayerLaws.{trace-layer}
 use Rattle.section.specs.OrbitLaws.{member-join}
@@ -34,7 +32,7 @@ use Rattle.cutter.specs.declared.Sliced.{Sliced}
 use Rattle.cutter.specs.declared.Sliced.the-variants.{Layer as Cut, Refused as Turned}
 use Rattle.formats.specs.Formats.{Each}
 use Rattle.formats.specs.Numbers.{Word}
-use Rattle.formats.specs.LayerFile.{Point, Layer, mostPoints}
+use Rattle.formats.specs.LayerFile.{Point, Layer}
 use Rattle.formats.specs.LayerRules.{PointRules, ContourRules, pointTotal, LayerRules}
 use Rattle.writer.specs.Written as written
 use Rattle.writer.specs.Written.{layerOf, numbersOf}

@@ -1,6 +1,6 @@
 -- What All layers promises: it refuses exactly if a listed condition holds, at the least place; what an unrefused call has tested; and its file keeps the rules of
 -- the layer file, so it is read back as the layers that it was written from.
-use Prim.Native.Nat.{ℕ, zero, suc, _≤_, _<_}
+use Prim.Native.Nat.{ℕ, suc, _<_}
 use mathlib.Core.Path.{_≡_, refl, sym, ap, _∙_}
 use mathlib.Core.List.{List, [], _∷_, _++_, map}
 use mathlib.Core.Logic.{_↔_}
@@ -19,7 +19,7 @@ use Rattle.section.specs.Section.{Right}
 use Rattle.section.specs.RightLaws.{right-of}
 use Rattle.formats.specs.Formats.{Each, holds}
 use Rattle.formats.specs.Numbers.{Word}
-use Rattle.formats.specs.LayerFile.{mostLayers, lowest, layerFile, layersOf}
+use Rattle.formats.specs.LayerFile.{mostLayers, lowest, layersOf}
 use Rattle.formats.specs.LayerRules as rules
 use Rattle.formats.specs.LayerRules.{LayerRules, Rules}
 use Rattle.formats.specs.RoundTripLaws.{layers-read-back}

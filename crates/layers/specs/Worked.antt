@@ -1,7 +1,7 @@
 -- The worked layer file of document 01, from part P to its 23 bytes, by computation from the definitions.
 use Prim.Native.Nat.{ℕ}
 use mathlib.Core.Path.{_≡_, refl}
-use mathlib.Core.List.{List, [], _∷_, map}
+use mathlib.Core.List.{List, [], _∷_}
 use lib.IntN.{ℤ, pos}
 use Rattle.laws.specs.Least.{least, some}
 use Rattle.laws.specs.Tables.{tabulate}

@@ -1,5 +1,4 @@
 -- `internal::layer_into` meets its contract.
-use denote.Ref.{now}
 use mir.Syntax.{w32}
 use mir.ValLaws.{toZ-ofZ}
 use Rattle.layers.proofs.Passes.{layer-in, layer-never}

@@ -1,6 +1,5 @@
 -- `internal::put_file` meets its contract.
 use native.Mathlib.Omega.{arith}
-use denote.Ref.{now}
 use mir.Syntax.{w32}
 use mir.ValLaws.{toZ-ofZ}
 use Rattle.layers.proofs.Passes.{works-more, works-long, held-listed}

@@ -1,0 +1,1 @@
+// The worked pieces, proved; see specs/. The product has no function here.
