@@ -14,9 +14,10 @@ use mir.ValLaws.{toZ-ofZ}
 use Rattle.laws.specs.Machine.{same}
 use Rattle.laws.specs.Tables.{refill}
 use Rattle.laws.specs.TableLaws.{refill-more}
-use Rattle.mesh.specs.Corners.{nextCorner, startOf, zOf}
+use Rattle.mesh.specs.Corners.{triangleOf, nextCorner, startOf, zOf}
 use Rattle.mesh.specs.Tests.{pairOf}
-use Rattle.section.specs.Section.{VertexSet, under, rising, risingIn, successor, noCorner, ringEntry}
+use Rattle.section.specs.Section.{VertexSet, under, rising, falling, risingIn, successor, noCorner, ringEntry}
+use Rattle.section.specs.SectionLaws.{beside-not, beside-passed}
 
 -- a signed argument as the code holds it
 abbrev pub held : ℤ → ℤ
@@ -58,21 +59,20 @@ pub rises-is : (passed : VertexSet) (corners : List ℕ) (c n u v : ℕ) (r : Bo
 unfolding rising
 rises-is passed corners c n u v r en eu ev er = er ∙ (λ i. passed (eu i) && not (passed ((ev ∙ ap (λ (k : ℕ). getD corners k 0) en) i)))
 
--- ---- rising_corner
+-- ---- rising_beside
+
+module _ (passed : VertexSet) (corners : List ℕ) (d e f w : ℕ) (r : Bool) (falls : falling passed corners d ≡ true) (is-e : e ≡ nextCorner d) (is-f : f ≡ nextCorner e)
+    (is-w : w ≡ getD corners f 0) (is-r : r ≡ passed w) where
+  third : passed (startOf corners (nextCorner (nextCorner d))) ≡ r
+  third = sym (is-r ∙ ap passed (is-w ∙ ap (λ (i : ℕ). getD corners i 0) (is-f ∙ ap nextCorner is-e)))
+
+  pub second-rises : r ≡ true → f ≡ risingIn passed corners (triangleOf d)
+  second-rises t = is-f ∙ ap nextCorner is-e ∙ beside-passed passed corners d falls (third ∙ t)
+
+  pub first-rises : r ≡ false → e ≡ risingIn passed corners (triangleOf d)
+  first-rises t = is-e ∙ beside-not passed corners d falls (third ∙ t)
 
 module _ (passed : VertexSet) (corners : List ℕ) (t : ℕ) where
-  pub rising-first : rising passed corners (3 * t) ≡ true → 3 * t ≡ risingIn passed corners t
-  unfolding risingIn
-  rising-first p = simp p
-
-  pub rising-second : rising passed corners (3 * t) ≡ false → rising passed corners (3 * t + 1) ≡ true → 3 * t + 1 ≡ risingIn passed corners t
-  unfolding risingIn
-  rising-second p q = simp (p, q)
-
-  pub rising-third : rising passed corners (3 * t) ≡ false → rising passed corners (3 * t + 1) ≡ false → 3 * t + 2 ≡ risingIn passed corners t
-  unfolding risingIn
-  rising-third p q = simp (p, q)
-
   pub risingIn-bound : risingIn passed corners t ≤ 3 * t + 2
   unfolding risingIn
   risingIn-bound = by (rising passed corners (3 * t)) (rising passed corners (3 * t + 1))

@@ -140,6 +140,17 @@ module _ (passed : VertexSet) (corners : List ℕ) where
           last (no ne) (yes e) = absurd (clash h (ap (rising passed corners) e ∙ q))
           last (no ne) (no ne2) = omega arith
 
+  -- beside a falling corner: the one after it, unless the third vertex is passed too
+  pub beside-not : (d : ℕ) → falling passed corners d ≡ true → passed (startOf corners (nextCorner (nextCorner d))) ≡ false → nextCorner d ≡ risingIn passed corners (triangleOf d)
+  beside-not d f e =
+      sym (ap (risingIn passed corners) (sym (next-triangle d)) ∙ risingIn-is (nextCorner d) (rising-of (nextCorner d) (falling-parts d f .0) e))
+
+  pub beside-passed : (d : ℕ) → falling passed corners d ≡ true → passed (startOf corners (nextCorner (nextCorner d))) ≡ true
+      → nextCorner (nextCorner d) ≡ risingIn passed corners (triangleOf d)
+  beside-passed d f e =
+      let t : triangleOf d ≡ triangleOf (nextCorner (nextCorner d)) = omega arith in
+      sym (ap (risingIn passed corners) t ∙ risingIn-is (nextCorner (nextCorner d)) (rising-of (nextCorner (nextCorner d)) e (ap passed (end-last d) ∙ falling-parts d f .1)))
+
 -- ---- the successor
 
 module _ (passed : VertexSet) (corners pairing : List ℕ) (linked : Linked corners pairing) where

@@ -1,12 +1,12 @@
 // Internal: crossings and successors, whose `requires` say what the tests of a mesh establish. A vertex is passed if it stands before
 // the place (h, k) by z and then by number; (h, 0) is the set of height h.
 ghost use mathlib.Core.Path.{_≡_};
-ghost use mathlib.Core.Bool.{not, _&&_};
-ghost use Prim.Native.Nat.{_*_, _<_, _≤_};
+ghost use mathlib.Core.Bool.{true, not, _&&_};
+ghost use Prim.Native.Nat.{_<_, _≤_};
 ghost use lib.ListN.{length};
 ghost use Rattle.laws.specs.Tables.{refill};
-ghost use Rattle.mesh.specs.Corners.{vertexCount};
-ghost use Rattle.section.specs.Section.{under, rising, risingIn, ringEntry, Named, Linked};
+ghost use Rattle.mesh.specs.Corners.{vertexCount, triangleOf};
+ghost use Rattle.section.specs.Section.{under, rising, falling, risingIn, ringEntry, Named, Linked};
 use mesh::internal::next_corner;
 use mesh::internal::wide;
 
@@ -48,20 +48,18 @@ pub fn rises(coords: &[i32], corners: &[u32], h: i32, k: usize, c: usize) -> boo
     leads_up(coords, h, k, u, v)
 }
 
-// The rising corner of triangle t.
-fn rising_corner(coords: &[i32], corners: &[u32], h: i32, k: usize, t: usize) -> usize
-    requires { ⌜ Named (now coords) (now corners) ⌝ ∗ ⌜ 3 * t < length (now corners) ⌝ }
-    ensures { λ r. ⌜ r ≡ risingIn (under (now (coords .entry)) h k) (now (corners .entry)) t ⌝ }
+// The rising corner of the triangle of a falling corner d: the one after d, or the one after that where the third vertex is passed too.
+pub fn rising_beside(coords: &[i32], corners: &[u32], h: i32, k: usize, d: usize) -> usize
+    requires { ⌜ Named (now coords) (now corners) ⌝ ∗ ⌜ d < length (now corners) ⌝ ∗ ⌜ falling (under (now coords) h k) (now corners) d ≡ true ⌝ }
+    ensures { λ r. ⌜ r ≡ risingIn (under (now (coords .entry)) h k) (now (corners .entry)) (triangleOf d) ⌝ }
 {
-    let c = 3 * t;
-    if rises(coords, corners, h, k, c) {
-        return c;
+    let e = next_corner(d);
+    let f = next_corner(e);
+    let w = wide(corners[f]);
+    if is_passed(coords, h, k, w) {
+        return f;
     }
-    let d = c + 1;
-    if rises(coords, corners, h, k, d) {
-        return d;
-    }
-    c + 2
+    e
 }
 
 // The ring entry of corner c.
@@ -71,7 +69,7 @@ pub fn entry_of(coords: &[i32], corners: &[u32], pairing: &[u32], h: i32, k: usi
 {
     if rises(coords, corners, h, k, c) {
         let d = wide(pairing[c]);
-        let s = rising_corner(coords, corners, h, k, d / 3);
+        let s = rising_beside(coords, corners, h, k, d);
         return s as u32;
     }
     4294967295

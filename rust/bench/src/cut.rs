@@ -1,4 +1,4 @@
-use crate::inputs::kinds;
+use crate::inputs::{heights, kinds};
 use crate::unproved;
 use crate::versions::{compare, Subject, Version};
 use meshes::{random_pairing, Mesh, Random};
@@ -53,7 +53,7 @@ impl Cuts {
     fn new(mesh: Mesh) -> Self {
         Cuts {
             pairing: random_pairing(&mesh, &mut Random::new(1)),
-            heights: heights(&mesh),
+            heights: heights(&mesh, HEIGHTS),
             tables: Tables::new(mesh.corners.len()),
             mesh,
         }
@@ -79,16 +79,6 @@ impl Cuts {
         )
         .expect("the mesh is closed")
     }
-}
-
-/// Heights at equal distances, from next to the bottom to next to the top.
-fn heights(mesh: &Mesh) -> Vec<i32> {
-    let z = || mesh.coords.iter().skip(2).step_by(3).copied();
-    let (low, high) = (z().min().unwrap_or(0), z().max().unwrap_or(0));
-    let distance = (high - low) / HEIGHTS;
-    (0..HEIGHTS)
-        .map(|i| low + distance / 2 + i * distance)
-        .collect()
 }
 
 impl Subject for Cuts {

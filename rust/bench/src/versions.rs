@@ -88,6 +88,11 @@ fn median(times: &[Duration]) -> Duration {
 
 /// Times an operation on all inputs, which take turns, and prints the ratios.
 pub fn compare<S: Subject>(heading: &str, unit: &str, kinds: Vec<Kind<S>>) {
+    compare_in(RUNS, heading, unit, kinds);
+}
+
+/// The same in so many runs.
+pub fn compare_in<S: Subject>(runs: usize, heading: &str, unit: &str, kinds: Vec<Kind<S>>) {
     let mut kinds: Vec<Kind<Timed<S>>> = kinds
         .into_iter()
         .map(|Kind { name, sizes }| Kind {
@@ -96,10 +101,10 @@ pub fn compare<S: Subject>(heading: &str, unit: &str, kinds: Vec<Kind<S>>) {
         })
         .collect();
     all(&mut kinds).for_each(Timed::verify);
-    for _ in 0..RUNS {
+    for _ in 0..runs {
         all(&mut kinds).for_each(Timed::measure);
     }
-    println!("{heading}: medians of {RUNS} runs; growth is for twice the {unit}");
+    println!("{heading}: medians of {runs} runs; growth is for twice the {unit}");
     print_table(unit, &kinds);
 }
 

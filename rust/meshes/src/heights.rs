@@ -1,4 +1,5 @@
 use crate::{Mesh, Random, MAX_COORDINATE};
+use std::collections::BTreeSet;
 
 /// A random height for a mesh: that of a vertex as a rule, or next to it, or halfway between two
 /// vertices; at times one far off.
@@ -16,6 +17,16 @@ pub fn random_height(mesh: &Mesh, random: &mut Random) -> i32 {
     }
 }
 
+/// Random heights for a mesh that rise strictly: few as a rule, at times none or many.
+pub fn rising_heights(mesh: &Mesh, random: &mut Random) -> Vec<i32> {
+    let count = match random.below(20) {
+        0 => random.below(60),
+        _ => random.below(7),
+    };
+    let heights: BTreeSet<i32> = (0..count).map(|_| random_height(mesh, random)).collect();
+    heights.into_iter().collect()
+}
+
 fn far_height(random: &mut Random) -> i32 {
     match random.below(4) {
         0 => random.choose(&[i32::MIN, i32::MAX]),
@@ -29,7 +40,6 @@ fn far_height(random: &mut Random) -> i32 {
 mod tests {
     use super::*;
     use crate::shapes::tetrahedron;
-    use std::collections::BTreeSet;
 
     #[test]
     fn heights_are_on_vertices_between_them_and_outside() {
@@ -50,5 +60,18 @@ mod tests {
             .map(|_| random_height(&Mesh::default(), &mut random))
             .collect();
         assert!(heights.len() > 10);
+    }
+
+    #[test]
+    fn rising_heights_are_none_few_or_many() {
+        let lengths: BTreeSet<usize> = (0..1000)
+            .map(|round| {
+                let heights = rising_heights(&tetrahedron(10), &mut Random::of_round(1, round));
+                assert!(heights.is_sorted_by(|a, b| a < b));
+                heights.len()
+            })
+            .collect();
+        assert!(lengths.contains(&0) && lengths.contains(&1));
+        assert!(lengths.last() > Some(&10));
     }
 }

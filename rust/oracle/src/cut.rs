@@ -48,7 +48,7 @@ pub fn cut(
 }
 
 /// Whether the corner's entry is there, is a corner, has the reverse edge and is paired back.
-fn is_paired(corners: &[u32], pairing: &[u32], corner: usize) -> bool {
+pub(crate) fn is_paired(corners: &[u32], pairing: &[u32], corner: usize) -> bool {
     let Some(&pair) = pairing.get(corner) else {
         return false;
     };
@@ -59,7 +59,7 @@ fn is_paired(corners: &[u32], pairing: &[u32], corner: usize) -> bool {
 }
 
 impl Tables<'_> {
-    fn have_room_for(&self, corners: usize) -> bool {
+    pub(crate) fn have_room_for(&self, corners: usize) -> bool {
         self.names.len() >= corners
             && self.points.len() >= 2 * corners
             && self.ends.len() >= corners
@@ -67,21 +67,31 @@ impl Tables<'_> {
     }
 
     /// Fills the tables with these rings; or zeroes them, where a walk met a used crossing.
-    fn write(&mut self, plane: Plane, rings: Result<Vec<Ring>, usize>) -> Result<Layer, Refusal> {
+    pub(crate) fn write(
+        &mut self,
+        plane: Plane,
+        rings: Result<Vec<Ring>, usize>,
+    ) -> Result<Layer, Refusal> {
         let corners = plane.corners.len();
         self.marks[..corners].fill(0);
         match rings {
             Ok(rings) => Ok(self.fill(plane, &rings)),
             Err(crossing) => {
-                self.names[..corners].fill(0);
-                self.points[..2 * corners].fill(0);
-                self.ends[..corners].fill(0);
+                self.clear(corners);
                 Err(Refusal {
                     number: 16,
                     place: crossing as u64,
                 })
             }
         }
+    }
+
+    /// Zeroes the entries that a mesh of so many corners asks for.
+    pub(crate) fn clear(&mut self, corners: usize) {
+        self.names[..corners].fill(0);
+        self.points[..2 * corners].fill(0);
+        self.ends[..corners].fill(0);
+        self.marks[..corners].fill(0);
     }
 
     fn fill(&mut self, plane: Plane, rings: &[Ring]) -> Layer {

@@ -6,6 +6,7 @@
 
 #![forbid(unsafe_code)]
 
+mod all_layers;
 mod area;
 mod check;
 mod contour;
@@ -16,7 +17,9 @@ mod numbers;
 mod part_file;
 mod refusal;
 mod section;
+mod sweep;
 
+pub use all_layers::all_layers;
 pub use area::area;
 pub use check::check;
 pub use contour::contour;
@@ -26,3 +29,4 @@ pub use numbers::{encode_plain, encode_signed};
 pub use part_file::{decode_part, encode_part, read_part, Part, PartRead};
 pub use refusal::Refusal;
 pub use section::section_area;
+pub use sweep::{fresh_ring, layer, start, step, Sweep};

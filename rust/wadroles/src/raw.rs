@@ -75,6 +75,103 @@ extern "C" {
     /// As [above](self#safety).
     pub fn wadroles_area(points: *const i32, points_len: usize, out: *mut u64) -> u32;
 
+    /// Starts a sweep, as [`crate::start()`] does. Success writes the number of passed vertices, 0.
+    ///
+    /// # Safety
+    ///
+    /// As [above](self#safety).
+    pub fn wadroles_start(
+        coords: *const i32,
+        coords_len: usize,
+        corners: *const u32,
+        corners_len: usize,
+        ring: *mut u32,
+        ring_len: usize,
+        out: *mut u64,
+    ) -> u32;
+
+    /// Passes the next vertex, as [`crate::step()`] does. Success writes the number of passed
+    /// vertices, and 1 where it was the top, else 0.
+    ///
+    /// # Safety
+    ///
+    /// As [above](self#safety).
+    pub fn wadroles_step(
+        coords: *const i32,
+        coords_len: usize,
+        corners: *const u32,
+        corners_len: usize,
+        pairing: *const u32,
+        pairing_len: usize,
+        order: *const u32,
+        order_len: usize,
+        ring: *mut u32,
+        ring_len: usize,
+        passed: usize,
+        out: *mut u64,
+    ) -> u32;
+
+    /// Rises to a height, as [`crate::layer()`] does. Success writes the number of passed vertices
+    /// and the counts of contours and of points.
+    ///
+    /// # Safety
+    ///
+    /// As [above](self#safety).
+    pub fn wadroles_layer(
+        coords: *const i32,
+        coords_len: usize,
+        corners: *const u32,
+        corners_len: usize,
+        pairing: *const u32,
+        pairing_len: usize,
+        order: *const u32,
+        order_len: usize,
+        ring: *mut u32,
+        ring_len: usize,
+        passed: usize,
+        h: i32,
+        names: *mut u32,
+        names_len: usize,
+        points: *mut i32,
+        points_len: usize,
+        ends: *mut u32,
+        ends_len: usize,
+        marks: *mut u32,
+        marks_len: usize,
+        out: *mut u64,
+    ) -> u32;
+
+    /// Writes the layer file of a mesh, as [`crate::all_layers()`] does. Success writes its length.
+    ///
+    /// # Safety
+    ///
+    /// As [above](self#safety).
+    pub fn wadroles_all_layers(
+        coords: *const i32,
+        coords_len: usize,
+        corners: *const u32,
+        corners_len: usize,
+        pairing: *const u32,
+        pairing_len: usize,
+        order: *const u32,
+        order_len: usize,
+        heights: *const i32,
+        heights_len: usize,
+        names: *mut u32,
+        names_len: usize,
+        points: *mut i32,
+        points_len: usize,
+        ends: *mut u32,
+        ends_len: usize,
+        marks: *mut u32,
+        marks_len: usize,
+        ring: *mut u32,
+        ring_len: usize,
+        output: *mut u8,
+        output_len: usize,
+        out: *mut u64,
+    ) -> u32;
+
     /// Reads a layer of a layer file, as [`crate::read_layer()`] does. Success writes the number of
     /// layers in the file, the layer's height as two's complement, and its counts of contours and
     /// of points.

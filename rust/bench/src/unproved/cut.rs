@@ -1,10 +1,10 @@
 //! Cut by successors that are written into the table of marks and wiped as they are walked.
 
-use super::tables::{next, refuse, test_pairing, test_sizes, test_values};
+use super::tables::{next, refuse, test_pairing, test_room, test_sizes, test_values};
 use wadroles::{Layer, LayerTables, Refusal};
 
 /// The mark of a corner that is no crossing, or one already used.
-const NONE: u32 = u32::MAX;
+pub(super) const NONE: u32 = u32::MAX;
 
 /// Does what `wadroles::cut` does.
 pub fn cut(
@@ -16,45 +16,72 @@ pub fn cut(
 ) -> Result<Layer, Refusal> {
     let n = corners.len();
     test_sizes(coords, corners)?;
-    let short = [&tables.names, &tables.ends, &tables.marks].map(|table| table.len() < n);
-    if short.contains(&true) || tables.points.len() < 2 * n {
-        return refuse(Refusal::ROOM, 0);
-    }
+    test_room(&tables, n)?;
     test_values(coords, corners)?;
     test_pairing(corners, pairing)?;
 
-    let (names, points) = (&mut tables.names[..n], &mut tables.points[..2 * n]);
-    let (ends, marks) = (&mut tables.ends[..n], &mut tables.marks[..n]);
-    mark_successors(coords, corners, pairing, h, marks);
-    let walked = walk(marks, names, ends);
-    marks.fill(0);
+    let mut layer = LayerTables {
+        names: &mut tables.names[..n],
+        points: &mut tables.points[..2 * n],
+        ends: &mut tables.ends[..n],
+        marks: &mut tables.marks[..n],
+    };
+    mark_successors(corners, pairing, below(coords, h), layer.marks);
+    outline(coords, corners, h, &mut layer)
+}
+
+/// The set of vertices with z < h.
+pub(super) fn below(coords: &[i32], h: i32) -> impl Fn(u32) -> bool + Copy + '_ {
+    move |vertex| coords[3 * vertex as usize + 2] < h
+}
+
+/// Takes the contours out of the marks, of tables that are as long as they need be.
+pub(super) fn outline(
+    coords: &[i32],
+    corners: &[u32],
+    h: i32,
+    tables: &mut LayerTables<'_>,
+) -> Result<Layer, Refusal> {
+    let walked = walk(tables.marks, tables.names, tables.ends);
+    tables.marks.fill(0);
     match walked {
         Ok(layer) => {
-            write_points(coords, corners, h, &names[..layer.points], points);
+            let names = &tables.names[..layer.points];
+            write_points(coords, corners, h, names, tables.points);
             Ok(layer)
         }
         Err(crossing) => {
-            names.fill(0);
-            points.fill(0);
-            ends.fill(0);
+            tables.names.fill(0);
+            tables.points.fill(0);
+            tables.ends.fill(0);
             refuse(Refusal::USED, crossing)
         }
     }
 }
 
-fn mark_successors(coords: &[i32], corners: &[u32], pairing: &[u32], h: i32, marks: &mut [u32]) {
+/// Writes the successor of each crossing.
+pub(super) fn mark_successors(
+    corners: &[u32],
+    pairing: &[u32],
+    passed: impl Fn(u32) -> bool + Copy,
+    marks: &mut [u32],
+) {
     for triangle in 0..corners.len() / 3 {
         marks[3 * triangle..3 * triangle + 3].fill(NONE);
-        if let Some(corner) = rising_corner(coords, corners, h, triangle) {
-            let after = rising_corner(coords, corners, h, pairing[corner] as usize / 3);
+        if let Some(corner) = rising_corner(corners, passed, triangle) {
+            let after = rising_corner(corners, passed, pairing[corner] as usize / 3);
             marks[corner] = after.map_or(NONE, |corner| corner as u32);
         }
     }
 }
 
-fn rising_corner(coords: &[i32], corners: &[u32], h: i32, triangle: usize) -> Option<usize> {
+pub(super) fn rising_corner(
+    corners: &[u32],
+    passed: impl Fn(u32) -> bool,
+    triangle: usize,
+) -> Option<usize> {
     let first = 3 * triangle;
-    let [a, b, c] = [0, 1, 2].map(|k| coords[3 * corners[first + k] as usize + 2] < h);
+    let [a, b, c] = [0, 1, 2].map(|k| passed(corners[first + k]));
     match (a, b, c) {
         (true, false, _) => Some(first),
         (_, true, false) => Some(first + 1),
@@ -91,13 +118,23 @@ fn walk(marks: &mut [u32], names: &mut [u32], ends: &mut [u32]) -> Result<Layer,
 
 fn write_points(coords: &[i32], corners: &[u32], h: i32, names: &[u32], points: &mut [i32]) {
     for (&name, point) in names.iter().zip(points.chunks_exact_mut(2)) {
-        let corner = name as usize;
-        let [low, high] = [corner, next(corner)].map(|c| &coords[3 * corners[c] as usize..][..3]);
-        let (part, rise) = (i64::from(h - low[2]), i64::from(high[2] - low[2]));
-        for axis in 0..2 {
-            let doubled = 2 * i64::from(high[axis] - low[axis]) * part;
-            point[axis] = low[axis] + (doubled + rise).div_euclid(2 * rise) as i32;
-        }
+        write_point(coords, corners, h, name as usize, point);
+    }
+}
+
+/// Writes the point of a crossing.
+pub(super) fn write_point(
+    coords: &[i32],
+    corners: &[u32],
+    h: i32,
+    corner: usize,
+    point: &mut [i32],
+) {
+    let [low, high] = [corner, next(corner)].map(|c| &coords[3 * corners[c] as usize..][..3]);
+    let (part, rise) = (i64::from(h - low[2]), i64::from(high[2] - low[2]));
+    for axis in 0..2 {
+        let doubled = 2 * i64::from(high[axis] - low[axis]) * part;
+        point[axis] = low[axis] + (doubled + rise).div_euclid(2 * rise) as i32;
     }
 }
 

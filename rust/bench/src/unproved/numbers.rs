@@ -52,3 +52,47 @@ impl<'a> Reader<'a> {
         }
     }
 }
+
+/// The bytes that a plain number takes.
+pub fn plain_length(number: u32) -> usize {
+    let bits = 32 - (number | 1).leading_zeros() as usize;
+    bits.div_ceil(7)
+}
+
+/// The plain number that a signed one is sent as.
+pub fn sent(number: i32) -> u32 {
+    (number << 1 ^ number >> 31) as u32
+}
+
+/// An output that is long enough, and the position of its next value.
+pub struct Writer<'a> {
+    output: &'a mut [u8],
+    position: usize,
+}
+
+impl<'a> Writer<'a> {
+    pub fn new(output: &'a mut [u8]) -> Self {
+        Writer {
+            output,
+            position: 0,
+        }
+    }
+
+    pub fn position(&self) -> usize {
+        self.position
+    }
+
+    pub fn plain(&mut self, mut number: u32) {
+        while number >= 128 {
+            self.output[self.position] = number as u8 | 128;
+            self.position += 1;
+            number >>= 7;
+        }
+        self.output[self.position] = number as u8;
+        self.position += 1;
+    }
+
+    pub fn signed(&mut self, number: i32) {
+        self.plain(sent(number));
+    }
+}

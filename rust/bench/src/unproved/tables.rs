@@ -1,6 +1,6 @@
 //! The tests that several operations make of their tables.
 
-use wadroles::{Refusal, MAX_COORDINATE, MAX_TRIANGLES, MAX_VERTICES};
+use wadroles::{LayerTables, Refusal, MAX_COORDINATE, MAX_TRIANGLES, MAX_VERTICES};
 
 pub fn refuse<T>(number: u32, place: usize) -> Result<T, Refusal> {
     Err(Refusal {
@@ -25,6 +25,15 @@ pub fn test_sizes(coords: &[i32], corners: &[u32]) -> Result<(), Refusal> {
     } else {
         refuse(Refusal::SIZE, 0)
     }
+}
+
+/// Refusal 9 of the tables of a layer.
+pub fn test_room(tables: &LayerTables<'_>, corners: usize) -> Result<(), Refusal> {
+    let short = [&tables.names, &tables.ends, &tables.marks].map(|table| table.len() < corners);
+    if short.contains(&true) || tables.points.len() < 2 * corners {
+        return refuse(Refusal::ROOM, 0);
+    }
+    Ok(())
 }
 
 pub fn test_range(numbers: &[i32]) -> Result<(), Refusal> {
@@ -59,6 +68,24 @@ fn is_paired(corners: &[u32], pairing: &[u32], corner: usize) -> bool {
         && corners[pair] == corners[next(corner)]
         && corners[next(pair)] == corners[corner]
         && pairing.get(pair) == Some(&(corner as u32))
+}
+
+pub fn test_order(coords: &[i32], order: &[u32]) -> Result<(), Refusal> {
+    let vertices = coords.len() / 3;
+    let key = |vertex: u32| (coords[3 * vertex as usize + 2], vertex);
+    let order = &order[..vertices.min(order.len())];
+    let rises = |pair: &[u32]| key(pair[0]) < key(pair[1]);
+    let are_vertices = order.iter().all(|&vertex| (vertex as usize) < vertices);
+    // So many vertices in rising sequence are all of them.
+    if order.len() == vertices && are_vertices && order.windows(2).all(rises) {
+        return Ok(());
+    }
+    let mut sorted: Vec<u32> = (0..vertices as u32).collect();
+    sorted.sort_unstable_by_key(|&vertex| key(vertex));
+    match (0..vertices).find(|&position| order.get(position) != Some(&sorted[position])) {
+        Some(position) => refuse(Refusal::ORDER, position),
+        None => Ok(()),
+    }
 }
 
 /// The next corner of the same triangle.

@@ -1,4 +1,6 @@
-use wadroles::{Refusal, MAX_COORDINATE, MAX_LAYERS, MAX_POINTS, MAX_TRIANGLES, MAX_VERTICES};
+use wadroles::{
+    Refusal, MAX_COORDINATE, MAX_LAYERS, MAX_POINTS, MAX_TRIANGLES, MAX_VERTICES, NO_CORNER,
+};
 
 const HEADER: &str = include_str!("../../../../include/wadroles.h");
 const RAW: &str = include_str!("../../src/raw.rs");
@@ -36,6 +38,7 @@ fn the_header_gives_the_same_limits() {
         format!("#define WADROLES_MAX_COORDINATE {MAX_COORDINATE}\n"),
         format!("#define WADROLES_MAX_POINTS {MAX_POINTS}\n"),
         format!("#define WADROLES_MAX_LAYERS {MAX_LAYERS}\n"),
+        format!("#define WADROLES_NO_CORNER {NO_CORNER}u\n"),
     ] {
         assert!(HEADER.contains(&line), "no {line:?} in the header");
     }
@@ -58,6 +61,10 @@ fn the_header_declares_the_same_functions() {
             "wadroles_cut",
             "wadroles_contour",
             "wadroles_area",
+            "wadroles_start",
+            "wadroles_step",
+            "wadroles_layer",
+            "wadroles_all_layers",
             "wadroles_read_layer",
             "wadroles_read_part"
         ]

@@ -16,6 +16,12 @@ pub trait Entry: Copy + Display + PartialEq {
     fn of_word(word: u64) -> Self;
 }
 
+impl Entry for u8 {
+    fn of_word(word: u64) -> Self {
+        word as u8
+    }
+}
+
 impl Entry for u32 {
     fn of_word(word: u64) -> Self {
         word as u32
@@ -55,6 +61,13 @@ impl<T: Entry> Lent<T> {
         Lent::new(needed + more, random)
     }
 
+    /// The same entries, but for those at the end that so short a table lacks.
+    pub fn shortened(&self, length: usize) -> Self {
+        let mut entries = self.entries.clone();
+        entries.drain(MARGIN + length..self.entries.len() - MARGIN);
+        Lent { entries }
+    }
+
     pub fn table(&mut self) -> &mut [T] {
         let end = self.entries.len() - MARGIN;
         &mut self.entries[MARGIN..end]
@@ -73,6 +86,14 @@ impl<T: Entry> Lent<T> {
             "entry {position} of {length} is {}, not {}",
             self.entries[at], expected.entries[at]
         ))
+    }
+}
+
+#[test]
+fn shorter_tables_have_the_same_entries() {
+    let long: Lent<u8> = Lent::new(9, &mut Random::new(1));
+    for length in 0..=9 {
+        assert_eq!(long.shortened(length).view(), &long.view()[..length]);
     }
 }
 

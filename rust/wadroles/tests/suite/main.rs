@@ -4,6 +4,7 @@
 //! and round. The environment variable `WADROLES_SEED` gives another seed, and `WADROLES_ROUNDS`
 //! another number of rounds.
 
+mod all_layers;
 mod area;
 mod check;
 mod contour;
@@ -14,5 +15,6 @@ mod pointers;
 mod read_layer;
 mod read_part;
 mod runs;
+mod sweep;
 mod tally;
 mod variants;

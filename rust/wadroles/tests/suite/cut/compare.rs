@@ -15,12 +15,7 @@ pub fn library(given: &Given, tables: &mut Tables) -> Answer {
         pairing,
         height,
     } = given;
-    let tables = wadroles::LayerTables {
-        names: tables.names.table(),
-        points: tables.points.table(),
-        ends: tables.ends.table(),
-        marks: tables.marks.table(),
-    };
+    let tables = tables.for_library();
     wadroles::cut(&mesh.coords, &mesh.corners, pairing, *height, tables)
         .map(|layer| (layer.contours, layer.points))
         .map_err(|r| (r.number, r.place))
@@ -32,12 +27,7 @@ pub fn oracle(given: &Given, tables: &mut Tables) -> Answer {
         pairing,
         height,
     } = given;
-    let tables = oracle::Tables {
-        names: tables.names.table(),
-        points: tables.points.table(),
-        ends: tables.ends.table(),
-        marks: tables.marks.table(),
-    };
+    let tables = tables.for_oracle();
     oracle::cut(&mesh.coords, &mesh.corners, pairing, *height, tables)
         .map(|layer| (layer.contours, layer.points))
         .map_err(|r| (r.number, r.place))
@@ -65,7 +55,7 @@ impl Given {
 /// The lengths of names, points, ends and marks.
 pub type Lengths = [usize; 4];
 
-/// The tables lent to cut.
+/// The tables lent for a layer.
 #[derive(Clone)]
 pub struct Tables {
     pub names: Lent<u32>,
@@ -75,7 +65,7 @@ pub struct Tables {
 }
 
 impl Tables {
-    fn new([names, points, ends, marks]: Lengths) -> Self {
+    pub fn new([names, points, ends, marks]: Lengths) -> Self {
         let mut random = Random::new(1);
         Tables {
             names: Lent::new(names, &mut random),
@@ -85,7 +75,8 @@ impl Tables {
         }
     }
 
-    fn random(corners: usize, random: &mut Random) -> Self {
+    /// Long enough for so many corners, most times.
+    pub fn random(corners: usize, random: &mut Random) -> Self {
         if random.one_in(4) {
             Tables {
                 names: Lent::random(corners, random),
@@ -94,17 +85,40 @@ impl Tables {
                 marks: Lent::random(corners, random),
             }
         } else {
-            Tables {
-                names: Lent::long(corners, random),
-                points: Lent::long(2 * corners, random),
-                ends: Lent::long(corners, random),
-                marks: Lent::long(corners, random),
-            }
+            Tables::long(corners, random)
+        }
+    }
+
+    /// Long enough for so many corners.
+    pub fn long(corners: usize, random: &mut Random) -> Self {
+        Tables {
+            names: Lent::long(corners, random),
+            points: Lent::long(2 * corners, random),
+            ends: Lent::long(corners, random),
+            marks: Lent::long(corners, random),
+        }
+    }
+
+    pub fn for_library(&mut self) -> wadroles::LayerTables<'_> {
+        wadroles::LayerTables {
+            names: self.names.table(),
+            points: self.points.table(),
+            ends: self.ends.table(),
+            marks: self.marks.table(),
+        }
+    }
+
+    pub fn for_oracle(&mut self) -> oracle::Tables<'_> {
+        oracle::Tables {
+            names: self.names.table(),
+            points: self.points.table(),
+            ends: self.ends.table(),
+            marks: self.marks.table(),
         }
     }
 
     /// The first entry of a table that is not as expected.
-    fn difference(&self, expected: &Tables) -> Option<String> {
+    pub fn difference(&self, expected: &Tables) -> Option<String> {
         let differences = [
             ("names", self.names.difference(&expected.names)),
             ("points", self.points.difference(&expected.points)),

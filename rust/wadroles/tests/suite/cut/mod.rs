@@ -11,5 +11,6 @@ mod raw;
 mod refusal_order;
 mod worked;
 
+pub use compare::{exact_lengths, Lengths, Tables as LayerTables};
 pub use layer::contours;
 pub use random::random_mesh;

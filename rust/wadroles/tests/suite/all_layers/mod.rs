@@ -1,0 +1,10 @@
+mod compare;
+mod faults;
+mod heights;
+mod limits;
+mod output;
+mod promises;
+mod random;
+mod raw;
+mod refusals;
+mod worked;

@@ -1,0 +1,8 @@
+mod compare;
+mod faults;
+mod limits;
+mod lists;
+mod promises;
+mod raw;
+mod refusals;
+mod worked;
