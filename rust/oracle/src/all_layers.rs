@@ -46,7 +46,7 @@ pub fn all_layers(
 
 /// The lowest z + 50 and every 100 after it, not above the highest z: all of them, or so many that
 /// they are too many.
-fn default_heights(coords: &[i32]) -> Vec<i32> {
+pub(crate) fn default_heights(coords: &[i32]) -> Vec<i32> {
     let z = || coords.chunks(3).map(|point| i64::from(point[2]));
     let (Some(lowest), Some(highest)) = (z().min(), z().max()) else {
         return Vec::new();

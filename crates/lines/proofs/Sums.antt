@@ -1,0 +1,73 @@
+-- Summing the areas of contours: the sum has 64 bits.
+use Prim.Native.Nat.{ℕ, _+_, _*_, _^_, _≤_, _<_}
+use mathlib.Core.Path.{_≡_, refl, sym, ap, _∙_}
+use mathlib.Core.List.{List}
+use native.Mathlib.Omega.{arith}
+use native.Mathlib.Numerals.{add-one}
+use native.Mathlib.Nat.{mul-le-mul-right, le-trans}
+use lib.IntN.{ℤ, natAbs, _+ℤ_}
+use lib.Signed.{mag}
+use mir.Syntax.{w64}
+use mir.Val.{SFits, toZ, ofZ}
+use Rattle.laws.specs.Machine.{Rd, got, add-ok, add}
+use Rattle.mesh.specs.declared.Refusal.{Refusal}
+use Rattle.contours.specs.declared.Measured.{Measured}
+use Rattle.contours.specs.declared.Measured.the-variants.{Area, Refused as Turned}
+use Rattle.contours.specs.Areas.{pointCount, crossOf, nextPoint, sumOf, areaOf, measureOf}
+use Rattle.contours.specs.AreaLaws.{sum-bound, cross-bound, run-measured, area-is}
+use Rattle.contours.specs.Contours.{contourOf}
+use Rattle.contours.specs.Runs.{largestCross, Run}
+use Rattle.lines.specs.Limits.{entries}
+use Rattle.lines.specs.Steps.{areasIn, Summable}
+
+-- ---- one contour
+
+pub measured-area : (points : List ℤ) {m : Measured} {a : ℤ} → m ≡ measureOf points → m ≡ Area a → a ≡ areaOf points
+measured-area points {m} {a} e f = area-is points a (sym e ∙ f)
+
+pub never-refused : {points : List ℤ} {m : Measured} {r : Refusal} → Run points → m ≡ measureOf points → m ≡ Turned r → ⊥
+never-refused {points} {m} {r} run e f = let g : Turned r ≡ Area (areaOf points) = sym f ∙ e ∙ run-measured points run in let z : _≡_ {A = ℕ} 0 1 = cc in omega arith
+
+-- ---- the sum
+
+-- the area of a run of few points
+area-most : (points : List ℤ) → Run points → pointCount points ≤ entries → natAbs (areaOf points) ≤ entries * largestCross
+unfolding areaOf
+area-most points r h =
+    let n = pointCount points in
+    le-trans (sum-bound n largestCross (λ i. crossOf points i (nextPoint n i)) (λ i l. cross-bound points r i (nextPoint n i))) (mul-le-mul-right largestCross h)
+
+-- i contours are summed
+pub record Summed (points : List ℤ) (ends : List ℕ) (j sum i : ℕ) : Type 0 where
+  pub upto : i ≤ j
+  pub is : toZ w64 sum ≡ areasIn points ends i
+
+pub summed-start : {points : List ℤ} {ends : List ℕ} {j : ℕ} → Summed points ends j 0 0
+unfolding areasIn sumOf
+summed-start = record { upto = omega arith; is = refl }
+
+module _ {points : List ℤ} {ends : List ℕ} {j : ℕ} (s : Summable points ends j) where
+  sum-most : (i : ℕ) → i ≤ j → natAbs (areasIn points ends i) ≤ entries * (entries * largestCross)
+  unfolding areasIn
+  sum-most i h =
+      let m : i ≤ entries = omega (arith, s .few) in
+      le-trans
+      (sum-bound i (entries * largestCross) (λ k. areaOf (contourOf points ends k)) (λ k l. area-most (contourOf points ends k) (s .each k (omega arith)) (s .short k (omega arith))))
+      (mul-le-mul-right (entries * largestCross) m)
+
+  module _ {sum i : ℕ} (w : Summed points ends j sum i) (h : i < j) (a : ℤ) (fits : mag a < 2 ^ 63) (e : a ≡ areaOf (contourOf points ends i)) where
+    abbrev before : Rd w64 (areasIn points ends i) (entries * (entries * largestCross))
+    before = record { n = sum; is = w .is; le = sum-most i (w .upto) }
+
+    abbrev this : Rd w64 (areaOf (contourOf points ends i)) (entries * largestCross)
+    this = got fits e (area-most (contourOf points ends i) (s .each i h) (s .short i h))
+
+    pub sum-fits : SFits w64 (toZ w64 sum +ℤ toZ w64 (ofZ w64 a))
+    sum-fits = add-ok before this tt
+
+    pub summed-next : Summed points ends j (ofZ w64 (toZ w64 sum +ℤ toZ w64 (ofZ w64 a))) (i + 1)
+    unfolding areasIn sumOf
+    summed-next = record { upto = omega arith; is = add before this tt .is ∙ ap (areasIn points ends) (sym (add-one i)) }
+
+  pub summed-end : {sum i : ℕ} → Summed points ends j sum i → j ≤ i → toZ w64 sum ≡ areasIn points ends j
+  summed-end {sum} {i} w h = w .is ∙ ap (areasIn points ends) (let e : i ≡ j = omega (arith, w .upto) in e)

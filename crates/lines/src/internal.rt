@@ -1,0 +1,198 @@
+// Internal: the lines of a listing and the layers of a mesh, written into an output that has room, as each `requires` says.
+ghost use mathlib.Core.Path.{_≡_};
+ghost use Prim.Native.Nat.{_+_, _≤_};
+ghost use mathlib.Core.List.{map, flatten};
+ghost use lib.ListN.{length};
+ghost use Rattle.section.specs.Section.{Right};
+ghost use Rattle.cutter.specs.Cut.{section, contoursOf};
+ghost use Rattle.contours.specs.Areas.{areaOf};
+ghost use Rattle.contours.specs.Contours.{contourOf};
+ghost use Rattle.contours.specs.Runs.{Run};
+ghost use Rattle.heights.specs.Heights.{heightsTaken};
+ghost use Rattle.decimals.specs.Texts.{HasRoom, Puts};
+ghost use Rattle.lines.specs.Lines.{refusedLine, layersLine, layerLine, lineOf, lineAt, listing};
+ghost use Rattle.lines.specs.Limits.{mostOutput};
+ghost use Rattle.lines.specs.Steps.{areasIn, Summable, mostLine, Workable, PutsLine, Listable, Begun, mostRefused};
+use answers::number;
+use answers::place;
+use contours::Measured;
+use contours::area;
+use contours::contour;
+use cutter::Sliced;
+use cutter::internal::slice;
+use decimals::internal::write_decimal;
+use decimals::internal::write_signed;
+use decimals::internal::write_text;
+use heights::internal::taken_height;
+use heights::lowest_z;
+use heights::taken_count;
+use mesh::Refusal;
+
+// Writes the line of a refusal, and returns its length. All after it stays.
+pub fn write_refusal(output: &mut [u8], r: Refusal) -> usize
+    requires { ⌜ mostRefused ≤ length (now output) ⌝ }
+    ensures { λ e. ⌜ Puts (now (output .entry)) 0 (refusedLine r) e (now (output .exit)) ⌝ }
+{
+    let n = number(r) as u64;
+    let p = place(r) as u64;
+    let a = write_text(output, 0, b"refused ");
+    let b = write_decimal(output, a, n);
+    let c = write_text(output, b, b" ");
+    let d = write_decimal(output, c, p);
+    write_text(output, d, b"\n")
+}
+
+// Writes the first line at a position, and returns the position after it. All before and after stays, here and below.
+fn write_layers_line(output: &mut [u8], at: usize, count: usize) -> usize
+    requires { ⌜ HasRoom (now output) at (layersLine count) ⌝ }
+    ensures { λ r. ⌜ Puts (now (output .entry)) at (layersLine count) r (now (output .exit)) ⌝ }
+{
+    let a = write_text(output, at, b"layers ");
+    let b = write_decimal(output, a, count as u64);
+    write_text(output, b, b"\n")
+}
+
+// Writes the line of a layer.
+fn write_layer_line(
+    output: &mut [u8],
+    at: usize,
+    h: i32,
+    contours: usize,
+    points: usize,
+    area: i64,
+) -> usize
+    requires { ⌜ HasRoom (now output) at (layerLine h contours points area) ⌝ }
+    ensures { λ r. ⌜ Puts (now (output .entry)) at (layerLine h contours points area) r (now (output .exit)) ⌝ }
+{
+    let a = write_text(output, at, b"layer ");
+    let b = write_signed(output, a, h as i64);
+    let c = write_text(output, b, b" ");
+    let d = write_decimal(output, c, contours as u64);
+    let e = write_text(output, d, b" ");
+    let f = write_decimal(output, e, points as u64);
+    let g = write_text(output, f, b" ");
+    let i = write_signed(output, g, area);
+    write_text(output, i, b"\n")
+}
+
+// The area of contour j.
+fn contour_area(points: &[i32], ends: &[u32], j: usize) -> i64
+    requires { ⌜ Run (contourOf (now points) (now ends) j) ⌝ }
+    ensures { λ r. ⌜ r ≡ areaOf (contourOf (now (points .entry)) (now (ends .entry)) j) ⌝ }
+{
+    let a = area(contour(points, ends, j));
+    match a {
+        Measured::Area(d) => d,
+        Measured::Refused(_) => 0,
+    }
+}
+
+// The sum of the areas of the first j contours.
+fn sum_areas(points: &[i32], ends: &[u32], j: usize) -> i64
+    requires { ⌜ Summable (now points) (now ends) j ⌝ }
+    ensures { λ r. ⌜ r ≡ areasIn (now (points .entry)) (now (ends .entry)) j ⌝ }
+{
+    let mut sum: i64 = 0;
+    let mut i: usize = 0;
+    while i < j {
+        sum += contour_area(points, ends, i);
+        i += 1;
+    }
+    sum
+}
+
+// Cuts at height h, and writes the line of that layer.
+fn list_layer(
+    coords: &[i32],
+    corners: &[u32],
+    pairing: &[u32],
+    h: i32,
+    names: &mut [u32],
+    points: &mut [i32],
+    ends: &mut [u32],
+    marks: &mut [u32],
+    output: &mut [u8],
+    at: usize,
+) -> usize
+    requires { ⌜ Right (now coords) (now corners) (now pairing) ⌝ ∗ ⌜ Workable (length (now corners)) (length (now names)) (length (now points)) (length (now ends)) (length (now marks)) ⌝ ∗ ⌜ at + mostLine ≤ length (now output) ⌝ }
+    ensures { λ r. ⌜ PutsLine (now (output .entry)) at (lineOf (now (coords .entry)) (now (corners .entry)) h (contoursOf (section (now (coords .entry)) (now (corners .entry)) (now (pairing .entry)) h))) r (now (output .exit)) ⌝ }
+{
+    let s = slice(coords, corners, pairing, h, names, points, ends, marks);
+    match s {
+        Sliced::Layer(j, k) => {
+            let a = sum_areas(points, ends, j);
+            write_layer_line(output, at, h, j, k, a)
+        }
+        Sliced::Refused(_) => at,
+    }
+}
+
+// Writes a line for each height taken.
+fn list_lines(
+    coords: &[i32],
+    corners: &[u32],
+    pairing: &[u32],
+    heights: &[i32],
+    names: &mut [u32],
+    points: &mut [i32],
+    ends: &mut [u32],
+    marks: &mut [u32],
+    output: &mut [u8],
+    at: usize,
+) -> usize
+    requires { ⌜ Listable (now coords) (now corners) (now pairing) (now heights) ⌝ ∗ ⌜ Workable (length (now corners)) (length (now names)) (length (now points)) (length (now ends)) (length (now marks)) ⌝ ∗ ⌜ Begun (now output) at ⌝ }
+    ensures { λ r. ⌜ Puts (now (output .entry)) at (flatten (map (lineAt (now (coords .entry)) (now (corners .entry))) (heightsTaken (now (coords .entry)) (now (heights .entry))))) r (now (output .exit)) ⌝ }
+{
+    let n = taken_count(coords, heights);
+    let low = lowest_z(coords);
+    let mut p = at;
+    let mut k: usize = 0;
+    while k < n {
+        let h = taken_height(low, heights, k);
+        p = list_layer(
+            coords,
+            corners,
+            pairing,
+            h,
+            names,
+            points,
+            ends,
+            marks,
+            output,
+            p,
+        );
+        k += 1;
+    }
+    p
+}
+
+// Writes the listing of a mesh: the first line, and a line for each height taken.
+pub fn list_layers(
+    coords: &[i32],
+    corners: &[u32],
+    pairing: &[u32],
+    heights: &[i32],
+    names: &mut [u32],
+    points: &mut [i32],
+    ends: &mut [u32],
+    marks: &mut [u32],
+    output: &mut [u8],
+) -> usize
+    requires { ⌜ Listable (now coords) (now corners) (now pairing) (now heights) ⌝ ∗ ⌜ Workable (length (now corners)) (length (now names)) (length (now points)) (length (now ends)) (length (now marks)) ⌝ ∗ ⌜ mostOutput ≤ length (now output) ⌝ }
+    ensures { λ r. ⌜ Puts (now (output .entry)) 0 (listing (now (coords .entry)) (now (corners .entry)) (now (heights .entry))) r (now (output .exit)) ⌝ }
+{
+    let n = taken_count(coords, heights);
+    let p = write_layers_line(output, 0, n);
+    list_lines(
+        coords,
+        corners,
+        pairing,
+        heights,
+        names,
+        points,
+        ends,
+        marks,
+        output,
+        p,
+    )
+}

@@ -1,0 +1,4 @@
+-- Lemmas that belong to no one function.
+pub mod Parts
+pub mod Reading
+pub mod Lists

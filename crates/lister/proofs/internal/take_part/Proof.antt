@@ -1,0 +1,65 @@
+-- `internal::take_part` meets its contract.
+use native.Mathlib.Omega.{arith}
+use denote.Ref.{now}
+use borrow.Author.Needs.{needs}
+use Rattle.lister.proofs.Reading.{long-stop, read-counts, read-stop}
+use borrow.Author.Needs.{needs}
+use Rattle.lister.proofs.internal.take_part.Statement.{statement}
+use Rattle.lister.proofs.internal.take_part.Tie as tie
+
+returns : tie.Need-returns
+returns c = long-stop (now (c .before .before .before .args .input)) _ _ _ (c .if1 .taken)
+
+read-part-requires : tie.Need-read-part-requires
+read-part-requires c κs = search needs
+
+enum-known-a : tie.Need-enum-known-a
+enum-known-a c = search needs
+
+enum-known-a-2 : tie.Need-enum-known-a-2
+enum-known-a-2 c = search needs
+
+limited-requires : tie.Need-limited-requires
+limited-requires c κs = search needs
+
+same-length : tie.Need-same-length
+same-length c = search needs
+
+same-length-2 : tie.Need-same-length-2
+same-length-2 c = search needs
+
+same-length-3 : tie.Need-same-length-3
+same-length-3 c = search needs
+
+returns-2 : tie.Need-returns-2
+returns-2 c = read-counts (c .before .before .before .before .before .before .before .read-part .ensures) (λ i h. c .before .before .before .before .before .before .before .before .before .before .before .before .before .shared-slice-known .given i .fits) (omega (arith, c .before .before .before .before .before .before .before .before .before .before .before .if1 .left)) (c .before .a .given .1)
+
+same-length-4 : tie.Need-same-length-4
+same-length-4 c = search needs
+
+same-length-5 : tie.Need-same-length-5
+same-length-5 c = search needs
+
+same-length-6 : tie.Need-same-length-6
+same-length-6 c = search needs
+
+returns-3 : tie.Need-returns-3
+returns-3 c = read-stop (c .before .before .before .before .before .before .before .before .read-part .ensures) (λ i h. c .before .before .before .before .before .before .before .before .before .before .before .before .before .before .shared-slice-known .given i .fits) (omega (arith, c .before .before .before .before .before .before .before .before .before .before .before .before .if1 .left)) (c .before .before .before .before .before .before .before .before .before .before .before .before .before .before .before .pre .0) (c .before .before .before .before .before .before .before .before .before .before .before .before .before .before .before .pre .1) (c .before .before .before .before .before .before .before .before .before .before .before .before .before .before .before .pre .2) (c .before .before .a2 .given .1) (c .limited .ensures)
+
+pub take-part-spec : {M : Type 1} → statement M
+take-part-spec =
+    tie.close
+    (tie.spec
+    returns
+    read-part-requires
+    enum-known-a
+    enum-known-a-2
+    limited-requires
+    same-length
+    same-length-2
+    same-length-3
+    returns-2
+    same-length-4
+    same-length-5
+    same-length-6
+    returns-3)

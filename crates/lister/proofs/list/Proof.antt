@@ -1,0 +1,64 @@
+-- `list` meets its contract.
+use native.Mathlib.Omega.{arith}
+use borrow.Author.Needs.{needs}
+use Rattle.lister.proofs.Lists.{too-short, written}
+use borrow.Author.Needs.{needs}
+use Rattle.lister.proofs.list.Statement.{statement}
+use Rattle.lister.proofs.list.Tie as tie
+
+returns : tie.Need-returns
+returns c = too-short (c .if1 .taken)
+
+slice-aggregate-list-with : tie.Need-slice-aggregate-list-with
+slice-aggregate-list-with c = search needs
+
+slice-aggregate-list-with-2 : tie.Need-slice-aggregate-list-with-2
+slice-aggregate-list-with-2 c = search needs
+
+slice-aggregate-list-with-3 : tie.Need-slice-aggregate-list-with-3
+slice-aggregate-list-with-3 c = search needs
+
+slice-aggregate-list-with-4 : tie.Need-slice-aggregate-list-with-4
+slice-aggregate-list-with-4 c = search needs
+
+slice-aggregate-list-with-5 : tie.Need-slice-aggregate-list-with-5
+slice-aggregate-list-with-5 c = search needs
+
+slice-aggregate-list-with-6 : tie.Need-slice-aggregate-list-with-6
+slice-aggregate-list-with-6 c = search needs
+
+slice-aggregate-list-with-7 : tie.Need-slice-aggregate-list-with-7
+slice-aggregate-list-with-7 c = search needs
+
+slice-aggregate-list-with-8 : tie.Need-slice-aggregate-list-with-8
+slice-aggregate-list-with-8 c = search needs
+
+slice-aggregate-list-with-9 : tie.Need-slice-aggregate-list-with-9
+slice-aggregate-list-with-9 c = search needs
+
+list-with-requires : tie.Need-list-with-requires
+list-with-requires c κs = search needs
+
+same-length : tie.Need-same-length
+same-length c = search needs
+
+returns-2 : tie.Need-returns-2
+returns-2 c = written (omega (arith, c .before .before .before .before .before .before .before .before .before .before .before .before .before .before .before .before .before .before .before .before .before .before .if1 .left)) (c .before .before .before .before .before .before .before .before .before .before .before .list-with .ensures)
+
+pub list-spec : {M : Type 1} → statement M
+list-spec =
+    tie.close
+    (tie.spec
+    returns
+    slice-aggregate-list-with
+    slice-aggregate-list-with-2
+    slice-aggregate-list-with-3
+    slice-aggregate-list-with-4
+    slice-aggregate-list-with-5
+    slice-aggregate-list-with-6
+    slice-aggregate-list-with-7
+    slice-aggregate-list-with-8
+    slice-aggregate-list-with-9
+    list-with-requires
+    same-length
+    returns-2)

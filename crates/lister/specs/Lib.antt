@@ -1,0 +1,5 @@
+-- The listing program: its limits, refusals, lines and output.
+pub mod Listing
+pub mod Steps
+pub mod ListingLaws
+pub mod Worked

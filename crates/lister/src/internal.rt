@@ -1,0 +1,172 @@
+// Internal: the refusals of an input and its part, and the program with its tables lent.
+ghost use mathlib.Core.Path.{_≡_};
+ghost use Prim.Native.Nat.{_≤_};
+ghost use lib.ListN.{length};
+ghost use Rattle.mesh.specs.Refusals.{verdict};
+ghost use Rattle.decimals.specs.Texts.{Puts};
+ghost use Rattle.lines.specs.Lines.{listing};
+ghost use Rattle.lister.specs.Listing.{answer, listed};
+ghost use Rattle.lines.specs.Limits.{mostOutput, entries};
+ghost use Rattle.lister.specs.Listing.{beyond as Listing·beyond};
+ghost use Rattle.lister.specs.Steps.{partWith, partRefusals, Tabled, PartTested, Takes};
+ghost use Rattle.lister.specs.Steps.{limited as Steps·limited};
+use answers::number;
+use checker::Checked;
+use checker::check;
+use heights::heights_test;
+use heights::taken_count;
+use lines::internal::list_layers;
+use lines::internal::write_refusal;
+use mesh::Refusal;
+use mesh::Verdict;
+use parts::Parted;
+use parts::read_part;
+
+// What the program holds.
+const MOST_INPUT: usize = 8192;
+
+const HELD_VERTICES: usize = 128;
+
+const HELD_TRIANGLES: usize = 256;
+
+const HELD_HEIGHTS: usize = 256;
+
+// What reading a part answers: how many vertices, triangles and heights are in the tables, or a refusal.
+pub enum Taken {
+    Counts(usize, usize, usize),
+    Refused(Refusal),
+}
+
+// Whether a part is beyond what the program holds.
+fn beyond(coords: &[i32], corners: &[u32], heights: &[i32]) -> bool
+    ensures { λ r. ⌜ r ≡ Listing·beyond (partWith (now (coords .entry)) (now (corners .entry)) (now (heights .entry))) ⌝ }
+{
+    if HELD_VERTICES < coords.len() / 3 {
+        return true;
+    }
+    if HELD_TRIANGLES < corners.len() / 3 {
+        return true;
+    }
+    HELD_HEIGHTS < taken_count(coords, heights)
+}
+
+// The refusals of a part: the limits, the check, and 12. Where there is none the pairing is made.
+fn part_test(
+    coords: &[i32],
+    corners: &[u32],
+    heights: &[i32],
+    pairing: &mut [u32],
+    order: &mut [u32],
+) -> Verdict
+    requires { ⌜ (length (now pairing) ≡ entries) × (length (now order) ≡ entries) ⌝ }
+    ensures { λ r. ⌜ PartTested (partWith (now (coords .entry)) (now (corners .entry)) (now (heights .entry))) (now (pairing .entry)) r (now (pairing .exit)) ⌝ }
+{
+    if beyond(coords, corners, heights) {
+        return Verdict::Refused(Refusal::Size(0));
+    }
+    let a = check(coords, corners, pairing, order);
+    match a {
+        Checked::Accepted => heights_test(heights),
+        Checked::Refused(r) => Verdict::Refused(r),
+    }
+}
+
+// Writes the listing of a part, or its refusal.
+fn list_part(
+    coords: &[i32],
+    corners: &[u32],
+    heights: &[i32],
+    pairing: &mut [u32],
+    order: &mut [u32],
+    names: &mut [u32],
+    points: &mut [i32],
+    ends: &mut [u32],
+    marks: &mut [u32],
+    output: &mut [u8],
+) -> usize
+    requires { ⌜ Tabled (length (now pairing)) (length (now order)) (length (now names)) (length (now points)) (length (now ends)) (length (now marks)) ⌝ ∗ ⌜ mostOutput ≤ length (now output) ⌝ }
+    ensures { λ r. ⌜ Puts (now (output .entry)) 0 (answer (verdict (partRefusals (partWith (now (coords .entry)) (now (corners .entry)) (now (heights .entry))))) (partWith (now (coords .entry)) (now (corners .entry)) (now (heights .entry)))) r (now (output .exit)) ⌝ }
+{
+    let v = part_test(coords, corners, heights, pairing, order);
+    match v {
+        Verdict::Fine => {
+            let n = corners.len();
+            list_layers(
+                coords,
+                corners,
+                &pairing[..n],
+                heights,
+                names,
+                points,
+                ends,
+                marks,
+                output,
+            )
+        }
+        Verdict::Refused(r) => write_refusal(output, r),
+    }
+}
+
+// The refusal of a part that Read part refuses.
+fn limited(r: Refusal) -> Refusal
+    ensures { λ q. ⌜ q ≡ Steps·limited r ⌝ }
+{
+    if number(r) == 9 {
+        return Refusal::Size(0);
+    }
+    r
+}
+
+// Reads a part into the front of three tables.
+fn take_part(input: &[u8], coords: &mut [i32], corners: &mut [u32], heights: &mut [i32]) -> Taken
+    requires { ⌜ (length (now coords) ≡ entries) × (length (now corners) ≡ entries) × (length (now heights) ≡ entries) ⌝ }
+    ensures { λ r. ⌜ Takes (now (input .entry)) r (now (coords .exit)) (now (corners .exit)) (now (heights .exit)) ⌝ }
+{
+    if MOST_INPUT < input.len() {
+        return Taken::Refused(Refusal::Size(0));
+    }
+    let a = read_part(input, coords, corners, heights);
+    match a {
+        Parted::Counts(v, t, k) => Taken::Counts(v, t, k),
+        Parted::Refused(r) => Taken::Refused(limited(r)),
+    }
+}
+
+// Writes what the program writes for an input, with tables of so many entries.
+pub fn list_with(
+    input: &[u8],
+    coords: &mut [i32],
+    corners: &mut [u32],
+    heights: &mut [i32],
+    pairing: &mut [u32],
+    order: &mut [u32],
+    names: &mut [u32],
+    points: &mut [i32],
+    ends: &mut [u32],
+    marks: &mut [u32],
+    output: &mut [u8],
+) -> usize
+    requires { ⌜ (length (now coords) ≡ entries) × (length (now corners) ≡ entries) × (length (now heights) ≡ entries) ⌝ ∗ ⌜ Tabled (length (now pairing)) (length (now order)) (length (now names)) (length (now points)) (length (now ends)) (length (now marks)) ⌝ ∗ ⌜ mostOutput ≤ length (now output) ⌝ }
+    ensures { λ r. ⌜ Puts (now (output .entry)) 0 (listed (now (input .entry))) r (now (output .exit)) ⌝ }
+{
+    let a = take_part(input, coords, corners, heights);
+    match a {
+        Taken::Counts(v, t, k) => {
+            let n = 3 * v;
+            let m = 3 * t;
+            list_part(
+                &coords[..n],
+                &corners[..m],
+                &heights[..k],
+                pairing,
+                order,
+                names,
+                points,
+                ends,
+                marks,
+                output,
+            )
+        }
+        Taken::Refused(r) => write_refusal(output, r),
+    }
+}

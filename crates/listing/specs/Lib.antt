@@ -1,0 +1,2 @@
+-- What the reading of an input answers.
+pub mod Inputs
