@@ -23,16 +23,28 @@
  *   out[0]. Success writes the function's values, if it has any, into the first
  *   entries, a signed one as two's complement. The other entries are left
  *   alone.
+ * - A refusal leaves every table as before, but for these, which leave zeros in
+ *   the entries that the function asks for: WADROLES_DOUBLED and WADROLES_OPEN
+ *   in pairing and order, WADROLES_OUTPUT in the work tables, and
+ *   WADROLES_USED, which never arises. Each function says which refusals it
+ *   has, in which sequence it tests them, and where the place is.
  * - A table is a pointer and, right after it, a length in elements (not bytes).
  *   The pointer of an empty table may be null.
- * - It keeps no state between calls. Several threads may call at the same time
- *   if none writes a table that another one uses.
+ * - It keeps no state between calls and allocates nothing. Several threads may
+ *   call at the same time if none writes a table that another one uses.
+ * - It ends, and touches nothing outside the tables, whatever they hold.
  *
  * What the caller owes, and no function can test:
  *
- * - Each table really has the length given, and is aligned for its elements.
+ * - Each table really has the length given, and is aligned for its elements;
+ *   so is `out`, which is never null.
  * - A table that the function writes (one whose pointer is not const), and
  *   `out`, overlap no other table.
+ * - Until the function returns no other thread writes a table, or reads one
+ *   that the function writes.
+ *
+ * docs/INTEGRATING.md has the memory to reserve, the costs, what is proved and
+ * what is not. examples/c/sweep.c goes from a part file to its layer file.
  */
 #ifndef WADROLES_H
 #define WADROLES_H
@@ -54,13 +66,16 @@ extern "C" {
 /* The most points that wadroles_area takes, and that a layer of a file has. */
 #define WADROLES_MAX_POINTS 98304
 
-/* The most layers that a layer file has. */
+/* The most layers that a layer file has, and heights that wadroles_all_layers
+ * takes. */
 #define WADROLES_MAX_LAYERS 4096
 
 /* An entry of a ring table whose corner is no crossing. */
 #define WADROLES_NO_CORNER 4294967295u
 
-/* The refusals, by number. */
+/* The refusals, by number. The place is a position in a table, a corner or a
+ * byte of a file, or 0 where the call as a whole is meant; each function says
+ * which. */
 enum wadroles_refusal {
     /* A length not a multiple of three (points: two), or a count too big. */
     WADROLES_SIZE = 1,
@@ -92,7 +107,9 @@ enum wadroles_refusal {
     WADROLES_OUTPUT = 14,
     /* No layer of that number. */
     WADROLES_LAYER = 15,
-    /* A walk meeting a crossing already used that is not its start. */
+    /* A walk meeting a crossing already used that is not its start. This never
+     * arises: the pairing is tested before, and with a right one no walk does
+     * so. */
     WADROLES_USED = 16
 };
 
@@ -369,7 +386,9 @@ uint32_t wadroles_layer(const int32_t *coords, size_t coords_len,
  *   heights  at most WADROLES_MAX_LAYERS, strictly rising. With heights_len 0
  *            the heights are the lowest z + 50 and every 100 after it, those
  *            that are not above the highest z; without vertices there are none
- *   output   the file, from its first byte on; later bytes stay
+ *   output   the file, from its first byte on; later bytes stay. With n layers
+ *            and k points in all it has at most 2 + 8 n + 8 k + k / 2 bytes; a
+ *            layer has at most one point for each triangle
  *
  * names, points, ends, marks and ring are work tables: what they hold before
  * does not matter. On success they are zero, in the first corners_len entries,

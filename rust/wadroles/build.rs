@@ -1,7 +1,8 @@
 //! Links the proved library, `libwadroles.a`.
 //!
 //! The archive is taken from `target/staticlib` at the root of the repository, or from the
-//! directory that the environment variable `WADROLES_LIB_DIR` names by its absolute path.
+//! directory that the environment variable `WADROLES_LIB_DIR` names by its absolute path. The tests
+//! find it by `env!("WADROLES_ARCHIVE")`, to link it to the C example.
 
 use std::env;
 use std::path::{Path, PathBuf};
@@ -25,6 +26,7 @@ fn main() {
     }
     println!("cargo::rustc-link-search=native={}", directory.display());
     println!("cargo::rustc-link-lib=static=wadroles");
+    println!("cargo::rustc-env=WADROLES_ARCHIVE={}", archive.display());
 }
 
 fn archive_directory() -> PathBuf {

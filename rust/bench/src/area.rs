@@ -12,7 +12,7 @@ pub fn run() {
     let heading = format!("area, {TIMES_OVER} times over");
     let kinds = vec![Kind {
         name: "long contour",
-        sizes: [MAX_POINTS / 2, MAX_POINTS].map(Contour::new),
+        sizes: [MAX_POINTS / 4, MAX_POINTS / 2, MAX_POINTS].map(Contour::new),
     }];
     compare(&heading, "points", kinds);
 }

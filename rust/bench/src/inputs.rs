@@ -4,9 +4,9 @@ use crate::versions::Kind;
 use meshes::shapes::{bipyramid, torus};
 use meshes::{Mesh, Random};
 
-/// Meshes of 32,768 and of 65,536 triangles, or nearly so.
+/// Meshes of 16,384, 32,768 and 65,536 triangles, or nearly so.
 pub fn kinds<S>(subject: fn(Mesh) -> S) -> Vec<Kind<S>> {
-    let cones = [16_383, 32_766].map(|n| bipyramid(n, 1_000_000, 1_000_000));
+    let cones = [8_192, 16_383, 32_766].map(|n| bipyramid(n, 1_000_000, 1_000_000));
     let mut kinds = torus_kinds(subject);
     kinds.extend([
         Kind {
@@ -21,7 +21,7 @@ pub fn kinds<S>(subject: fn(Mesh) -> S) -> Vec<Kind<S>> {
     kinds
 }
 
-/// Tori of 32,768 and of 65,536 triangles.
+/// Tori of 16,384, 32,768 and 65,536 triangles.
 pub fn torus_kinds<S>(subject: fn(Mesh) -> S) -> Vec<Kind<S>> {
     vec![
         Kind {
@@ -35,8 +35,8 @@ pub fn torus_kinds<S>(subject: fn(Mesh) -> S) -> Vec<Kind<S>> {
     ]
 }
 
-pub fn tori() -> [Mesh; 2] {
-    [128, 256].map(|q| torus(128, q, 700_000, 300_000))
+pub fn tori() -> [Mesh; 3] {
+    [64, 128, 256].map(|q| torus(128, q, 700_000, 300_000))
 }
 
 /// So many heights at equal distances, from next to the bottom to next to the top.

@@ -14,11 +14,11 @@ pub fn run() {
     let kinds = vec![
         Kind {
             name: "sections of a torus",
-            sizes: [600, 1200].map(|count| LayerFile::new(&sections(count))),
+            sizes: [300, 600, 1200].map(|count| LayerFile::new(&sections(count))),
         },
         Kind {
             name: "random points",
-            sizes: [200, 400].map(|count| LayerFile::new(&random_layers(count))),
+            sizes: [100, 200, 400].map(|count| LayerFile::new(&random_layers(count))),
         },
     ];
     compare("read layer, a middle one and the last", "bytes", kinds);

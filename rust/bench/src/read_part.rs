@@ -12,7 +12,7 @@ const JUNK: u32 = 0xDEAD_BEEF;
 
 /// Times Read part.
 pub fn run() {
-    let tori = [200, 400].map(|q| torus(256, q, 700_000, 300_000));
+    let tori = [100, 200, 400].map(|q| torus(256, q, 700_000, 300_000));
     let shuffled = tori.clone().map(|mut mesh| {
         mesh.shuffle(&mut Random::new(1));
         mesh

@@ -33,12 +33,12 @@ pub trait Subject {
     fn outcome(&mut self, version: Version, call: usize) -> Self::Outcome;
 }
 
-/// A kind of input in two sizes, the second twice as large.
+/// A kind of input in three sizes, each twice as large as the one before.
 pub struct Kind<S> {
     /// What it is called.
     pub name: &'static str,
     /// The inputs.
-    pub sizes: [S; 2],
+    pub sizes: [S; 3],
 }
 
 /// An input with the times taken on it, by version, call and run.
@@ -123,10 +123,12 @@ fn print_table<S: Subject>(unit: &str, kinds: &[Kind<Timed<S>>]) {
         "unproved growth",
     ]);
     for Kind { name, sizes } in kinds {
-        let [half, full] = sizes.each_ref().map(Timed::milliseconds);
-        let growth = |version: usize| format!("{:.2}", full[version] / half[version]);
         print_subject(name, &sizes[0], ["-".into(), "-".into()]);
-        print_subject(name, &sizes[1], [growth(0), growth(1)]);
+        for pair in sizes.windows(2) {
+            let [half, full] = [&pair[0], &pair[1]].map(Timed::milliseconds);
+            let growth = |version: usize| format!("{:.2}", full[version] / half[version]);
+            print_subject(name, &pair[1], [growth(0), growth(1)]);
+        }
     }
     println!();
 }

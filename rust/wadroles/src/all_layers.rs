@@ -15,6 +15,10 @@ use crate::{LayerTables, MeshTables, Refusal};
 /// `tables` and `ring` are work tables. They, and `output`, cannot overlap, which the library asks
 /// of its callers: all are borrowed exclusively.
 ///
+/// A file of `n` layers with `k` points in all has at most `2 + 8 * n + 8 * k + k / 2` bytes, and a
+/// layer has at most one point for each triangle. An output that is too short is left as it was, so
+/// a caller may also try again with a longer one.
+///
 /// # Errors
 ///
 /// The sweep is refused for the first of these reasons that applies, at the least place that fits:

@@ -2,8 +2,37 @@ use crate::answer::answer;
 use crate::raw::wadroles_cut;
 use crate::Refusal;
 
-/// The tables that a caller lends for a layer. Those that are written cannot overlap, which the
-/// library asks of its callers: they are borrowed exclusively.
+/// The tables that a caller lends for a layer. They cannot overlap, which the library asks of its
+/// callers: they are borrowed exclusively.
+///
+/// A call takes them for as long as it runs; make them anew from the same tables for the next.
+///
+/// ```
+/// use wadroles::LayerTables;
+///
+/// let corners = 12;
+/// let (mut names, mut ends, mut marks) = (vec![0; corners], vec![0; corners], vec![0; corners]);
+/// let mut points = vec![0; 2 * corners];
+/// let tables = LayerTables {
+///     names: &mut names,
+///     points: &mut points,
+///     ends: &mut ends,
+///     marks: &mut marks,
+/// };
+/// ```
+///
+/// Two of them in one table are not compiled:
+///
+/// ```compile_fail,E0499
+/// # use wadroles::LayerTables;
+/// # let (mut names, mut points, mut ends) = ([0; 12], [0; 24], [0; 12]);
+/// let tables = LayerTables {
+///     names: &mut names,
+///     points: &mut points,
+///     ends: &mut ends,
+///     marks: &mut ends,
+/// };
+/// ```
 #[derive(Debug)]
 pub struct LayerTables<'a> {
     /// The corners of the contours, one for each point. Needs one entry per corner of the mesh.

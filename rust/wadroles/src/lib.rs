@@ -15,8 +15,74 @@
 //! over many heights and writes their layer file. [`read_layer()`] takes a layer out of a layer
 //! file, and [`read_part()`] a mesh and heights out of a part file.
 //!
-//! The operations work on tables that the caller lends them. Each answers with its values or with
-//! a [`Refusal`]. They keep no state between calls, so several threads may call them at once.
+//! # Example
+//!
+//! From a mesh to its layer file, and a layer back out of it:
+//!
+//! ```
+//! use wadroles::{all_layers, area, check, contour, read_layer, LayerTables, MeshTables, Refusal};
+//!
+//! let coords = [0, 0, 0, 10, 0, 0, 0, 10, 0, 0, 0, 10];
+//! let corners = [0, 2, 1, 0, 1, 3, 0, 3, 2, 1, 2, 3];
+//! let (mut pairing, mut order) = ([0; 12], [0; 4]);
+//! check(&coords, &corners, &mut pairing, &mut order)?;
+//!
+//! let mesh = MeshTables { coords: &coords, corners: &corners, pairing: &pairing, order: &order };
+//! let (mut names, mut points, mut ends, mut marks) = ([0; 12], [0; 24], [0; 12], [0; 12]);
+//! let tables = LayerTables {
+//!     names: &mut names,
+//!     points: &mut points,
+//!     ends: &mut ends,
+//!     marks: &mut marks,
+//! };
+//! let (mut ring, mut file) = ([0; 12], [0; 100]);
+//! let length = all_layers(mesh, &[0, 5, 10, 11], tables, &mut ring, &mut file)?;
+//!
+//! let layer = read_layer(&file[..length], 1, &mut points, &mut ends)?;
+//! assert_eq!((layer.height, layer.contours, layer.points), (5, 1, 3));
+//! let first = contour(&points, &ends[..layer.contours], 0);
+//! assert_eq!(first, [5, 0, 0, 5, 0, 0]);
+//! assert_eq!(area(first), Ok(25));
+//! # Ok::<(), Refusal>(())
+//! ```
+//!
+//! The program `examples/part.rs` does the same for a part file, with a sweep beside it.
+//!
+//! # Tables and refusals
+//!
+//! The operations work on tables that the caller lends them, and allocate nothing. Each answers with
+//! its values or with a [`Refusal`]: they test all that they are handed, so no input makes them
+//! panic, read or write outside a table, or run on. Under "Errors" each says what it tests, in which
+//! sequence, and what a refusal leaves in the tables. They keep no state between calls, so several
+//! threads may call them at once.
+//!
+//! Four things no operation of the library can test, and a caller in C has to see to them. Here the
+//! types do:
+//!
+//! - A table has the length given with it: pointer and length are those of a slice.
+//! - It is aligned for its elements: so is a slice.
+//! - A table that is written overlaps no other: it is borrowed exclusively, so a program in which
+//!   one does is not compiled.
+//! - Nobody else writes a table meanwhile: not while it is borrowed.
+//!
+//! ```compile_fail,E0499
+//! # let (coords, corners) = ([0; 12], [0; 12]);
+//! // Pairing and order in one table.
+//! let mut both = [0; 16];
+//! wadroles::check(&coords, &corners, &mut both, &mut both[12..]);
+//! ```
+//!
+//! ```compile_fail,E0502
+//! # use wadroles::{contour, read_layer};
+//! # let (file, mut points, mut ends) = ([0x00], [0; 24], [0; 12]);
+//! // A contour, used after its points were overwritten.
+//! let first = contour(&points, &ends[..1], 0);
+//! read_layer(&file, 1, &mut points, &mut ends);
+//! println!("{first:?}");
+//! ```
+//!
+//! Lengths may be any: a table that is too short is [`Refusal::ROOM`] where it is to be filled, and
+//! [`Refusal::PAIRING`], [`Refusal::ORDER`] or [`Refusal::RING`] where it is read.
 //!
 //! # Linking
 //!

@@ -7,7 +7,7 @@
 //!
 //! All of them ask the same of their caller. Each table must have the length given after it, in
 //! elements, and be aligned for them; an empty one may be null. No written table may overlap
-//! another one. `out` has 4 entries.
+//! another one, or be used by another thread meanwhile. `out` has 4 entries and overlaps no table.
 
 extern "C" {
     /// Tests a mesh and writes its pairing and order, as [`crate::check()`] does.

@@ -2,46 +2,79 @@ use std::error::Error;
 use std::fmt;
 
 /// Why and where an operation refused its input.
+///
+/// Each operation says under "Errors" which reasons it tests and in which sequence; the first that
+/// applies is the refusal. It has changed nothing then, with these exceptions:
+///
+/// - after [`DOUBLED`](Refusal::DOUBLED) and [`OPEN`](Refusal::OPEN), [`check`](crate::check()) has
+///   zeroed the entries of pairing and order that success would fill;
+/// - after [`OUTPUT`](Refusal::OUTPUT), [`all_layers`](crate::all_layers()) has zeroed its work
+///   tables as far as it asks for them;
+/// - after [`USED`](Refusal::USED), which never arises, the tables of the layer would be zero as far
+///   as they are asked for, and so would the work tables of [`all_layers`](crate::all_layers()).
+///
+/// # Example
+///
+/// ```
+/// use wadroles::{area, Refusal};
+///
+/// match area(&[5, 0, 0, 5, 0, 2_000_000]) {
+///     Ok(doubled) => println!("doubled area {doubled}"),
+///     Err(Refusal { number: Refusal::RANGE, place }) => assert_eq!(place, 5),
+///     Err(refusal) => panic!("{refusal}"),
+/// }
+/// ```
 #[derive(Clone, Copy, Debug, PartialEq, Eq, Hash)]
 pub struct Refusal {
     /// The reason, as numbered by document 01: one of the constants below.
     pub number: u32,
-    /// The least place that the reason fits.
+    /// The least place that the reason fits: a position in a table, a corner, or a byte of a file.
+    /// It is 0 where the reason is about the call as a whole.
     pub place: u64,
 }
 
 impl Refusal {
-    /// A table length not a multiple of three (of two for points) or a count above its limit.
+    /// A table length not a multiple of three (of two for points), or a count above its limit:
+    /// vertices, triangles, points of [`area`](crate::area()), or heights of
+    /// [`all_layers`](crate::all_layers()), default ones counted. Place 0.
     pub const SIZE: u32 = 1;
-    /// A coordinate out of range.
+    /// A coordinate out of range. The place is its position in the table.
     pub const RANGE: u32 = 2;
-    /// A corner naming no vertex.
+    /// A corner naming no vertex. The place is the corner.
     pub const VERTEX: u32 = 3;
-    /// A triangle naming a vertex twice.
+    /// A triangle naming a vertex twice. The place is its first corner.
     pub const TRIANGLE: u32 = 4;
-    /// A corner whose directed edge occurs at another corner too.
+    /// A corner whose directed edge occurs at another corner too: more than two triangles meet at the
+    /// edge, or one of two is turned inside out. The place is the corner.
     pub const DOUBLED: u32 = 5;
-    /// A corner whose reverse edge occurs nowhere.
+    /// A corner whose reverse edge occurs nowhere: the mesh has a hole there. The place is the corner.
     pub const OPEN: u32 = 6;
-    /// A corner whose pairing entry is missing or wrong.
+    /// A corner whose pairing entry is missing, is no corner, lacks the reverse edge or is not paired
+    /// back. The place is the corner. [`check`](crate::check()) makes a right pairing.
     pub const PAIRING: u32 = 7;
-    /// A position where the order table is missing an entry or wrong.
+    /// A position where the order table is missing an entry or wrong. [`check`](crate::check()) makes
+    /// a right order.
     pub const ORDER: u32 = 8;
-    /// A table to be written is too short.
+    /// A table to be written is too short. Place 0.
     pub const ROOM: u32 = 9;
-    /// More passed than vertices.
+    /// More passed than vertices. Place 0. The state is of another mesh.
     pub const PASSED: u32 = 10;
-    /// A corner whose ring entry is missing or wrong.
+    /// A corner whose ring entry is missing or not as defined for the passed count. The place is the
+    /// corner. State and ring table do not belong together, or somebody wrote the table: start anew.
     pub const RING: u32 = 11;
-    /// A height too low for the passed vertices, or not above the height before it.
+    /// A passed vertex lies at or above the height of [`layer`](crate::layer()), place 0: the plane
+    /// is too high already, start anew. Or a height of [`all_layers`](crate::all_layers()) is not
+    /// above its forerunner; then the place is its position.
     pub const HEIGHT: u32 = 12;
-    /// A file with a wrong value or with bytes left over.
+    /// A file with a value that is cut short, too long, over 32 bits or breaks a rule, or with a byte
+    /// left over. The place is the first byte of that value, or left over.
     pub const FILE: u32 = 13;
-    /// Output shorter than the file.
+    /// Output shorter than the file. Place 0.
     pub const OUTPUT: u32 = 14;
-    /// No layer of that number.
+    /// No layer of that number. Place 0.
     pub const LAYER: u32 = 15;
-    /// A walk meeting a crossing already used that is not its start.
+    /// A walk meeting a crossing already used that is not its start. The place is that crossing. It
+    /// never arises: the pairing has been tested before, and with a right one no walk does.
     pub const USED: u32 = 16;
 
     /// The reason in the words of document 01.

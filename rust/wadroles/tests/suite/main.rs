@@ -6,9 +6,11 @@
 
 mod all_layers;
 mod area;
+mod chains;
 mod check;
 mod contour;
 mod cut;
+mod examples;
 mod header;
 mod lent;
 mod pointers;

@@ -5,7 +5,9 @@ use std::io::{self, Write};
 use std::thread;
 
 const DEFAULT_SEED: u64 = 20_250_101;
-const DEFAULT_ROUNDS: u64 = 250_000;
+
+/// The rounds of the gate. A test that counts what it meets can ask for that only of so many.
+pub const DEFAULT_ROUNDS: u64 = 250_000;
 
 /// The seed and the number of rounds of a random test.
 #[derive(Clone, Copy)]

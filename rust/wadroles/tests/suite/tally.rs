@@ -12,6 +12,13 @@ impl Tally {
         *self.counts.entry(number).or_default() += 1;
     }
 
+    /// Adds the counts of another tally.
+    pub fn add_all(&mut self, other: &Tally) {
+        for (&number, count) in &other.counts {
+            *self.counts.entry(number).or_default() += count;
+        }
+    }
+
     pub fn count(&self, number: u32) -> u64 {
         self.counts.get(&number).copied().unwrap_or(0)
     }

@@ -1,4 +1,5 @@
-mod compare;
+mod bound;
+pub mod compare;
 mod faults;
 mod heights;
 mod limits;

@@ -1,6 +1,6 @@
 mod apart;
 mod areas;
-mod compare;
+pub mod compare;
 mod every_small;
 mod faults;
 mod layer;

@@ -1,4 +1,4 @@
-mod compare;
+pub mod compare;
 mod every_small;
 mod faults;
 mod forms;

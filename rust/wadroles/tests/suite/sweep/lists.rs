@@ -212,7 +212,7 @@ impl List {
 }
 
 /// Does something to a case that mostly makes it wrong.
-fn spoil(case: &mut Case, random: &mut Random) {
+pub fn spoil(case: &mut Case, random: &mut Random) {
     let Given {
         mesh,
         pairing,

@@ -1,4 +1,4 @@
-mod compare;
+pub mod compare;
 mod faults;
 mod limits;
 mod lists;
@@ -6,3 +6,5 @@ mod promises;
 mod raw;
 mod refusals;
 mod worked;
+
+pub use lists::spoil;

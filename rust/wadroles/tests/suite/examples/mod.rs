@@ -1,0 +1,6 @@
+//! The examples that makers may copy: built, run, and held to what document 01 says of part P.
+
+mod c;
+mod part_file;
+mod programs;
+mod rust;
