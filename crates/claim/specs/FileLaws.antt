@@ -3,21 +3,18 @@ use Prim.Native.Nat.{ℕ}
 use mathlib.Core.Path.{_≡_, refl, sym, ap, _∙_, subst}
 use mathlib.Core.Bool.{true, not}
 use mathlib.Core.List.{List, [], _∷_, map}
-use native.Mathlib.Omega.{arith}
-use borrow.Author.Tests.{not-false}
 use lib.ListN.{length, take, drop}
 use lib.Seq.{take-at, drop-at}
 use lib.IntN.{ℤ}
 use Rattle.laws.specs.Tables.{overwrite}
 use Rattle.mesh.specs.Refusals.{verdict}
-use Rattle.mesh.specs.RefusalLaws.{None, more, done, none-fine, fine-none, join-next, join-fine}
+use Rattle.mesh.specs.RefusalLaws.{None, more, done, none-fine, join-next}
 use Rattle.mesh.specs.declared.Verdict.{Verdict}
 use Rattle.mesh.specs.declared.Verdict.the-variants.{Fine}
 use Rattle.section.specs.Section.{Right}
 use Rattle.cutter.specs.Cut.{roomFor, tests, used, section, contoursOf, refusals, answer, Leaves}
 use Rattle.cutter.specs.CutLaws.{layer-fine}
-use Rattle.cutter.specs.Outlines.{Long}
-use Rattle.cutter.specs.OutlineLaws.{room-long, section-fine}
+use Rattle.cutter.specs.OutlineLaws.{section-fine}
 use Rattle.cutter.specs.declared.Sliced.the-variants.{Layer as Cut}
 use Rattle.writer.specs.Written.{layerOf}
 use Rattle.sweep.specs.RiseLaws.{rise-is-cut}
@@ -42,20 +39,12 @@ module _ (coords : List ℤ) (corners pairing order : List ℕ) (heights : List 
           (sym (none-fine (tests coords corners pairing names points ends marks) (more s (more (λ i l. ap not room) (more r (more x (more t (more p done)))))))) refl
           (sym (section-fine coords corners pairing h right)))
 
-  -- an unrefused Cut has had room
-  cut-long : (names points ends marks : ℕ) → verdict (refusals coords corners pairing h names points ends marks) ≡ Fine → Long (length corners) names points ends marks
-  cut-long names points ends marks f =
-      go (fine-none (tests coords corners pairing names points ends marks) (join-fine (tests coords corners pairing names points ends marks) (used (length corners) (section coords corners pairing h) ∷ []) f))
-    where
-      go : None (tests coords corners pairing names points ends marks) → Long (length corners) names points ends marks
-      go (more s (more u rest)) = room-long (length corners) names points ends marks (not-false _ (u 0 (omega arith)))
-
   -- its tables hold the layer
   cut-holds : (t t′ : Lent) (j k : ℕ) → CutOf coords corners pairing h t (Cut j k) t′ → layerOf h (t′ .points) (t′ .ends) j ≡ layerAt coords corners pairing h
   cut-holds t t′ j k x =
       let f = layer-fine _ _ (x .answers) in
       let same = f ∙ sym (section-fine coords corners pairing h right) in
-      traced-holds coords corners pairing right h (cut-long (length (t .names)) (length (t .points)) (length (t .ends)) (length (t .marks)) f)
+      traced-holds coords corners pairing right h
       (record {
         answers = x .answers ∙ ap (λ (v : Verdict). answer v (contoursOf (section coords corners pairing h))) same;
         leaves = subst (λ (v : Verdict). Leaves v (contoursOf (section coords corners pairing h)) coords corners h (t .names) (t .points) (t .ends) (t .marks) (t′ .names) (t′ .points) (t′ .ends) (t′ .marks)) same (x .leaves);

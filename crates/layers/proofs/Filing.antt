@@ -24,11 +24,11 @@ use Rattle.section.specs.Section.{Right}
 use Rattle.section.specs.RightLaws.{right-of}
 use Rattle.cutter.specs.Cut.{room}
 use Rattle.cutter.specs.Outlines.{Long}
-use Rattle.cutter.specs.OutlineLaws.{room-long, section-fine}
+use Rattle.cutter.specs.OutlineLaws.{room-long}
 use Rattle.formats.specs.LayerFile.{mostLayers}
 use Rattle.sweep.specs.Operations.{ringRoom}
 use Rattle.heights.specs.Heights.{lowestZ, heightsTaken, tooManyHeights, fallingHeight}
-use Rattle.heights.specs.HeightLaws.{falling-taken}
+use Rattle.heights.specs.HeightLaws.{Rising, falling-taken, nowhere-rising}
 use Rattle.heights.specs.Taking.{Takable}
 use Rattle.heights.specs.TakingLaws.{takable}
 use Rattle.layers.specs.declared.Filed.{Filed}
@@ -36,6 +36,7 @@ use Rattle.layers.specs.declared.Filed.the-variants.{Length, Refused as 
 use Rattle.layers.specs.AllLayers.{fileOf, layersTests, usedAt, shortOutput, layersRefusals, filed, leavesZeros, workAfter, outputAfter, WorkLeft, Files}
 use Rattle.layers.specs.Works.{Works, Listed, Puts, Zeroed}
 use Rattle.layers.specs.LayerAtLaws.{spent-zeros}
+use Rattle.layers.specs.LayersLaws.{used-nowhere}
 
 -- ---- the tests
 
@@ -110,8 +111,8 @@ pub zeroed : {n : ℕ} {names names′ : List ℕ} {points points′ : List ℤ}
 unfolding workAfter
 zeroed a b c d e = record { names-are = a; points-are = b; ends-are = c; marks-are = d; ring-is = e }
 
-pub works-zeroed : {n : ℕ} {names names₁ names₂ : List ℕ} {points points₁ points₂ : List ℤ} {ends ends₁ ends₂ marks marks₁ marks₂ ring ring₂ : List ℕ}
-    → Works n names points ends marks names₁ points₁ ends₁ marks₁ → Zeroed n names₁ points₁ ends₁ marks₁ ring names₂ points₂ ends₂ marks₂ ring₂
+pub works-zeroed : {n : ℕ} {names names₁ names₂ : List ℕ} {points points₁ points₂ : List ℤ} {ends ends₁ ends₂ marks marks₁ marks₂ ring ring₁ ring₂ : List ℕ}
+    → Works n names points ends marks ring names₁ points₁ ends₁ marks₁ ring₁ → Zeroed n names₁ points₁ ends₁ marks₁ ring₁ names₂ points₂ ends₂ marks₂ ring₂
     → Zeroed n names points ends marks ring names₂ points₂ ends₂ marks₂ ring₂
 unfolding workAfter
 works-zeroed a z =
@@ -120,7 +121,7 @@ works-zeroed a z =
       points-are = z .points-are ∙ spent-zeros (pos 0) (a .points-spent);
       ends-are = z .ends-are ∙ spent-zeros 0 (a .ends-spent);
       marks-are = z .marks-are ∙ spent-zeros 0 (a .marks-spent);
-      ring-is = z .ring-is;
+      ring-is = z .ring-is ∙ spent-zeros 0 (a .ring-spent);
     }
 
 -- ---- All layers
@@ -136,17 +137,19 @@ module _ (coords : List ℤ) (corners pairing order : List ℕ) (heights : List 
     pub long : Long (length corners) (length names) (length points) (length ends) (length marks)
     pub ring-long : length corners ≤ length ring
     pub few : length (heightsTaken coords heights) ≤ mostLayers
+    pub rises : Rising (heightsTaken coords heights)
 
   pub passed : v ≡ Fine → Passed
   passed e = go (fine-none conditions (sym is ∙ e))
     where
       go : None (layersTests coords corners pairing order heights (length names) (length points) (length ends) (length marks) (length ring)) → Passed
-      go (more s (more m (more u (more g (more r (more x (more t (more p rest)))))))) =
+      go (more s (more m (more u (more g (more r (more x (more t (more p (more o (more a none)))))))))) =
           record {
             right = right-of coords corners pairing (not-false _ (s 0 (omega arith))) r x t p;
             long = room-long (length corners) (length names) (length points) (length ends) (length marks) (not-false _ (u 0 (omega arith)));
             ring-long = ltb-false _ _ (g 0 (omega arith));
             few = ltb-false _ _ (m 0 (omega arith));
+            rises = nowhere-rising (heightsTaken coords heights) a;
           }
 
   -- each height taken can be had by its number
@@ -157,6 +160,7 @@ module _ (coords : List ℤ) (corners pairing order : List ℕ) (heights : List 
         low-is = a;
         count-is = b;
         few = omega (arith, t .few);
+        rises = t .rises;
         each = λ k l. subst (λ (z : ℤ). Takable z heights k) (sym a) (takable coords heights k (λ i h. omega (arith, mag-le (getD coords i (pos 0)), t .right .inside i h)) (omega arith));
       }
 
@@ -181,25 +185,17 @@ module _ (coords : List ℤ) (corners pairing order : List ℕ) (heights : List 
           leaves = record { names-are = stays _ _ _ a; points-are = stays _ _ _ a; ends-are = stays _ _ _ a; marks-are = stays _ _ _ a; ring-is = stays _ _ _ a };
         }
 
-  -- 16 is met at no height
-  used-nowhere : Right coords corners pairing → (hs : List ℤ) → Fine ≡ verdict (map (usedAt coords corners pairing) hs)
-  unfolding verdict
-  used-nowhere right [] = refl
-  used-nowhere right (h ∷ hs) =
-      verdict-next (usedAt coords corners pairing h) (map (usedAt coords corners pairing) hs)
-      (sym (section-fine coords corners pairing h right) ∙ sym (verdict-one (usedAt coords corners pairing h))) refl (used-nowhere right hs)
-
   -- none does
   module _ (e : v ≡ Fine) {result : Filed} {output′ : List ℕ} (p : Puts (fileOf coords corners pairing (heightsTaken coords heights)) output result output′)
-      {names₁ names′ : List ℕ} {points₁ points′ : List ℤ} {ends₁ ends′ marks₁ marks′ ring′ : List ℕ}
-      (w : Works (length corners) names points ends marks names₁ points₁ ends₁ marks₁)
-      (z : Zeroed (length corners) names₁ points₁ ends₁ marks₁ ring names′ points′ ends′ marks′ ring′) where
+      {names₁ names′ : List ℕ} {points₁ points′ : List ℤ} {ends₁ ends′ marks₁ marks′ ring₁ ring′ : List ℕ}
+      (w : Works (length corners) names points ends marks ring names₁ points₁ ends₁ marks₁ ring₁)
+      (z : Zeroed (length corners) names₁ points₁ ends₁ marks₁ ring₁ names′ points′ ends′ marks′ ring′) where
     last : test (shortOutput (length output) (fileOf coords corners pairing (heightsTaken coords heights)))
         ≡ verdict (layersRefusals coords corners pairing order heights (length names) (length points) (length ends) (length marks) (length ring) (length output))
     last =
         join-next conditions (map (usedAt coords corners pairing) (heightsTaken coords heights) ++ (shortOutput (length output) (fileOf coords corners pairing (heightsTaken coords heights)) ∷ [])) is e
         (join-next (map (usedAt coords corners pairing) (heightsTaken coords heights)) (shortOutput (length output) (fileOf coords corners pairing (heightsTaken coords heights)) ∷ [])
-        (used-nowhere (passed e .right) (heightsTaken coords heights)) refl (verdict-one (shortOutput (length output) (fileOf coords corners pairing (heightsTaken coords heights)))))
+        (used-nowhere coords corners pairing (passed e .right) (heightsTaken coords heights)) refl (verdict-one (shortOutput (length output) (fileOf coords corners pairing (heightsTaken coords heights)))))
 
     -- success and 14 leave the same in the work tables
     zeros : {A : Type 0} (n : ℕ) (zero : A) (t : List A) → workAfter Fine n zero t ≡ workAfter (test (shortOutput (length output) (fileOf coords corners pairing (heightsTaken coords heights)))) n zero t

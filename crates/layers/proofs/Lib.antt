@@ -1,3 +1,4 @@
 -- Lemmas that belong to no one function.
 pub mod Passes
+pub mod Levelling
 pub mod Filing

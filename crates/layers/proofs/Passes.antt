@@ -11,12 +11,8 @@ use mir.Syntax.{w32}
 use mir.Val.{toZ, ofZ}
 use Rattle.laws.specs.Machine.{same}
 use Rattle.laws.specs.Tables.{overwrite}
-use Rattle.mesh.specs.declared.Refusal.{Refusal}
 use Rattle.section.specs.Section.{Right}
-use Rattle.cutter.specs.Cut.{section}
-use Rattle.cutter.specs.Outlines.{Long, Traces}
-use Rattle.cutter.specs.declared.Sliced.{Sliced}
-use Rattle.cutter.specs.declared.Sliced.the-variants.{Layer as Cut, Refused as Turned}
+use Rattle.cutter.specs.Outlines.{Long}
 use Rattle.formats.specs.Numbers.{encodeNumber, Word}
 use Rattle.formats.specs.NumberLaws.{encode-short}
 use Rattle.formats.specs.EmitLaws.{Emit, emit-start}
@@ -27,21 +23,26 @@ use Rattle.heights.specs.TakingLaws.{height-at}
 use Rattle.writer.specs.Written.{layerOf, layerBytes, mostLayerBytes, HasRoom, Puts, totalOf}
 use Rattle.writer.specs.WrittenLaws.{total-snoc, file-length, count-room, count-put, each-room, each-put, each-end, put-front, layer-most}
 use Rattle.layers.specs.AllLayers.{layerAt, fileOf}
-use Rattle.layers.specs.Works.{Works, Holds, Listed}
-use Rattle.layers.specs.LayerAtLaws.{layer-rules, spent-none, spent-more, traced-holds, traced-works, traced-never}
+use Rattle.layers.specs.Works.{Spent, Works, Holds, Listed}
+use Rattle.layers.specs.LayerAtLaws.{layer-rules, spent-none, spent-more}
 
-pub works-none : {n : ℕ} {names : List ℕ} {points : List ℤ} {ends marks : List ℕ} → Works n names points ends marks names points ends marks
-works-none = record { names-spent = spent-none _ _; points-spent = spent-none _ _; ends-spent = spent-none _ _; marks-spent = spent-none _ _ }
+pub works-none : {n : ℕ} {names : List ℕ} {points : List ℤ} {ends marks ring : List ℕ} → Works n names points ends marks ring names points ends marks ring
+works-none = record { names-spent = spent-none _ _; points-spent = spent-none _ _; ends-spent = spent-none _ _; marks-spent = spent-none _ _; ring-spent = spent-none _ _ }
 
-pub works-more : {n : ℕ} {names names₁ names₂ : List ℕ} {points points₁ points₂ : List ℤ} {ends ends₁ ends₂ marks marks₁ marks₂ : List ℕ}
-    → Works n names points ends marks names₁ points₁ ends₁ marks₁ → Works n names₁ points₁ ends₁ marks₁ names₂ points₂ ends₂ marks₂
-    → Works n names points ends marks names₂ points₂ ends₂ marks₂
+-- the sweep is begun
+pub works-begun : {n : ℕ} {names : List ℕ} {points : List ℤ} {ends marks marks₁ ring ring₁ : List ℕ} → Spent n marks marks₁ × Spent n ring ring₁ → Works n names points ends marks ring names points ends marks₁ ring₁
+works-begun s = record { names-spent = spent-none _ _; points-spent = spent-none _ _; ends-spent = spent-none _ _; marks-spent = s .0; ring-spent = s .1 }
+
+pub works-more : {n : ℕ} {names names₁ names₂ : List ℕ} {points points₁ points₂ : List ℤ} {ends ends₁ ends₂ marks marks₁ marks₂ ring ring₁ ring₂ : List ℕ}
+    → Works n names points ends marks ring names₁ points₁ ends₁ marks₁ ring₁ → Works n names₁ points₁ ends₁ marks₁ ring₁ names₂ points₂ ends₂ marks₂ ring₂
+    → Works n names points ends marks ring names₂ points₂ ends₂ marks₂ ring₂
 works-more a b =
     record {
       names-spent = spent-more (a .names-spent) (b .names-spent);
       points-spent = spent-more (a .points-spent) (b .points-spent);
       ends-spent = spent-more (a .ends-spent) (b .ends-spent);
       marks-spent = spent-more (a .marks-spent) (b .marks-spent);
+      ring-spent = spent-more (a .ring-spent) (b .ring-spent);
     }
 
 -- ---- a height as the code holds it
@@ -56,8 +57,8 @@ pub held-listed : {coords heights : List ℤ} {low : ℤ} {count : ℕ} → List
 held-listed {coords} {heights} {count = count} l e = subst (λ (z : ℤ). Listed coords heights z count) (sym e) l
 
 -- the tables are as long as before
-pub works-long : {n : ℕ} {names names₁ : List ℕ} {points points₁ : List ℤ} {ends ends₁ marks marks₁ : List ℕ} → Long n (length names) (length points) (length ends) (length marks)
-    → Works n names points ends marks names₁ points₁ ends₁ marks₁ → Long n (length names₁) (length points₁) (length ends₁) (length marks₁)
+pub works-long : {n : ℕ} {names names₁ : List ℕ} {points points₁ : List ℤ} {ends ends₁ marks marks₁ ring ring₁ : List ℕ} → Long n (length names) (length points) (length ends) (length marks)
+    → Works n names points ends marks ring names₁ points₁ ends₁ marks₁ ring₁ → Long n (length names₁) (length points₁) (length ends₁) (length marks₁)
 works-long l w =
     record {
       names-long = omega (arith, l .names-long, w .names-spent .same-length);
@@ -65,19 +66,6 @@ works-long l w =
       ends-long = omega (arith, l .ends-long, w .ends-spent .same-length);
       marks-long = omega (arith, l .marks-long, w .marks-spent .same-length);
     }
-
--- ---- the layer of one height
-
-module _ {coords : List ℤ} {corners pairing : List ℕ} {h h′ : ℤ} (is : h′ ≡ h) (right : Right coords corners pairing)
-    {names : List ℕ} {points : List ℤ} {ends marks : List ℕ} (long : Long (length corners) (length names) (length points) (length ends) (length marks))
-    {result : Sliced} {names′ : List ℕ} {points′ : List ℤ} {ends′ marks′ : List ℕ}
-    (t : Traces (section coords corners pairing h′) coords corners h′ names points ends marks result names′ points′ ends′ marks′) where
-  pub layer-in : {j k : ℕ} → result ≡ Cut j k → Holds coords corners pairing h points′ ends′ j × Works (length corners) names points ends marks names′ points′ ends′ marks′
-  layer-in {j} e =
-      (subst (λ (z : ℤ). Holds coords corners pairing z points′ ends′ j) is (traced-holds coords corners pairing right h′ long t e), traced-works coords corners pairing right h′ long t)
-
-  pub layer-never : {A : Type 0} {r : Refusal} → result ≡ Turned r → A
-  layer-never e = absurd (traced-never coords corners pairing right h′ long t e)
 
 -- ---- all heights
 

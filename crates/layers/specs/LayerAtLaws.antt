@@ -1,35 +1,35 @@
--- The layer of a height: it is what Cut's tables hold, and keeps the rules of the layer file.
+-- The layer of a height: it is what Cut's tables hold and what the contours of a list of crossings are, and keeps the rules of the layer file.
 use Prim.Native.Nat.{ℕ, suc, _+_, _-_, _*_, _≤_, _<_}
 use mathlib.Core.Path.{_≡_, refl, sym, ap, _∙_, subst}
 use mathlib.Core.Bool.{true}
 use mathlib.Core.List.{List, [], _∷_, _++_, map, flatten}
 use native.Mathlib.Omega.{arith}
-use lib.ListN.{length, drop, replicate, length-append, length-map, length-replicate}
-use lib.Seq.{drop-drop, drop-at}
+use lib.ListN.{length, getD, take, drop, replicate, length-append, length-drop, length-map, length-replicate}
+use lib.Seq.{drop-drop, drop-at, take-at, ext-getD, getD-drop}
 use lib.IntN.{ℤ, pos}
 use lib.Dec.{eqb}
 use borrow.Author.Tests.{eq-eqb}
 use Rattle.laws.specs.Booleans.{or-left, or-right}
 use Rattle.laws.specs.Tables.{overwrite}
-use Rattle.laws.specs.TableLaws.{length-overwrite}
+use Rattle.laws.specs.TableLaws.{length-overwrite, overwrite-at}
 use Rattle.mesh.specs.Corners.{triangleCount}
 use Rattle.mesh.specs.Refusals.{verdict}
-use Rattle.mesh.specs.declared.Refusal.{Refusal}
 use Rattle.mesh.specs.declared.Verdict.the-variants.{Fine}
 use Rattle.section.specs.Section.{below, Right}
 use Rattle.section.specs.Contours.{Traced, contours, member, namesOf, endsFrom, endsOf}
 use Rattle.section.specs.Layers as layers
 use Rattle.section.specs.LayerLaws.{trace-layer}
-use Rattle.section.specs.OrbitLaws.{member-join}
+use Rattle.section.specs.OrbitLaws.{member-join, at-member}
 use Rattle.points.specs.Points.{pointAt, pointsOf}
+use Rattle.points.specs.Climbs.{Climbs}
 use Rattle.points.specs.PointLaws.{point-in, length-points}
 use Rattle.cutter.specs.Cut.{used, section, contoursOf, answer, after}
 use Rattle.cutter.specs.CutLaws.{layer-counts, one-each}
-use Rattle.cutter.specs.Outlines.{Long, Traces}
+use Rattle.cutter.specs.Outlines.{Traces}
 use Rattle.cutter.specs.OutlineLaws.{section-fine}
 use Rattle.cutter.specs.SolidLaws.{crossing-climbs}
 use Rattle.cutter.specs.declared.Sliced.{Sliced}
-use Rattle.cutter.specs.declared.Sliced.the-variants.{Layer as Cut, Refused as Turned}
+use Rattle.cutter.specs.declared.Sliced.the-variants.{Layer as Cut}
 use Rattle.formats.specs.Formats.{Each}
 use Rattle.formats.specs.Numbers.{Word}
 use Rattle.formats.specs.LayerFile.{Point, Layer}
@@ -39,7 +39,9 @@ use Rattle.writer.specs.Written.{layerOf, numbersOf}
 use Rattle.writer.specs.LayerTables.{LayerTables}
 use Rattle.writer.specs.WrittenLaws.{layer-held, tables-held, flatten-map, ends-map, length-ends}
 use Rattle.layers.specs.AllLayers.{pointOf, layerAt}
-use Rattle.layers.specs.Works.{Spent, Works, Holds}
+use Rattle.active.specs.Levels.{Kept}
+use Rattle.rounds.specs.Rounds.{Outlined}
+use Rattle.layers.specs.Works.{Spent, Holds}
 
 -- ---- tables of which only the first entries may be other
 
@@ -71,6 +73,14 @@ module _ {A : Type 0} where
   spent-zeros {n} {t} {u} z p =
       let e : length (replicate n z) ≡ n = length-replicate n z in
       ap (λ (r : List A). replicate n z ++ r) (ap (λ (k : ℕ). drop k u) e ∙ p .past ∙ ap (λ (k : ℕ). drop k t) (sym e))
+
+pub spent-kept : {n : ℕ} {t u : List ℕ} → Kept n t u → Spent n t u
+spent-kept {n} {t} {u} k =
+    record {
+      same-length = k .size;
+      past = ext-getD 0 (drop n u) (drop n t) (length-drop n u ∙ ap (λ (m : ℕ). m - n) (k .size) ∙ sym (length-drop n t))
+          (λ i l. getD-drop n u i 0 ∙ k .past (n + i) (omega arith) ∙ sym (getD-drop n t i 0));
+    }
 
 -- ---- contours told by names, and by points
 
@@ -163,8 +173,24 @@ module _ (coords : List ℤ) (corners pairing : List ℕ) (right : Right coords 
   contours-few [] two = omega arith
   contours-few (r ∷ rs) two = omega (arith, two 0 (omega arith), length-append r (namesOf rs), contours-few rs (λ i l. two (suc i) (omega arith)))
 
-  module _ {names : List ℕ} {points : List ℤ} {ends marks : List ℕ} (long : Long (length corners) (length names) (length points) (length ends) (length marks))
-      {result : Sliced} {names′ : List ℕ} {points′ : List ℤ} {ends′ marks′ : List ℕ}
+  -- tables that hold these contours
+  module _ (points : List ℤ) (ends : List ℕ) {points′ : List ℤ} {ends′ : List ℕ} (ep : points′ ≡ overwrite (pointsOf coords corners h (namesOf rings)) points) (ee : ends′ ≡ overwrite (endsOf rings) ends) where
+    written-points : points′ ≡ overwrite (numbersOf (flatten (drawn coords corners h rings))) points
+    written-points = ep ∙ ap (λ (l : List ℤ). overwrite l points) (drawn-points coords corners h rings)
+
+    written-ends : ends′ ≡ overwrite (written.endsOf (drawn coords corners h rings)) ends
+    written-ends = ee ∙ ap (λ (l : List ℕ). overwrite l ends) (drawn-ends coords corners h rings)
+
+    written-holds : {j : ℕ} → j ≡ length rings → Holds coords corners pairing h points′ ends′ j
+    written-holds {j} e =
+        let n : j ≡ length (drawn coords corners h rings) = e ∙ sym (length-map rings (map (pointOf coords corners h))) in
+        record {
+          is = (λ i. layerOf h (written-points i) (written-ends i) (n i)) ∙ layer-held (drawn coords corners h rings) points ends h ∙ sym layer-is;
+          tables = subst (LayerTables points′ ends′) (sym n) (subst (λ (p : List ℤ). LayerTables p ends′ (length (drawn coords corners h rings))) (sym written-points) (subst (λ (l : List ℕ). LayerTables (overwrite (numbersOf (flatten (drawn coords corners h rings))) points) l (length (drawn coords corners h rings))) (sym written-ends) (tables-held (drawn coords corners h rings) points ends)));
+        }
+
+  -- Cut's tables do
+  module _ {names : List ℕ} {points : List ℤ} {ends marks : List ℕ} {result : Sliced} {names′ : List ℕ} {points′ : List ℤ} {ends′ marks′ : List ℕ}
       (t : Traces (section coords corners pairing h) coords corners h names points ends marks result names′ points′ ends′ marks′) where
     fine : verdict (used (length corners) (section coords corners pairing h) ∷ []) ≡ Fine
     fine = section-fine coords corners pairing h right
@@ -172,50 +198,64 @@ module _ (coords : List ℤ) (corners pairing : List ℕ) (right : Right coords 
     is-answer : result ≡ answer Fine rings
     is-answer = t .answers ∙ (λ i. answer (fine i) (contoursOf (section-rings i)))
 
-    written-points : points′ ≡ overwrite (numbersOf (flatten (drawn coords corners h rings))) points
-    unfolding after
-    written-points =
-        t .leaves .points-are
-        ∙ (λ i. after (fine i) (pointsOf coords corners h (namesOf (contoursOf (section-rings i)))) (2 * length corners) (pos 0) points)
-        ∙ ap (λ (l : List ℤ). overwrite l points) (drawn-points coords corners h rings)
-
-    written-ends : ends′ ≡ overwrite (written.endsOf (drawn coords corners h rings)) ends
-    unfolding after
-    written-ends =
-        t .leaves .ends-are
-        ∙ (λ i. after (fine i) (endsOf (contoursOf (section-rings i))) (length corners) 0 ends)
-        ∙ ap (λ (l : List ℕ). overwrite l ends) (drawn-ends coords corners h rings)
-
-    written-names : names′ ≡ overwrite (namesOf rings) names
-    unfolding after
-    written-names = t .leaves .names-are ∙ (λ i. after (fine i) (namesOf (contoursOf (section-rings i))) (length corners) 0 names)
-
-    written-marks : marks′ ≡ overwrite (replicate (length corners) 0) marks
-    unfolding after
-    written-marks = t .leaves .marks-are ∙ (λ i. after (fine i) (replicate (length corners) 0) (length corners) 0 marks)
-
-    -- it is never refused with 16
-    pub traced-never : {r : Refusal} → result ≡ Turned r → ⊥
-    unfolding answer
-    traced-never e = absurd (let q : Turned _ ≡ Cut _ _ = sym e ∙ is-answer in let z : _≡_ {A = ℕ} 0 1 = cc in omega arith)
-
-    -- the layer of height h
     pub traced-holds : {j k : ℕ} → result ≡ Cut j k → Holds coords corners pairing h points′ ends′ j
+    unfolding after
     traced-holds {j} {k} e =
-        let n : j ≡ length (drawn coords corners h rings) = layer-counts Fine rings (sym e ∙ is-answer) .0 ∙ sym (length-map rings (map (pointOf coords corners h))) in
-        record {
-          is = (λ i. layerOf h (written-points i) (written-ends i) (n i)) ∙ layer-held (drawn coords corners h rings) points ends h ∙ sym layer-is;
-          tables = subst (LayerTables points′ ends′) (sym n) (subst (λ (p : List ℤ). LayerTables p ends′ (length (drawn coords corners h rings))) (sym written-points) (subst (λ (l : List ℕ). LayerTables (overwrite (numbersOf (flatten (drawn coords corners h rings))) points) l (length (drawn coords corners h rings))) (sym written-ends) (tables-held (drawn coords corners h rings) points ends)));
-        }
+        written-holds points ends
+        (t .leaves .points-are ∙ (λ i. after (fine i) (pointsOf coords corners h (namesOf (contoursOf (section-rings i)))) (2 * length corners) (pos 0) points))
+        (t .leaves .ends-are ∙ (λ i. after (fine i) (endsOf (contoursOf (section-rings i))) (length corners) 0 ends))
+        (layer-counts Fine rings (sym e ∙ is-answer) .0)
 
-    -- only entries asked for are other
-    pub traced-works : Works (length corners) names points ends marks names′ points′ ends′ marks′
-    traced-works =
-        let n : length (namesOf rings) ≤ length corners = omega (arith, rings-few) in
-        let m : length rings ≤ length corners = omega (arith, n, contours-few rings (λ i l. rings-layer .each i l .two)) in
-        record {
-          names-spent = subst (Spent (length corners) names) (sym written-names) (spent-front _ _ _ n (long .names-long));
-          points-spent = subst (Spent (2 * length corners) points) (sym written-points) (spent-front _ _ _ (omega (arith, n, length-points coords corners h (namesOf rings), ap length (drawn-points coords corners h rings))) (long .points-long));
-          ends-spent = subst (Spent (length corners) ends) (sym written-ends) (spent-front _ _ _ (omega (arith, m, length-ends 0 (drawn coords corners h rings), length-map rings (map (pointOf coords corners h)))) (long .ends-long));
-          marks-spent = subst (Spent (length corners) marks) (sym written-marks) (spent-front _ _ _ (omega (arith, length-replicate {A = ℕ} (length corners) 0)) (long .marks-long));
-        }
+  -- the contours that a list of crossings gave
+  module _ {names ends names′ ends′ : List ℕ} {j k : ℕ} (t : Outlined coords corners pairing h names ends names′ ends′ j k) (names-long : length corners ≤ length names) (ends-long : length corners ≤ length ends) where
+    same-rings : t .rings ≡ rings
+    same-rings = same (sym (t .is) ∙ section-rings)
+      where
+        same : {a b : List (List ℕ)} → contours a ≡ contours b → a ≡ b
+        same e = cc
+
+    names-are : names′ ≡ overwrite (namesOf rings) names
+    names-are = t .names-are ∙ ap (λ (rs : List (List ℕ)). overwrite (namesOf rs) names) same-rings
+
+    ends-are : ends′ ≡ overwrite (endsOf rings) ends
+    ends-are = t .ends-are ∙ ap (λ (rs : List (List ℕ)). overwrite (endsOf rs) ends) same-rings
+
+    k-is : k ≡ length (namesOf rings)
+    k-is = t .k-is ∙ ap (λ (rs : List (List ℕ)). length (namesOf rs)) same-rings
+
+    k-few : k ≤ length corners
+    k-few = omega (arith, k-is, rings-few)
+
+    pub k-names : k ≤ length names′
+    k-names = omega (arith, k-few, k-is, ap length names-are, length-overwrite (namesOf rings) names (omega (arith, k-few, k-is)))
+
+    pub k-points : (points : List ℤ) → 2 * length corners ≤ length points → 2 * k ≤ length points
+    k-points points l = omega (arith, k-few)
+
+    -- what the points ask
+    pub names-climb : (i : ℕ) → i < k → Climbs coords corners h (getD names′ i 0)
+    names-climb i m =
+        let b : i < length (namesOf rings) = omega (arith, k-is) in
+        subst (Climbs coords corners h) (sym (ap (λ (u : List ℕ). getD u i 0) names-are ∙ overwrite-at (namesOf rings) names i 0 b))
+        (crossing-climbs coords corners h pairing right (getD (namesOf rings) i 0) (rings-layer .only (getD (namesOf rings) i 0) (at-member (namesOf rings) i b)))
+
+    pub names-spent : Spent (length corners) names names′
+    names-spent = subst (Spent (length corners) names) (sym names-are) (spent-front _ _ _ (omega (arith, k-few, k-is)) names-long)
+
+    pub ends-spent : Spent (length corners) ends ends′
+    ends-spent =
+        subst (Spent (length corners) ends) (sym ends-are)
+        (spent-front _ _ _ (omega (arith, k-few, k-is, contours-few rings (λ i l. rings-layer .each i l .two), ap length (drawn-ends coords corners h rings), length-ends 0 (drawn coords corners h rings), length-map rings (map (pointOf coords corners h)))) ends-long)
+
+    module _ (points : List ℤ) {points′ : List ℤ} (points-long : 2 * length corners ≤ length points) (ep : points′ ≡ overwrite (pointsOf coords corners h (take k names′)) points) where
+      points-are : points′ ≡ overwrite (pointsOf coords corners h (namesOf rings)) points
+      unfolding overwrite
+      points-are =
+          ep ∙ ap (λ (l : List ℕ). overwrite (pointsOf coords corners h l) points)
+          (ap (take k) names-are ∙ take-at (namesOf rings) (drop (length (namesOf rings)) names) k (sym k-is))
+
+      pub outlined-holds : Holds coords corners pairing h points′ ends′ j
+      outlined-holds = written-holds points ends points-are ends-are (t .j-is ∙ ap (λ (rs : List (List ℕ)). length rs) same-rings)
+
+      pub points-spent : Spent (2 * length corners) points points′
+      points-spent = subst (Spent (2 * length corners) points) (sym points-are) (spent-front _ _ _ (omega (arith, k-few, k-is, length-points coords corners h (namesOf rings))) points-long)

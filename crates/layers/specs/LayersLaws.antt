@@ -11,12 +11,13 @@ use lib.IntN.{ℤ, pos, negsuc}
 use lib.Signed.{_<ℤ_}
 use Rattle.laws.specs.Integers.{lt-out}
 use Rattle.mesh.specs.Refusals.{Condition, verdict}
-use Rattle.mesh.specs.RefusalLaws.{First, None, more, first-refused, refused-first, none-fine, fine-none, join-fine}
+use Rattle.mesh.specs.RefusalLaws.{First, None, more, first-refused, refused-first, none-fine, fine-none, join-fine, verdict-one, verdict-next}
 use Rattle.mesh.specs.declared.Refusal.{Refusal}
 use Rattle.mesh.specs.declared.Verdict.{Verdict}
 use Rattle.mesh.specs.declared.Verdict.the-variants.{Fine, Refused}
 use Rattle.section.specs.Section.{Right}
 use Rattle.section.specs.RightLaws.{right-of}
+use Rattle.cutter.specs.OutlineLaws.{section-fine}
 use Rattle.formats.specs.Formats.{Each, holds}
 use Rattle.formats.specs.Numbers.{Word}
 use Rattle.formats.specs.LayerFile.{mostLayers, lowest, layersOf}
@@ -53,6 +54,14 @@ module _ (coords : List ℤ) (corners pairing : List ℕ) (right : Right coords 
   unfolding layerAt
   rise-rules low [] a r = tt
   rise-rules low (h ∷ hs) a r = (a (omega arith), rise-rules h hs (λ l. r 0 (omega arith)) (λ i l. r (suc i) (omega arith)))
+
+-- 16 is met at no height
+pub used-nowhere : (coords : List ℤ) (corners pairing : List ℕ) → Right coords corners pairing → (hs : List ℤ) → Fine ≡ verdict (map (usedAt coords corners pairing) hs)
+unfolding verdict
+used-nowhere coords corners pairing right [] = refl
+used-nowhere coords corners pairing right (h ∷ hs) =
+    verdict-next (usedAt coords corners pairing h) (map (usedAt coords corners pairing) hs)
+    (sym (section-fine coords corners pairing h right) ∙ sym (verdict-one (usedAt coords corners pairing h))) refl (used-nowhere coords corners pairing right hs)
 
 above-lowest : (z : ℤ) → Word z → lowest <ℤ z
 above-lowest (pos n) w = record { lt = tt }

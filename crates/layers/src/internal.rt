@@ -1,6 +1,6 @@
 // Internal: the passes over the heights, for a mesh and heights that the tests have passed.
 ghost use mathlib.Core.Path.{_≡_};
-ghost use Prim.Native.Nat.{_≤_};
+ghost use Prim.Native.Nat.{_+_, _<_, _≤_};
 ghost use mathlib.Core.List.{[], _∷_};
 ghost use lib.ListN.{length};
 ghost use Rattle.laws.specs.Tables.{overwrite};
@@ -9,13 +9,16 @@ ghost use Rattle.mesh.specs.Refusals.{verdict};
 ghost use Rattle.mesh.specs.Tests.{Whole, range, vertex, triangle, pairs, ordered};
 ghost use Rattle.section.specs.Section.{Right};
 ghost use Rattle.cutter.specs.Outlines.{Long};
+ghost use Rattle.active.specs.Levels.{Climbing};
+ghost use Rattle.heights.specs.Taking.{heightAt};
 ghost use Rattle.heights.specs.Heights.{heightsTaken, fallingHeight};
 ghost use Rattle.layers.specs.AllLayers.{fileOf};
-ghost use Rattle.layers.specs.Works.{Works, Zeroed, Holds, Listed, Puts};
+ghost use Rattle.layers.specs.Works.{Spent, Works, Zeroed, Holds, Puts};
+ghost use Rattle.layers.specs.Sweeps.{Ranged, Ready, Sweeping};
 use crate::Filed;
-use cutter::Sliced;
+use active::internal::advance;
+use active::internal::deal;
 use cutter::internal::clear_points;
-use cutter::internal::slice;
 use formats::internal::write_number;
 use formats::numbers::number_length;
 use heights::heights_test;
@@ -23,7 +26,10 @@ use heights::internal::taken_height;
 use mesh::Refusal;
 use mesh::Verdict;
 use mesh::internal::fill;
+use mesh::internal::wide;
 use mesh::tests::mesh_test;
+use points::internal::put_points;
+use rounds::internal::outline;
 use tables::internal::pairing_test;
 use tables::ordering::order_test;
 use writer::internal::layer_length;
@@ -55,26 +61,108 @@ pub fn content_test(
     heights_test(heights)
 }
 
-// The layer of height h, put into the tables of points and ends; returns the count of its contours.
-fn layer_into(
+// Where the sweep stands after a height: the head of the list of its crossings, and the count of its contours.
+struct Level {
+    active: usize,
+    contours: usize,
+}
+
+// Begins the sweep: no mark, and each corner that rises somewhere in the list of the first height at which it does.
+fn begin(
+    coords: &[i32],
+    corners: &[u32],
+    low: i32,
+    heights: &[i32],
+    count: usize,
+    marks: &mut [u32],
+    ring: &mut [u32],
+    heads: &mut [u32],
+)
+    requires { ⌜ Ranged (now coords) (now corners) ⌝ ∗ ⌜ Climbing low (now heights) count ⌝ ∗ ⌜ (length (now corners) ≤ length (now marks)) × (length (now corners) ≤ length (now ring)) × (count ≤ length (now heads)) ⌝ }
+    ensures { λ _. ⌜ Sweeping (now (coords .entry)) (now (corners .entry)) (heightAt low (now (heights .entry))) count 0 (now (ring .exit)) (now (heads .exit)) (now (marks .exit)) (length (now (corners .entry))) ⌝ }
+    ensures { λ _. ⌜ Spent (length (now (corners .entry))) (now (marks .entry)) (now (marks .exit)) × Spent (length (now (corners .entry))) (now (ring .entry)) (now (ring .exit)) ⌝ }
+{
+    fill(marks, corners.len(), 0);
+    deal(coords, corners, low, heights, count, ring, heads);
+}
+
+// The layer of height k, put into the tables of points and ends.
+fn next_layer(
     coords: &[i32],
     corners: &[u32],
     pairing: &[u32],
-    h: i32,
+    low: i32,
+    heights: &[i32],
+    count: usize,
+    k: usize,
+    active: usize,
+    heads: &[u32],
     names: &mut [u32],
     points: &mut [i32],
     ends: &mut [u32],
     marks: &mut [u32],
-) -> usize
-    requires { ⌜ Right (now coords) (now corners) (now pairing) ⌝ ∗ ⌜ Long (length (now corners)) (length (now names)) (length (now points)) (length (now ends)) (length (now marks)) ⌝ }
-    ensures { λ r. ⌜ Holds (now (coords .entry)) (now (corners .entry)) (now (pairing .entry)) h (now (points .exit)) (now (ends .exit)) r × Works (length (now (corners .entry))) (now (names .entry)) (now (points .entry)) (now (ends .entry)) (now (marks .entry)) (now (names .exit)) (now (points .exit)) (now (ends .exit)) (now (marks .exit)) ⌝ }
+    ring: &mut [u32],
+) -> Level
+    requires { ⌜ Right (now coords) (now corners) (now pairing) ⌝ ∗ ⌜ Long (length (now corners)) (length (now names)) (length (now points)) (length (now ends)) (length (now marks)) ⌝ ∗ ⌜ Climbing low (now heights) count ⌝ ∗ ⌜ Sweeping (now coords) (now corners) (heightAt low (now heights)) count k (now ring) (now heads) (now marks) active ⌝ ∗ ⌜ k < count ⌝ }
+    ensures { λ r. ⌜ Holds (now (coords .entry)) (now (corners .entry)) (now (pairing .entry)) (heightAt low (now (heights .entry)) k) (now (points .exit)) (now (ends .exit)) (r .contours) × Works (length (now (corners .entry))) (now (names .entry)) (now (points .entry)) (now (ends .entry)) (now (marks .entry)) (now (ring .entry)) (now (names .exit)) (now (points .exit)) (now (ends .exit)) (now (marks .exit)) (now (ring .exit)) ⌝ }
+    ensures { λ r. ⌜ Sweeping (now (coords .entry)) (now (corners .entry)) (heightAt low (now (heights .entry))) count (k + 1) (now (ring .exit)) (now (heads .entry)) (now (marks .exit)) (r .active) ⌝ }
 {
-    let s = slice(coords, corners, pairing, h, names, points, ends, marks);
-    match s {
-        Sliced::Layer(j, _) => j,
-        // Never: the pairing is right.
-        Sliced::Refused(_) => 0,
+    let h = taken_height(low, heights, k);
+    let b = wide(heads[k]);
+    let a = advance(coords, corners, h, ring, active, b);
+    let s = (k + 1) as u32;
+    let f = outline(coords, corners, pairing, h, s, ring, a, names, ends, marks);
+    put_points(coords, corners, h, names, points, f.names);
+    Level {
+        active: a,
+        contours: f.contours,
     }
+}
+
+// How many bytes the layers take, the sweep begun.
+fn layers_length(
+    coords: &[i32],
+    corners: &[u32],
+    pairing: &[u32],
+    low: i32,
+    heights: &[i32],
+    count: usize,
+    names: &mut [u32],
+    points: &mut [i32],
+    ends: &mut [u32],
+    marks: &mut [u32],
+    ring: &mut [u32],
+    heads: &[u32],
+) -> usize
+    requires { ⌜ Ready (now coords) (now corners) (now pairing) low (now heights) count (now names) (now points) (now ends) (now marks) (now ring) ⌝ ∗ ⌜ Sweeping (now coords) (now corners) (heightAt low (now heights)) count 0 (now ring) (now heads) (now marks) (length (now corners)) ⌝ }
+    ensures { λ r. ⌜ (r ≡ length (fileOf (now (coords .entry)) (now (corners .entry)) (now (pairing .entry)) (heightsTaken (now (coords .entry)) (now (heights .entry))))) × Works (length (now (corners .entry))) (now (names .entry)) (now (points .entry)) (now (ends .entry)) (now (marks .entry)) (now (ring .entry)) (now (names .exit)) (now (points .exit)) (now (ends .exit)) (now (marks .exit)) (now (ring .exit)) ⌝ }
+{
+    let mut total = number_length(count as u64);
+    let mut active = corners.len();
+    let mut k: usize = 0;
+    while k < count {
+        let s = next_layer(
+            coords,
+            corners,
+            pairing,
+            low,
+            heights,
+            count,
+            k,
+            active,
+            heads,
+            names,
+            points,
+            ends,
+            marks,
+            ring,
+        );
+        let h = taken_height(low, heights, k);
+        total += layer_length(h, points, ends, s.contours);
+        active = s.active;
+        k += 1;
+    }
+    total
 }
 
 // How many bytes the layer file takes.
@@ -82,26 +170,89 @@ fn file_length(
     coords: &[i32],
     corners: &[u32],
     pairing: &[u32],
-    heights: &[i32],
     low: i32,
+    heights: &[i32],
     count: usize,
     names: &mut [u32],
     points: &mut [i32],
     ends: &mut [u32],
     marks: &mut [u32],
+    ring: &mut [u32],
 ) -> usize
-    requires { ⌜ Right (now coords) (now corners) (now pairing) ⌝ ∗ ⌜ Long (length (now corners)) (length (now names)) (length (now points)) (length (now ends)) (length (now marks)) ⌝ ∗ ⌜ Listed (now coords) (now heights) low count ⌝ }
-    ensures { λ r. ⌜ (r ≡ length (fileOf (now (coords .entry)) (now (corners .entry)) (now (pairing .entry)) (heightsTaken (now (coords .entry)) (now (heights .entry))))) × Works (length (now (corners .entry))) (now (names .entry)) (now (points .entry)) (now (ends .entry)) (now (marks .entry)) (now (names .exit)) (now (points .exit)) (now (ends .exit)) (now (marks .exit)) ⌝ }
+    requires { ⌜ Ready (now coords) (now corners) (now pairing) low (now heights) count (now names) (now points) (now ends) (now marks) (now ring) ⌝ }
+    ensures { λ r. ⌜ (r ≡ length (fileOf (now (coords .entry)) (now (corners .entry)) (now (pairing .entry)) (heightsTaken (now (coords .entry)) (now (heights .entry))))) × Works (length (now (corners .entry))) (now (names .entry)) (now (points .entry)) (now (ends .entry)) (now (marks .entry)) (now (ring .entry)) (now (names .exit)) (now (points .exit)) (now (ends .exit)) (now (marks .exit)) (now (ring .exit)) ⌝ }
 {
-    let mut total = number_length(count as u64);
-    let mut k: usize = 0;
-    while k < count {
-        let h = taken_height(low, heights, k);
-        let j = layer_into(coords, corners, pairing, h, names, points, ends, marks);
-        total += layer_length(h, points, ends, j);
-        k += 1;
+    let mut heads = [0u32; 4096];
+    begin(
+        coords,
+        corners,
+        low,
+        heights,
+        count,
+        marks,
+        ring,
+        &mut heads,
+    );
+    layers_length(
+        coords,
+        corners,
+        pairing,
+        low,
+        heights,
+        count,
+        names,
+        points,
+        ends,
+        marks,
+        ring,
+        &heads,
+    )
+}
+
+// Writes the layers, the sweep begun.
+fn write_layers(
+    coords: &[i32],
+    corners: &[u32],
+    pairing: &[u32],
+    low: i32,
+    heights: &[i32],
+    count: usize,
+    names: &mut [u32],
+    points: &mut [i32],
+    ends: &mut [u32],
+    marks: &mut [u32],
+    ring: &mut [u32],
+    heads: &[u32],
+    output: &mut [u8],
+)
+    requires { ⌜ Ready (now coords) (now corners) (now pairing) low (now heights) count (now names) (now points) (now ends) (now marks) (now ring) ⌝ ∗ ⌜ Sweeping (now coords) (now corners) (heightAt low (now heights)) count 0 (now ring) (now heads) (now marks) (length (now corners)) ⌝ ∗ ⌜ length (fileOf (now coords) (now corners) (now pairing) (heightsTaken (now coords) (now heights))) ≤ length (now output) ⌝ }
+    ensures { λ _. ⌜ (now (output .exit) ≡ overwrite (fileOf (now (coords .entry)) (now (corners .entry)) (now (pairing .entry)) (heightsTaken (now (coords .entry)) (now (heights .entry)))) (now (output .entry))) × Works (length (now (corners .entry))) (now (names .entry)) (now (points .entry)) (now (ends .entry)) (now (marks .entry)) (now (ring .entry)) (now (names .exit)) (now (points .exit)) (now (ends .exit)) (now (marks .exit)) (now (ring .exit)) ⌝ }
+{
+    let mut p = write_number(output, 0, count as u64);
+    let mut active = corners.len();
+    let mut i: usize = 0;
+    while i < count {
+        let s = next_layer(
+            coords,
+            corners,
+            pairing,
+            low,
+            heights,
+            count,
+            i,
+            active,
+            heads,
+            names,
+            points,
+            ends,
+            marks,
+            ring,
+        );
+        let h = taken_height(low, heights, i);
+        p = write_layer(h, points, ends, s.contours, output, p);
+        active = s.active;
+        i += 1;
     }
-    total
 }
 
 // Writes the layer file at the front of an output that has room for it.
@@ -109,26 +260,45 @@ fn write_file(
     coords: &[i32],
     corners: &[u32],
     pairing: &[u32],
-    heights: &[i32],
     low: i32,
+    heights: &[i32],
     count: usize,
     names: &mut [u32],
     points: &mut [i32],
     ends: &mut [u32],
     marks: &mut [u32],
+    ring: &mut [u32],
     output: &mut [u8],
 )
-    requires { ⌜ Right (now coords) (now corners) (now pairing) ⌝ ∗ ⌜ Long (length (now corners)) (length (now names)) (length (now points)) (length (now ends)) (length (now marks)) ⌝ ∗ ⌜ Listed (now coords) (now heights) low count ⌝ ∗ ⌜ length (fileOf (now coords) (now corners) (now pairing) (heightsTaken (now coords) (now heights))) ≤ length (now output) ⌝ }
-    ensures { λ _. ⌜ (now (output .exit) ≡ overwrite (fileOf (now (coords .entry)) (now (corners .entry)) (now (pairing .entry)) (heightsTaken (now (coords .entry)) (now (heights .entry)))) (now (output .entry))) × Works (length (now (corners .entry))) (now (names .entry)) (now (points .entry)) (now (ends .entry)) (now (marks .entry)) (now (names .exit)) (now (points .exit)) (now (ends .exit)) (now (marks .exit)) ⌝ }
+    requires { ⌜ Ready (now coords) (now corners) (now pairing) low (now heights) count (now names) (now points) (now ends) (now marks) (now ring) ⌝ ∗ ⌜ length (fileOf (now coords) (now corners) (now pairing) (heightsTaken (now coords) (now heights))) ≤ length (now output) ⌝ }
+    ensures { λ _. ⌜ (now (output .exit) ≡ overwrite (fileOf (now (coords .entry)) (now (corners .entry)) (now (pairing .entry)) (heightsTaken (now (coords .entry)) (now (heights .entry)))) (now (output .entry))) × Works (length (now (corners .entry))) (now (names .entry)) (now (points .entry)) (now (ends .entry)) (now (marks .entry)) (now (ring .entry)) (now (names .exit)) (now (points .exit)) (now (ends .exit)) (now (marks .exit)) (now (ring .exit)) ⌝ }
 {
-    let mut p = write_number(output, 0, count as u64);
-    let mut i: usize = 0;
-    while i < count {
-        let h = taken_height(low, heights, i);
-        let j = layer_into(coords, corners, pairing, h, names, points, ends, marks);
-        p = write_layer(h, points, ends, j, output, p);
-        i += 1;
-    }
+    let mut heads = [0u32; 4096];
+    begin(
+        coords,
+        corners,
+        low,
+        heights,
+        count,
+        marks,
+        ring,
+        &mut heads,
+    );
+    write_layers(
+        coords,
+        corners,
+        pairing,
+        low,
+        heights,
+        count,
+        names,
+        points,
+        ends,
+        marks,
+        ring,
+        &heads,
+        output,
+    );
 }
 
 // Writes the layer file, unless the output is shorter: its length is known before the first byte is written.
@@ -136,29 +306,31 @@ pub fn put_file(
     coords: &[i32],
     corners: &[u32],
     pairing: &[u32],
-    heights: &[i32],
     low: i32,
+    heights: &[i32],
     count: usize,
     names: &mut [u32],
     points: &mut [i32],
     ends: &mut [u32],
     marks: &mut [u32],
+    ring: &mut [u32],
     output: &mut [u8],
 ) -> Filed
-    requires { ⌜ Right (now coords) (now corners) (now pairing) ⌝ ∗ ⌜ Long (length (now corners)) (length (now names)) (length (now points)) (length (now ends)) (length (now marks)) ⌝ ∗ ⌜ Listed (now coords) (now heights) low count ⌝ }
-    ensures { λ r. ⌜ Puts (fileOf (now (coords .entry)) (now (corners .entry)) (now (pairing .entry)) (heightsTaken (now (coords .entry)) (now (heights .entry)))) (now (output .entry)) r (now (output .exit)) × Works (length (now (corners .entry))) (now (names .entry)) (now (points .entry)) (now (ends .entry)) (now (marks .entry)) (now (names .exit)) (now (points .exit)) (now (ends .exit)) (now (marks .exit)) ⌝ }
+    requires { ⌜ Ready (now coords) (now corners) (now pairing) low (now heights) count (now names) (now points) (now ends) (now marks) (now ring) ⌝ }
+    ensures { λ r. ⌜ Puts (fileOf (now (coords .entry)) (now (corners .entry)) (now (pairing .entry)) (heightsTaken (now (coords .entry)) (now (heights .entry)))) (now (output .entry)) r (now (output .exit)) × Works (length (now (corners .entry))) (now (names .entry)) (now (points .entry)) (now (ends .entry)) (now (marks .entry)) (now (ring .entry)) (now (names .exit)) (now (points .exit)) (now (ends .exit)) (now (marks .exit)) (now (ring .exit)) ⌝ }
 {
     let n = file_length(
         coords,
         corners,
         pairing,
-        heights,
         low,
+        heights,
         count,
         names,
         points,
         ends,
         marks,
+        ring,
     );
     if output.len() < n {
         return Filed::Refused(Refusal::Output(0));
@@ -167,13 +339,14 @@ pub fn put_file(
         coords,
         corners,
         pairing,
-        heights,
         low,
+        heights,
         count,
         names,
         points,
         ends,
         marks,
+        ring,
         output,
     );
     Filed::Length(n)

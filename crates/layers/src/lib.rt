@@ -117,13 +117,14 @@ pub fn all_layers(
         coords,
         corners,
         pairing,
-        heights,
         low,
+        heights,
         count,
         names,
         points,
         ends,
         marks,
+        ring,
         output,
     );
     clear_work(corners.len(), names, points, ends, marks, ring);

@@ -2,4 +2,5 @@
 pub mod Listing
 pub mod Steps
 pub mod ListingLaws
+pub mod EveryLaws
 pub mod Worked

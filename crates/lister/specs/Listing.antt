@@ -39,7 +39,7 @@ limits p = whole Size (beyond p)
 abbrev pub checks : Part → List Condition
 checks p = refusals (p .coords) (p .corners) (replicate entries 0) (replicate entries 0)
 
--- of the refusals of All layers 12 is left: the limits rule out 1, the tables 9, and a mesh that Check accepts 2, 3, 4, 7, 8 and 16
+-- of the refusals of All layers 12 is left: the limits rule out 1, the tables 9, and a mesh that Check accepts 2, 3, 4, 7, 8 and 16 (`none-left-out`, EveryLaws)
 abbrev pub refusalsOf : List ℕ → Part → List Condition
 refusalsOf input p = longInput input ∷ form input ∷ limits p ∷ (checks p ++ (fallingHeight (p .heights) ∷ []))
 

@@ -1,4 +1,5 @@
 -- `all_layers` meets its contract.
+use native.Mathlib.Omega.{arith}
 use denote.Ref.{now}
 use Rattle.layers.proofs.Passes.{works-long, held-is}
 use Rattle.layers.proofs.Filing.{passed, listed, files-refused, files-put}
@@ -26,15 +27,21 @@ taken-count-requires c κs = search needs
 
 put-file-requires : tie.Need-put-file-requires
 put-file-requires c κs =
-    let a = c .before .before .before .before .before .before .before .before .before .before .before .before .before .before .before .before .before .before .args in
-    let p = passed (now (a .coords)) (now (a .corners)) (now (a .pairing)) (now (a .order)) (now (a .heights)) (now (a .names)) (now (a .points)) (now (a .ends)) (now (a .marks)) (now (a .ring)) (now (a .output)) (c .before .before .before .before .before .before .before .before .before .layers-test .result) (c .before .before .before .before .before .before .before .before .before .layers-test .ensures) (c .before .before .before .before .before .before .before .enum-told .given .1) in
-    (p .right, (p .long, listed (now (a .coords)) (now (a .corners)) (now (a .pairing)) (now (a .order)) (now (a .heights)) (now (a .names)) (now (a .points)) (now (a .ends)) (now (a .marks)) (now (a .ring)) (now (a .output)) (c .before .before .before .before .before .before .before .before .before .layers-test .result) (c .before .before .before .before .before .before .before .before .before .layers-test .ensures) (c .before .before .before .before .before .before .before .enum-told .given .1) (held-is (c .before .before .before .before .before .before .lowest-z .ok) (c .before .before .before .before .before .before .lowest-z .ensures)) (c .before .before .before .before .before .taken-count .ensures)))
+    let a = c .before .before .before .before .before .before .before .before .before .before .before .before .before .before .before .before .before .before .before .args in
+    let p = passed (now (a .coords)) (now (a .corners)) (now (a .pairing)) (now (a .order)) (now (a .heights)) (now (a .names)) (now (a .points)) (now (a .ends)) (now (a .marks)) (now (a .ring)) (now (a .output)) (c .before .before .before .before .before .before .before .before .before .before .layers-test .result) (c .before .before .before .before .before .before .before .before .before .before .layers-test .ensures) (c .before .before .before .before .before .before .before .before .enum-told .given .1) in
+    record {
+      right = p .right;
+      long = p .long;
+      ring-long = p .ring-long;
+      listed = listed (now (a .coords)) (now (a .corners)) (now (a .pairing)) (now (a .order)) (now (a .heights)) (now (a .names)) (now (a .points)) (now (a .ends)) (now (a .marks)) (now (a .ring)) (now (a .output)) (c .before .before .before .before .before .before .before .before .before .before .layers-test .result) (c .before .before .before .before .before .before .before .before .before .before .layers-test .ensures) (c .before .before .before .before .before .before .before .before .enum-told .given .1) (held-is (c .before .before .before .before .before .before .before .lowest-z .ok) (c .before .before .before .before .before .before .before .lowest-z .ensures)) (c .before .before .before .before .before .before .taken-count .ensures);
+    }
 
 clear-work-requires : tie.Need-clear-work-requires
 clear-work-requires c κs =
-    let a = c .before .before .before .before .before .before .before .before .before .before .before .before .before .before .before .before .before .before .before .before .before .before .before .before .before .before .before .before .before .before .before .before .before .args in
-    let p = passed (now (a .coords)) (now (a .corners)) (now (a .pairing)) (now (a .order)) (now (a .heights)) (now (a .names)) (now (a .points)) (now (a .ends)) (now (a .marks)) (now (a .ring)) (now (a .output)) (c .before .before .before .before .before .before .before .before .before .before .before .before .before .before .before .before .before .before .before .before .before .before .before .before .layers-test .result) (c .before .before .before .before .before .before .before .before .before .before .before .before .before .before .before .before .before .before .before .before .before .before .before .before .layers-test .ensures) (c .before .before .before .before .before .before .before .before .before .before .before .before .before .before .before .before .before .before .before .before .before .before .enum-told .given .1) in
-    (works-long (p .long) (c .before .before .before .before .before .before .before .before .before .before .before .before .before .before .put-file .ensures .1), (p .ring-long, p .right .named .whole .few))
+    let a = c .before .before .before .before .before .before .before .before .before .before .before .before .before .before .before .before .before .before .before .before .before .before .before .before .before .before .before .before .before .before .before .before .before .before .before .before .args in
+    let p = passed (now (a .coords)) (now (a .corners)) (now (a .pairing)) (now (a .order)) (now (a .heights)) (now (a .names)) (now (a .points)) (now (a .ends)) (now (a .marks)) (now (a .ring)) (now (a .output)) (c .before .before .before .before .before .before .before .before .before .before .before .before .before .before .before .before .before .before .before .before .before .before .before .before .before .before .before .layers-test .result) (c .before .before .before .before .before .before .before .before .before .before .before .before .before .before .before .before .before .before .before .before .before .before .before .before .before .before .before .layers-test .ensures) (c .before .before .before .before .before .before .before .before .before .before .before .before .before .before .before .before .before .before .before .before .before .before .before .before .before .enum-told .given .1) in
+    let w = c .before .before .before .before .before .before .before .before .before .before .before .before .before .before .before .before .put-file .ensures .1 in
+    (works-long (p .long) w, (omega (arith, p .ring-long, w .ring-spent .same-length), p .right .named .whole .few))
 
 same-length : tie.Need-same-length
 same-length c = search needs
@@ -56,8 +63,8 @@ same-length-6 c = search needs
 
 returns-2 : tie.Need-returns-2
 returns-2 c =
-    let a = c .before .before .before .before .before .before .before .before .before .before .before .before .before .before .before .before .before .before .before .before .before .before .before .before .before .before .before .before .before .before .before .before .before .before .before .before .before .before .before .before .before .before .before .args in
-    files-put (now (a .coords)) (now (a .corners)) (now (a .pairing)) (now (a .order)) (now (a .heights)) (now (a .names)) (now (a .points)) (now (a .ends)) (now (a .marks)) (now (a .ring)) (now (a .output)) (c .before .before .before .before .before .before .before .before .before .before .before .before .before .before .before .before .before .before .before .before .before .before .before .before .before .before .before .before .before .before .before .before .before .before .layers-test .result) (c .before .before .before .before .before .before .before .before .before .before .before .before .before .before .before .before .before .before .before .before .before .before .before .before .before .before .before .before .before .before .before .before .before .before .layers-test .ensures) (c .before .before .before .before .before .before .before .before .before .before .before .before .before .before .before .before .before .before .before .before .before .before .before .before .before .before .before .before .before .before .before .before .enum-told .given .1) (c .before .before .before .before .before .before .before .before .before .before .before .before .before .before .before .before .before .before .before .before .before .before .before .before .put-file .ensures .0) (c .before .before .before .before .before .before .before .before .before .before .before .before .before .before .before .before .before .before .before .before .before .before .before .before .put-file .ensures .1) (c .before .before .before .before .before .before .before .before .before .clear-work .ensures)
+    let a = c .before .before .before .before .before .before .before .before .before .before .before .before .before .before .before .before .before .before .before .before .before .before .before .before .before .before .before .before .before .before .before .before .before .before .before .before .before .before .before .before .before .before .before .before .before .before .args in
+    files-put (now (a .coords)) (now (a .corners)) (now (a .pairing)) (now (a .order)) (now (a .heights)) (now (a .names)) (now (a .points)) (now (a .ends)) (now (a .marks)) (now (a .ring)) (now (a .output)) (c .before .before .before .before .before .before .before .before .before .before .before .before .before .before .before .before .before .before .before .before .before .before .before .before .before .before .before .before .before .before .before .before .before .before .before .before .before .layers-test .result) (c .before .before .before .before .before .before .before .before .before .before .before .before .before .before .before .before .before .before .before .before .before .before .before .before .before .before .before .before .before .before .before .before .before .before .before .before .before .layers-test .ensures) (c .before .before .before .before .before .before .before .before .before .before .before .before .before .before .before .before .before .before .before .before .before .before .before .before .before .before .before .before .before .before .before .before .before .before .before .enum-told .given .1) (c .before .before .before .before .before .before .before .before .before .before .before .before .before .before .before .before .before .before .before .before .before .before .before .before .before .before .put-file .ensures .0) (c .before .before .before .before .before .before .before .before .before .before .before .before .before .before .before .before .before .before .before .before .before .before .before .before .before .before .put-file .ensures .1) (c .before .before .before .before .before .before .before .before .before .clear-work .ensures)
 
 pub all-layers-spec : {M : Type 1} → statement M
 all-layers-spec =

@@ -1,80 +1,58 @@
 -- `internal::write_file` meets its contract.
-use Prim.Native.Nat.{_-_}
-use native.Mathlib.Omega.{arith}
-use denote.Ref.{now}
-use lib.ListN.{length}
 use mir.Syntax.{w32}
 use mir.ValLaws.{toZ-ofZ}
-use Rattle.layers.specs.Works.{Works}
-use Rattle.layers.proofs.Passes.{Wrote, number-room, wrote-start, wrote-room, wrote-next, wrote-end, wrote-size, works-none, works-more, works-long, held-is, held-listed}
+use Rattle.layers.specs.SweepLaws.{climbing}
+use Rattle.layers.proofs.Passes.{works-begun, works-more, held-listed}
+use Rattle.layers.proofs.Levelling.{right-ranged, ready-held, ready-more}
+use borrow.Author.Needs.{needs}
 use Rattle.layers.proofs.internal.write_file.Statement.{statement}
 use Rattle.layers.proofs.internal.write_file.Tie as tie
 
-abbrev Inv-loop : tie.InvT-loop
-Inv-loop coords corners pairing heights low count names₀ points₀ ends₀ marks₀ output₀ p₀ k₀ names points ends marks output p k = Wrote coords corners pairing heights count output₀ p₀ output p k × Works (length corners) names₀ points₀ ends₀ marks₀ names points ends marks
+slice-aggregate-begin : tie.Need-slice-aggregate-begin
+slice-aggregate-begin c = search needs
 
-abbrev μ-loop : tie.MeasureT-loop
-μ-loop coords corners pairing heights low count names₀ points₀ ends₀ marks₀ output₀ p₀ k₀ names points ends marks output p k = count - k
+begin-requires : tie.Need-begin-requires
+begin-requires c κs = let s = c .before .before .before .before .before .before .before .before .before .before in (right-ranged (s .pre .0 .right), (climbing (held-listed (s .pre .0 .listed) (toZ-ofZ w32 (s .args .low) (s .fits .low))), (s .pre .0 .long .marks-long, s .pre .0 .ring-long, s .pre .0 .listed .few)))
 
-write-number-requires : tie.Need-write-number-requires Inv-loop μ-loop
-write-number-requires c κs = number-room _ _ _ _ _ (c .before .before .before .before .before .before .before .pre .1 .1 .0) (now (c .before .before .before .before .before .before .before .args .output)) (c .before .before .before .before .before .before .before .pre .1 .1 .1)
+slice-aggregate-write-layers : tie.Need-slice-aggregate-write-layers
+slice-aggregate-write-layers c = search needs
 
-loop-holds : tie.Need-loop-holds Inv-loop μ-loop
-loop-holds c = (wrote-start _ _ _ _ _ (c .before .before .before .before .before .before .before .before .before .before .pre .1 .1 .0) _ (c .before .before .before .before .before .before .before .before .before .before .pre .1 .1 .1) (c .before .before .write-number .ensures), works-none)
+write-layers-requires : tie.Need-write-layers-requires
+write-layers-requires c κs = let s = c .before .before .before .before .before .before .before .before .before .before .before .before .before .before .before .before .before .before .before .before .before .before .before in (ready-more (ready-held (toZ-ofZ w32 (s .args .low) (s .fits .low)) (s .pre .0)) (works-begun (c .before .before .before .before .before .before .before .before .before .before .before .before .begin .ensures .1)), (c .before .before .before .before .before .before .before .before .before .before .before .before .begin .ensures .0, s .pre .1))
 
-taken-height-requires : tie.Need-taken-height-requires Inv-loop μ-loop
-taken-height-requires c κs = held-listed (c .before .before .before .before .before .before .before .before .before .before .before .before .pre .1 .1 .0) (toZ-ofZ w32 (c .before .before .before .before .before .before .before .before .before .before .before .before .args .low) (c .before .before .before .before .before .before .before .before .before .before .before .before .fits .low)) .each _ (c .loop-test .taken)
+same-length : tie.Need-same-length
+same-length c = search needs
 
-layer-into-requires : tie.Need-layer-into-requires Inv-loop μ-loop
-layer-into-requires c κs = (c .before .before .before .before .before .before .before .before .before .before .before .before .before .before .before .before .before .pre .0, works-long (c .before .before .before .before .before .before .before .before .before .before .before .before .before .before .before .before .before .pre .1 .0) (c .before .before .before .before .before .before .loop .inv .1))
+same-length-2 : tie.Need-same-length-2
+same-length-2 c = search needs
 
-write-layer-requires : tie.Need-write-layer-requires Inv-loop μ-loop
-write-layer-requires c κs = (c .before .before .before .before .before .before .before .before .before .before .layer-into .ensures .0 .tables, wrote-room _ _ _ _ _ (held-listed (c .before .before .before .before .before .before .before .before .before .before .before .before .before .before .before .before .before .before .before .before .before .before .before .before .before .before .before .before .pre .1 .1 .0) (toZ-ofZ w32 (c .before .before .before .before .before .before .before .before .before .before .before .before .before .before .before .before .before .before .before .before .before .before .before .before .before .before .before .before .args .low) (c .before .before .before .before .before .before .before .before .before .before .before .before .before .before .before .before .before .before .before .before .before .before .before .before .before .before .before .before .fits .low))) (c .before .before .before .before .before .before .before .before .before .before .before .before .before .before .before .before .before .loop .inv .0) (c .before .before .before .before .before .before .before .before .before .before .before .before .before .before .before .before .loop-test .taken) (held-is (c .before .before .before .before .before .before .before .before .before .before .before .before .before .before .before .taken-height .ok) (c .before .before .before .before .before .before .before .before .before .before .before .before .before .before .before .taken-height .ensures)) (c .before .before .before .before .before .before .before .before .before .before .layer-into .ensures .0))
+same-length-3 : tie.Need-same-length-3
+same-length-3 c = search needs
 
-add-i : tie.Need-add-i Inv-loop μ-loop
-add-i c = record { fits = omega (arith, c .before .before .before .before .before .before .before .before .before .before .before .before .before .before .before .before .before .before .before .loop-test .taken, c .before .before .before .before .before .before .before .before .before .before .before .before .before .before .before .before .before .before .before .before .before .before .before .before .before .before .before .before .before .before .before .pre .1 .1 .0 .few) }
+same-length-4 : tie.Need-same-length-4
+same-length-4 c = search needs
 
-loop-less : tie.Need-loop-less Inv-loop μ-loop
-loop-less c = omega (arith, c .before .before .before .before .before .before .before .before .before .before .before .before .before .before .before .before .before .before .before .loop-test .taken)
+same-length-5 : tie.Need-same-length-5
+same-length-5 c = search needs
 
-loop-again : tie.Need-loop-again Inv-loop μ-loop
-loop-again c = (wrote-next _ _ _ _ _ (held-listed (c .before .before .before .before .before .before .before .before .before .before .before .before .before .before .before .before .before .before .before .before .before .before .before .before .before .before .before .before .before .before .before .pre .1 .1 .0) (toZ-ofZ w32 (c .before .before .before .before .before .before .before .before .before .before .before .before .before .before .before .before .before .before .before .before .before .before .before .before .before .before .before .before .before .before .before .args .low) (c .before .before .before .before .before .before .before .before .before .before .before .before .before .before .before .before .before .before .before .before .before .before .before .before .before .before .before .before .before .before .before .fits .low))) (c .before .before .before .before .before .before .before .before .before .before .before .before .before .before .before .before .before .before .before .before .loop .inv .0) (c .before .before .before .before .before .before .before .before .before .before .before .before .before .before .before .before .before .before .before .loop-test .taken) (held-is (c .before .before .before .before .before .before .before .before .before .before .before .before .before .before .before .before .before .before .taken-height .ok) (c .before .before .before .before .before .before .before .before .before .before .before .before .before .before .before .before .before .before .taken-height .ensures)) (c .before .before .before .before .before .before .before .before .before .before .before .before .before .layer-into .ensures .0) (c .before .before .write-layer .ensures), works-more (c .before .before .before .before .before .before .before .before .before .before .before .before .before .before .before .before .before .before .before .before .loop .inv .1) (c .before .before .before .before .before .before .before .before .before .before .before .before .before .layer-into .ensures .1))
+same-length-6 : tie.Need-same-length-6
+same-length-6 c = search needs
 
-same-length : tie.Need-same-length Inv-loop μ-loop
-same-length c = c .before .loop .inv .1 .names-spent .same-length
-
-same-length-2 : tie.Need-same-length-2 Inv-loop μ-loop
-same-length-2 c = c .before .loop .inv .1 .points-spent .same-length
-
-same-length-3 : tie.Need-same-length-3 Inv-loop μ-loop
-same-length-3 c = c .before .loop .inv .1 .ends-spent .same-length
-
-same-length-4 : tie.Need-same-length-4 Inv-loop μ-loop
-same-length-4 c = c .before .loop .inv .1 .marks-spent .same-length
-
-same-length-5 : tie.Need-same-length-5 Inv-loop μ-loop
-same-length-5 c = wrote-size _ _ _ _ _ (c .before .before .before .before .before .before .before .before .before .before .before .before .pre .1 .1 .0) _ (c .before .before .before .before .before .before .before .before .before .before .before .before .pre .1 .1 .1) (c .before .before .before .before .write-number .ensures) (c .before .loop .inv .0)
-
-returns : tie.Need-returns Inv-loop μ-loop
-returns c = (wrote-end _ _ _ _ _ (c .before .before .before .before .before .before .before .before .before .before .before .before .pre .1 .1 .0) _ (c .before .before .before .before .before .before .before .before .before .before .before .before .pre .1 .1 .1) (c .before .before .before .before .write-number .ensures) (c .before .loop .inv .0) (c .loop-test .left), c .before .loop .inv .1)
+returns : tie.Need-returns
+returns c = (c .before .before .before .before .before .before .before .before .before .before .before .write-layers .ensures .0, works-more (works-begun (c .before .before .before .before .before .before .before .before .before .before .before .before .before .before .before .before .before .before .before .before .before .before .before .before .begin .ensures .1)) (c .before .before .before .before .before .before .before .before .before .before .before .write-layers .ensures .1))
 
 pub write-file-spec : {M : Type 1} → statement M
 write-file-spec =
     tie.close
     (tie.spec
-    Inv-loop
-    μ-loop
-    write-number-requires
-    loop-holds
-    taken-height-requires
-    layer-into-requires
-    write-layer-requires
-    add-i
-    loop-less
-    loop-again
+    slice-aggregate-begin
+    begin-requires
+    slice-aggregate-write-layers
+    write-layers-requires
     same-length
     same-length-2
     same-length-3
     same-length-4
     same-length-5
+    same-length-6
     returns)

@@ -1,0 +1,155 @@
+-- Laws of the crossings of all heights: counted by heights or by corners they are as many.
+use Prim.Native.Nat.{ℕ, zero, suc, _+_, _-_, _≤_, _<_, min}
+use mathlib.Core.Path.{_≡_, refl, sym, ap, _∙_, subst}
+use mathlib.Core.Bool.{Bool, true, false, not, cond, _&&_}
+use mathlib.Core.List.{List}
+use mathlib.Core.Logic.{⊎-elim}
+use native.Mathlib.Omega.{arith}
+use native.Mathlib.Numerals.{add-one}
+use borrow.Author.Tests.{not-true}
+use lib.ListN.{length, getD}
+use lib.IntN.{ℤ}
+use lib.Signed.{_<ℤ_, ltZ}
+use Rattle.laws.specs.Booleans.{clash, and-parts, split-lt}
+use Rattle.laws.specs.Integers.{le-in, lt-in}
+use Rattle.laws.specs.Count.{count as tally}
+use Rattle.mesh.specs.Corners.{startOf, endOf, zOf}
+use Rattle.section.specs.Section.{below, rising}
+use Rattle.section.specs.Layers.{Distinct}
+use Rattle.section.specs.RingLaws.{pigeonhole}
+use Rattle.active.specs.Lists.{CornerSet, activeAt}
+use Rattle.active.specs.Levels.{FirstAbove}
+use Rattle.active.specs.LevelLaws.{lt-yes, lt-no, above-later}
+use Rattle.active.specs.Totals.{sumTo, RiseCount, RiseTotal}
+
+-- ---- sums
+
+pub sum-le : (m : ℕ) (f g : ℕ → ℕ) → ((k : ℕ) → k < m → f k ≤ g k) → sumTo m f ≤ sumTo m g
+unfolding sumTo
+sum-le zero f g h = omega arith
+sum-le (suc m) f g h = omega (arith, h m (omega arith), sum-le m f g (λ k l. h k (omega arith)))
+
+sum-none : (m : ℕ) → sumTo m (λ k. 0) ≡ 0
+unfolding sumTo
+sum-none zero = refl
+sum-none (suc m) = omega (arith, sum-none m)
+
+sum-both : (m : ℕ) (f g : ℕ → ℕ) → sumTo m (λ k. f k + g k) ≡ sumTo m f + sumTo m g
+unfolding sumTo
+sum-both zero f g = omega arith
+sum-both (suc m) f g = omega (arith, sum-both m f g)
+
+sum-ticks : (m : ℕ) (t : ℕ → Bool) → sumTo m (λ k. cond (t k) 1 0) ≡ tally m t
+unfolding sumTo tally
+sum-ticks zero t = refl
+sum-ticks (suc m) t = ap (λ (x : ℕ). cond (t m) 1 0 + x) (sum-ticks m t)
+
+-- counted by heights or by corners
+pub sum-across : (m n : ℕ) (p : ℕ → ℕ → Bool) → sumTo m (λ k. tally n (p k)) ≡ sumTo n (λ c. tally m (λ k. p k c))
+unfolding sumTo tally
+sum-across m zero p = sum-none m
+sum-across m (suc n) p =
+    sum-both m (λ k. cond (p k n) 1 0) (λ k. tally n (p k))
+    ∙ (λ i. sum-ticks m (λ k. p k n) i + sum-across m n p i)
+
+-- ---- distinct members of a set are no more than it has
+
+rank-less : (p : CornerSet) (x y : ℕ) → x < y → p x ≡ true → tally x p < tally y p
+unfolding tally
+rank-less p x zero l e = absurd (omega arith)
+rank-less p x (suc y) l e = ⊎-elim (λ h. by (p y) (rank-less p x y h e)) (λ h. let q : x ≡ y = omega arith in last (p y) (ap p (sym q) ∙ e) (ap (λ (k : ℕ). tally k p) q)) (split-lt x y)
+  where
+    by : (b : Bool) → tally x p < tally y p → tally x p < cond b 1 0 + tally y p
+    by true h = omega arith
+    by false h = omega arith
+
+    last : (b : Bool) → b ≡ true → tally x p ≡ tally y p → tally x p < cond b 1 0 + tally y p
+    last true q h = omega arith
+    last false q h = absurd (clash q refl)
+
+pub distinct-tally : (p : CornerSet) (n : ℕ) (l : List ℕ) → Distinct l → ((i : ℕ) → i < length l → (getD l i 0 < n) × (p (getD l i 0) ≡ true)) → length l ≤ tally n p
+distinct-tally p n l once all = ⊎-elim (λ h. absurd (more h)) (λ h. h) (split-lt (tally n p) (length l))
+  where
+    more : tally n p < length l → ⊥
+    more m =
+        let r = pigeonhole (tally n p) (λ i. tally (getD l i 0) p) (λ i h. let a = all i (omega arith) in rank-less p (getD l i 0) n (a .0) (a .1)) in
+        let a : r .first < length l = omega (arith, r .order, r .bound) in
+        let b : r .second < length l = omega (arith, r .bound) in
+        once (r .first) (r .second) (r .order) b (same (getD l (r .first) 0) (getD l (r .second) 0) (all (r .first) a .1) (all (r .second) b .1) (r .equal))
+      where
+        same : (x y : ℕ) → p x ≡ true → p y ≡ true → tally x p ≡ tally y p → x ≡ y
+        same x y e f q = ⊎-elim
+            (λ h. absurd (omega (arith, rank-less p x y h e)))
+            (λ h. ⊎-elim (λ k. absurd (omega (arith, rank-less p y x k f))) (λ k. omega arith) (split-lt y x))
+            (split-lt x y)
+
+-- ---- an edge
+
+-- a test that passes from a to before b only
+tally-range : (m a b : ℕ) (t : ℕ → Bool) → ((k : ℕ) → k < m → t k ≡ true → (a ≤ k) × (k < b)) → tally m t ≤ min m b - a
+unfolding tally
+tally-range zero a b t h = omega arith
+tally-range (suc m) a b t h = by (t m) (h m (omega arith)) (tally-range m a b t (λ k l. h k (omega arith)))
+  where
+    by : (c : Bool) → (c ≡ true → (a ≤ m) × (m < b)) → tally m t ≤ min m b - a → cond c 1 0 + tally m t ≤ min (suc m) b - a
+    by true f g = let q = f refl in omega (arith, q .0, q .1)
+    by false f g = omega arith
+
+module _ (hs : ℕ → ℤ) (count : ℕ) (z y : ℤ) where
+  pub count-flat : ltZ z y ≡ false → RiseCount hs count z y 0
+  count-flat e =
+      record {
+        most = omega (arith, tally-range count 0 0 (λ k. ltZ z (hs k) && not (ltZ y (hs k))) (λ k l t. absurd (none k t)));
+        few = omega arith;
+      }
+    where
+      none : (k : ℕ) → (ltZ z (hs k) && not (ltZ y (hs k))) ≡ true → ⊥
+      none k t =
+          let p = and-parts (ltZ z (hs k)) (not (ltZ y (hs k))) t in
+          omega (arith, le-in (lt-no z y e), lt-in (lt-yes z (hs k) (p .0)), le-in (lt-no y (hs k) (not-true _ (p .1))))
+
+  module _ (e : ltZ z y ≡ true) {a b : ℕ} (f : FirstAbove hs count z a) (g : FirstAbove hs count y b) (small : count ≤ 4096) (rises : (i j : ℕ) → i < j → j < count → hs i <ℤ hs j) where
+    -- the first above z is not after the first above y
+    pub firsts-rise : a ≤ b
+    firsts-rise = ⊎-elim
+        (λ h. absurd (omega (arith, le-in (lt-no z (hs b) (f .before b h)), lt-in (lt-yes y (hs b) (g .there (omega (arith, f .upto)))), lt-in (lt-yes z y e))))
+        (λ h. h)
+        (split-lt b a)
+
+    pub count-rises : RiseCount hs count z y (b - a)
+    count-rises =
+        record {
+          most = let r = tally-range count a b (λ k. ltZ z (hs k) && not (ltZ y (hs k))) between in omega (arith, g .upto);
+          few = omega (arith, g .upto);
+        }
+      where
+        between : (k : ℕ) → k < count → (ltZ z (hs k) && not (ltZ y (hs k))) ≡ true → (a ≤ k) × (k < b)
+        between k l t =
+            let p = and-parts (ltZ z (hs k)) (not (ltZ y (hs k))) t in (
+              ⊎-elim (λ h. absurd (clash (p .0) (f .before k h))) (λ h. h) (split-lt k a),
+              ⊎-elim (λ h. h) (λ h. absurd (after k l h (not-true _ (p .1)))) (split-lt k b),
+            )
+          where
+            after : (k : ℕ) → k < count → b ≤ k → ltZ y (hs k) ≡ false → ⊥
+            after k l h q = clash (g .there (omega arith)) (above-later hs count rises y b k h l q)
+
+-- ---- all corners
+
+module _ (coords : List ℤ) (corners : List ℕ) (hs : ℕ → ℤ) (count : ℕ) where
+  pub total-start : RiseTotal coords corners hs count 0 0
+  unfolding sumTo
+  total-start = record { upto = omega arith; most = omega arith; few = omega arith }
+
+  pub total-more : {c total r : ℕ} → RiseTotal coords corners hs count c total → c < length corners → RiseCount hs count (zOf coords (startOf corners c)) (zOf coords (endOf corners c)) r
+      → RiseTotal coords corners hs count (c + 1) (total + r)
+  unfolding sumTo rising below
+  total-more {c} {total} {r} t l e =
+      subst (λ (k : ℕ). RiseTotal coords corners hs count k (total + r)) (sym (add-one c))
+      (record { upto = l; most = omega (arith, t .most, e .most); few = omega (arith, t .few, e .few) })
+
+  -- all heights have no more crossings than that
+  pub total-end : {c total : ℕ} → RiseTotal coords corners hs count c total → length corners ≤ c → sumTo count (λ k. tally (length corners) (activeAt coords corners (hs k))) ≤ total
+  total-end {c} {total} t l =
+      let e : c ≡ length corners = omega (arith, t .upto) in
+      let m : sumTo (length corners) (λ d. tally count (λ k. activeAt coords corners (hs k) d)) ≤ total = subst (λ (k : ℕ). sumTo k (λ d. tally count (λ j. activeAt coords corners (hs j) d)) ≤ total) e (t .most) in
+      omega (arith, m, sum-across count (length corners) (λ k. activeAt coords corners (hs k)))

@@ -1,0 +1,32 @@
+-- `internal::begin` meets its contract.
+use denote.Ref.{now}
+use mir.Syntax.{w32}
+use mir.ValLaws.{toZ-ofZ}
+use Rattle.active.specs.LevelLaws.{climbing-held}
+use Rattle.layers.proofs.Levelling.{begun-sweep, begun-spent}
+use borrow.Author.Needs.{needs}
+use Rattle.layers.proofs.internal.begin.Statement.{statement}
+use Rattle.layers.proofs.internal.begin.Tie as tie
+
+fill-requires : tie.Need-fill-requires
+fill-requires c κs = search needs
+
+deal-requires : tie.Need-deal-requires
+deal-requires c κs = let s = c .before .before .before .before .before .before .before .before .before .before in (s .pre .0 .named, (climbing-held (toZ-ofZ w32 (s .args .low) (s .fits .low)) (s .pre .1 .0), (s .pre .1 .1 .1, s .pre .1 .1 .2)))
+
+same-length : tie.Need-same-length
+same-length c = search needs
+
+same-length-2 : tie.Need-same-length-2
+same-length-2 c = search needs
+
+same-length-3 : tie.Need-same-length-3
+same-length-3 c = search needs
+
+returns : tie.Need-returns
+returns c = let s = c .before .before .before .before .before .before .before .before .before .before .before .before .before .before .before in (begun-sweep (s .pre .0) (now (s .args .heights)) (toZ-ofZ w32 (s .args .low) (s .fits .low)) (now (s .args .marks)) (now (s .args .heads)) (s .pre .1 .1 .0) (s .pre .1 .1 .1) (s .pre .1 .1 .2) (c .before .before .before .before .before .before .before .before .before .fill .ensures) (c .before .before .before .before .deal .ensures) (c .before .before .before .before .deal .kept .1 .1 .1 .1 .1 .1 .0), begun-spent (s .pre .0) (now (s .args .heights)) (toZ-ofZ w32 (s .args .low) (s .fits .low)) (now (s .args .marks)) (now (s .args .heads)) (s .pre .1 .1 .0) (s .pre .1 .1 .1) (s .pre .1 .1 .2) (c .before .before .before .before .before .before .before .before .before .fill .ensures) (c .before .before .before .before .deal .ensures) (c .before .before .before .before .deal .kept .1 .1 .1 .1 .1 .1 .0))
+
+pub begin-spec : {M : Type 1} → statement M
+begin-spec =
+    tie.close
+    (tie.spec fill-requires deal-requires same-length same-length-2 same-length-3 returns)

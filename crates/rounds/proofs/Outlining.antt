@@ -1,0 +1,251 @@
+-- The pass along the list of the crossings: what the tables hold when crossing c is reached, and after the last.
+use Prim.Native.Nat.{ℕ, zero, suc, _+_, _≤_, _<_}
+use mathlib.Core.Path.{_≡_, refl, sym, ap, _∙_, subst}
+use mathlib.Core.Bool.{Bool, true, false, not}
+use mathlib.Core.List.{List, [], _∷_, _++_}
+use mathlib.Core.Logic.{⊎-elim}
+use native.Mathlib.Omega.{arith}
+use lib.ListN.{length, getD, set, length-append}
+use lib.Seq.{sets}
+use lib.IntN.{ℤ}
+use Rattle.laws.specs.Booleans.{clash, is-true, is-false, and-parts, split-lt}
+use Rattle.laws.specs.Tables.{overwrite}
+use Rattle.laws.specs.TableLaws.{length-snoc, overwrite-none, length-overwrite, overwrite-snoc, overwrite-more}
+use Rattle.section.specs.Section.{below, rising, successor, Among, Right}
+use Rattle.section.specs.Rings.{Ring}
+use Rattle.section.specs.Contours.{member, contours, namesOf as flat, traceTo, trace, endsFrom, endsOf}
+use Rattle.section.specs.OrbitLaws.{length-orbit}
+use Rattle.section.specs.LayerLaws.{names-snoc, Leads, leads-on, starting, Begun, begun-start, begun-skip, ring, contour, begun-ring, ring-room, begun-few}
+use Rattle.active.specs.Lists.{nextIn}
+use Rattle.active.specs.ListLaws.{next-upto, next-found, next-between}
+use Rattle.rounds.specs.Rounds.{roundOf, stamped, Roundable, Rounded, Outlinable, Outlined, Marked}
+use Rattle.rounds.proofs.Stamps.{length-stamped, stamped-join, stamped-other, stamped-same}
+use Rattle.rounds.proofs.Walking.{round-is}
+
+-- ---- ends
+
+ends-snoc : (k : ℕ) (rs : List (List ℕ)) (r : List ℕ) → endsFrom k (rs ++ (r ∷ [])) ≡ endsFrom k rs ++ ((k + length (flat rs) + length r) ∷ [])
+unfolding endsFrom
+ends-snoc k [] r = let e : k + length r ≡ k + 0 + length r = omega arith in ap (λ (x : ℕ). x ∷ []) e
+ends-snoc k (q ∷ rs) r =
+    ap (λ (l : List ℕ). (k + length q) ∷ l)
+    (ends-snoc (k + length q) rs r
+    ∙ (let e : k + length q + length (flat rs) + length r ≡ k + length (q ++ flat rs) + length r = omega (arith, length-append q (flat rs)) in
+    ap (λ (x : ℕ). endsFrom (k + length q) rs ++ (x ∷ [])) e))
+
+length-ends : (k : ℕ) (rs : List (List ℕ)) → length (endsFrom k rs) ≡ length rs
+unfolding endsFrom
+length-ends k [] = refl
+length-ends k (r ∷ rs) = ap suc (length-ends (k + length r) rs)
+
+-- ---- corners that do not rise start no contour
+
+module _ (rises : ℕ → Bool) (next : ℕ → ℕ) (n : ℕ) (leads : Leads rises next n) (rs : List (List ℕ)) where
+  begun-gap : (c m : ℕ) → c ≤ m → Begun rises next n leads c rs → ((x : ℕ) → c ≤ x → x < m → rises x ≡ false) → Begun rises next n leads m rs
+  begun-gap c zero l b none = let e : c ≡ 0 = omega arith in subst (λ (k : ℕ). Begun rises next n leads k rs) e b
+  begun-gap c (suc m) l b none = ⊎-elim
+      (λ h. let e : rises m ≡ false = none m (omega arith) (omega arith) in begun-skip rises next n leads m rs (begun-gap c m (omega arith) b (λ x a z. none x a (omega arith))) (simp e))
+      (λ h. let e : c ≡ suc m = omega arith in subst (λ (k : ℕ). Begun rises next n leads k rs) e b)
+      (split-lt c (suc m))
+
+-- ---- the pass
+
+module _ (coords : List ℤ) (corners pairing : List ℕ) (h : ℤ) where
+  abbrev rises : ℕ → Bool
+  rises = rising (below coords h) corners
+
+  abbrev next : ℕ → ℕ
+  next = successor (below coords h) corners pairing
+
+  abbrev leads : Right coords corners pairing → Leads (rising (below coords h) corners) (successor (below coords h) corners pairing) (length corners)
+  leads right = leads-on (below coords h) corners pairing (right .linked)
+
+  pub record Outlining (stamp : ℕ) (ring : List ℕ) (head : ℕ) (names₀ ends₀ marks₀ names ends marks : List ℕ) (c k j : ℕ) : Type 0 where
+    pub given : Outlinable coords corners pairing h stamp ring head names₀ ends₀ marks₀
+    pub rings : List (List ℕ)
+    pub begun : Begun (rising (below coords h) corners) (successor (below coords h) corners pairing) (length corners) (leads-on (below coords h) corners pairing (given .right .linked)) c rings
+    pub upto : c ≤ length corners
+    pub here : c < length corners → rising (below coords h) corners c ≡ true
+    pub at-k : k ≡ length (flat rings)
+    pub at-j : j ≡ length rings
+    pub names-is : names ≡ overwrite (flat rings) names₀
+    pub ends-is : ends ≡ overwrite (endsOf rings) ends₀
+    pub marks-is : marks ≡ stamped stamp marks₀ (flat rings)
+
+  pub outlining-start : (stamp : ℕ) (ring : List ℕ) (head : ℕ) (names ends marks : List ℕ) → Outlinable coords corners pairing h stamp ring head names ends marks
+      → Outlining stamp ring head names ends marks names ends marks head 0 0
+  outlining-start stamp ring head names ends marks g =
+      let e : head ≡ nextIn rises (length corners) 0 = g .stands .head-is in
+      record {
+        given = g;
+        rings = [];
+        begun = begun-gap rises next (length corners) (leads (g .right)) [] 0 head (omega arith) (begun-start rises next (length corners) (leads (g .right)))
+            (λ x l m. next-between rises (length corners) 0 x l (omega (arith, e)));
+        upto = omega (arith, e, next-upto rises (length corners) 0);
+        here = λ l. ap rises e ∙ next-found rises (length corners) 0 (omega (arith, e)) .1;
+        at-k = refl;
+        at-j = refl;
+        names-is = sym (overwrite-none names);
+        ends-is = unfold endsFrom in (sym (overwrite-none ends));
+        marks-is = refl;
+      }
+
+  module _ (stamp : ℕ) (links : List ℕ) (head : ℕ) (names₀ ends₀ marks₀ names ends marks : List ℕ) (c k j : ℕ) (w : Outlining stamp links head names₀ ends₀ marks₀ names ends marks c k j) where
+    abbrev n : ℕ
+    n = length corners
+
+    abbrev led : Leads (rising (below coords h) corners) (successor (below coords h) corners pairing) (length corners)
+    led = leads (w .given .right)
+
+    k-few : k ≤ n
+    k-few = omega (arith, w .at-k, begun-few rises next n led c (w .rings) (w .begun))
+
+    pub names-length : length names ≡ length names₀
+    names-length = ap length (w .names-is) ∙ length-overwrite (flat (w .rings)) names₀ (omega (arith, k-few, w .at-k, w .given .names-room))
+
+    pub ends-length : length ends ≡ length ends₀
+    ends-length = ap length (w .ends-is) ∙ length-overwrite (endsOf (w .rings)) ends₀ (omega (arith, length-ends 0 (w .rings), w .begun .few, w .upto, w .given .ends-room))
+
+    pub marks-length : length marks ≡ length marks₀
+    marks-length = ap length (w .marks-is) ∙ length-stamped stamp marks₀ (flat (w .rings))
+
+    module _ (l : c < length corners) where
+      pub c-small : c < 196608
+      c-small = omega (arith, w .given .right .named .whole .few)
+
+      pub c-inside : (c < length links) × (c < length marks)
+      c-inside = (omega (arith, w .given .ring-room), omega (arith, marks-length, w .given .marks-room))
+
+      pub j-inside : j < length ends
+      j-inside = omega (arith, w .at-j, w .begun .few, ends-length, w .given .ends-room)
+
+      pub j-small : j < 196608
+      j-small = omega (arith, w .at-j, w .begun .few, c-small)
+
+      mark-here : getD marks c 0 ≡ getD (stamped stamp marks₀ (flat (w .rings))) c 0
+      mark-here = ap (λ (t : List ℕ). getD t c 0) (w .marks-is)
+
+      -- the next crossing of the list
+      module _ (d : ℕ) (ed : d ≡ getD links c 0) where
+        d-is : d ≡ nextIn rises n (c + 1)
+        d-is = ed ∙ w .given .stands .links-are c l (w .here l)
+
+        pub d-after : c < d
+        d-after = ⊎-elim (λ m. omega (arith, d-is, next-found rises n (c + 1) m .0)) (λ m. omega (arith, d-is)) (split-lt (nextIn rises n (c + 1)) n)
+
+        pub d-upto : d ≤ n
+        d-upto = omega (arith, d-is, next-upto rises n (c + 1))
+
+        d-here : d < n → rises d ≡ true
+        d-here m = ap rises d-is ∙ next-found rises n (c + 1) (omega (arith, d-is)) .1
+
+        over : (rs : List (List ℕ)) → Begun rises next n led (suc c) rs → Begun rises next n led d rs
+        over rs b = begun-gap rises next n led rs (suc c) d d-after b (λ x a z. next-between rises n (c + 1) x (omega arith) (omega (arith, d-is)))
+
+        -- a contour has c already
+        pub outlining-skip : getD marks c 0 ≡ stamp → Outlining stamp links head names₀ ends₀ marks₀ names ends marks d k j
+        outlining-skip e =
+            record {
+              given = w .given;
+              rings = w .rings;
+              begun = over (w .rings) (begun-skip rises next n led c (w .rings) (w .begun) no-start);
+              upto = d-upto;
+              here = d-here;
+              at-k = w .at-k;
+              at-j = w .at-j;
+              names-is = w .names-is;
+              ends-is = w .ends-is;
+              marks-is = w .marks-is;
+            }
+          where
+            old : member c (flat (w .rings)) ≡ true
+            old = is-true _ (λ m. let z = w .given .unstamped c l in omega (arith, sym (stamped-other stamp (flat (w .rings)) marks₀ c m) ∙ sym mark-here ∙ e))
+
+            no-start : starting rises next n led (w .rings) c ≡ false
+            no-start = is-false _ (λ s. clash (and-parts (rises c) (not (member c (flat (w .rings)))) s .1) (ap not old))
+
+        -- a contour starts at c
+        module _ (e : getD marks c 0 ≡ stamp → ⊥) where
+          unused : member c (flat (w .rings)) ≡ false
+          unused = is-false _ (λ m. e (mark-here ∙ stamped-same stamp (flat (w .rings)) marks₀ c (omega (arith, w .given .marks-room)) m))
+
+          crossing : Among (length corners) (rising (below coords h) corners) c
+          crossing = record { below = l; upward = w .here l }
+
+          abbrev r : Ring (successor (below coords h) corners pairing) (length corners) c
+          r = ring rises next n led c (w .rings) (w .begun) crossing unused
+
+          abbrev o : List ℕ
+          o = contour rises next n led c (w .rings) (w .begun) crossing unused
+
+          round-same : roundOf (below coords h) corners pairing c ≡ o
+          round-same = round-is (below coords h) corners pairing c r
+
+          length-round : length (roundOf (below coords h) corners pairing c) ≡ r .steps
+          length-round = ap length round-same ∙ length-orbit next (r .steps) c
+
+          room : k + r .steps ≤ n
+          room = omega (arith, w .at-k, ring-room rises next n led c (w .rings) (w .begun) crossing unused)
+
+          pub roundable : Roundable coords corners pairing h names marks c k
+          roundable =
+              record {
+                right = w .given .right;
+                crosses = crossing;
+                marks-room = omega (arith, marks-length, w .given .marks-room);
+                room = omega (arith, room, length-round, names-length, w .given .names-room);
+              }
+
+          module _ {names₁ marks₁ : List ℕ} {k₁ : ℕ} (z : Rounded (below coords h) corners pairing stamp c k names marks names₁ marks₁ k₁) where
+            pub end-few : k₁ ≤ n
+            end-few = omega (arith, z .end-is, room, length-round)
+
+            all : flat (w .rings ++ (o ∷ [])) ≡ flat (w .rings) ++ o
+            all = names-snoc (w .rings) o
+
+            len : k₁ ≡ 0 + length (flat (w .rings)) + length o
+            len = omega (arith, z .end-is, ap length round-same, w .at-k)
+
+            pub outlining-ring : Outlining stamp links head names₀ ends₀ marks₀ names₁ (set ends j k₁) marks₁ d k₁ (j + 1)
+            outlining-ring =
+                record {
+                  given = w .given;
+                  rings = w .rings ++ (o ∷ []);
+                  begun = over (w .rings ++ (o ∷ [])) (begun-ring rises next n led c (w .rings) (w .begun) crossing unused);
+                  upto = d-upto;
+                  here = d-here;
+                  at-k = omega (arith, len, ap length all, length-append (flat (w .rings)) o);
+                  at-j = omega (arith, w .at-j, length-snoc (w .rings) o);
+                  names-is = z .names-are ∙ (λ i. sets (w .names-is i) k (round-same i))
+                      ∙ overwrite-more o (flat (w .rings)) names₀ k (w .at-k) (omega (arith, room, length-orbit next (r .steps) c, w .given .names-room)) ∙ ap (λ (a : List ℕ). overwrite a names₀) (sym all);
+                  ends-is = (λ i. set (w .ends-is i) j (len i))
+                      ∙ overwrite-snoc (endsOf (w .rings)) ends₀ (0 + length (flat (w .rings)) + length o) j (w .at-j ∙ sym (length-ends 0 (w .rings))) (omega (arith, w .at-j, w .begun .few, w .given .ends-room))
+                      ∙ ap (λ (a : List ℕ). overwrite a ends₀) (sym (ends-snoc 0 (w .rings) o));
+                  marks-is = z .marks-are ∙ (λ i. stamped stamp (w .marks-is i) (round-same i)) ∙ sym (stamped-join stamp marks₀ (flat (w .rings)) o) ∙ ap (stamped stamp marks₀) (sym all);
+                }
+
+    -- after the last crossing
+    module _ (end : length corners ≤ c) where
+      trace-is : trace (below coords h) corners pairing ≡ contours (w .rings)
+      unfolding trace
+      trace-is = let e : c ≡ n = omega (arith, w .upto) in subst (λ (i : ℕ). traceTo rises next n i ≡ contours (w .rings)) e (w .begun .is)
+
+      pub outlined-end : {h₀ : ℤ} → h ≡ h₀ → Outlined coords corners pairing h₀ names₀ ends₀ names ends j k
+      outlined-end e =
+          subst (λ (z : ℤ). Outlined coords corners pairing z names₀ ends₀ names ends j k) e
+          (record { rings = w .rings; is = trace-is; j-is = w .at-j; k-is = w .at-k; names-are = w .names-is; ends-are = w .ends-is })
+
+    pub marked-end : Marked (length corners) stamp marks₀ marks
+    marked-end =
+        record {
+          kept = record { size = marks-length; past = λ i l. ap (λ (t : List ℕ). getD t i 0) (w .marks-is) ∙ stamped-other stamp (flat (w .rings)) marks₀ i (is-false _ (λ m. omega (arith, w .begun .only i m .below))) };
+          upto = λ i l. by i l (member i (flat (w .rings))) refl;
+        }
+      where
+        by : (i : ℕ) → i < n → (b : Bool) → member i (flat (w .rings)) ≡ b → getD marks i 0 ≤ stamp
+        by i l true m = omega (arith, ap (λ (t : List ℕ). getD t i 0) (w .marks-is), stamped-same stamp (flat (w .rings)) marks₀ i (omega (arith, w .given .marks-room)) m)
+        by i l false m = omega (arith, ap (λ (t : List ℕ). getD t i 0) (w .marks-is), stamped-other stamp (flat (w .rings)) marks₀ i m, w .given .unstamped i l)
+
+pub outlinable-held : {coords : List ℤ} {corners pairing : List ℕ} {h h′ : ℤ} {stamp : ℕ} {ring : List ℕ} {head : ℕ} {names ends marks : List ℕ} → h′ ≡ h
+    → Outlinable coords corners pairing h stamp ring head names ends marks → Outlinable coords corners pairing h′ stamp ring head names ends marks
+outlinable-held {coords} {corners} {pairing} {stamp = stamp} {ring} {head} {names} {ends} {marks} e = subst (λ (z : ℤ). Outlinable coords corners pairing z stamp ring head names ends marks) (sym e)

@@ -1,0 +1,2 @@
+-- The contours of a height from the list of its crossings.
+pub mod Rounds

@@ -1,0 +1,90 @@
+// Internal: contours followed by pairing and height, for a right mesh.
+ghost use mathlib.Core.Path.{_≡_};
+ghost use lib.ListN.{length};
+ghost use Rattle.section.specs.Section.{below, successor, Crossing, Right};
+ghost use Rattle.rounds.specs.Rounds.{Roundable, Rounded, Outlinable, Outlined, Marked};
+use crate::Counts;
+use active::internal::is_below;
+use mesh::internal::next_corner;
+use mesh::internal::wide;
+
+// The successor of crossing c: its paired corner falls, so that one of the two other corners of that triangle rises, by the third vertex.
+fn successor(coords: &[i32], corners: &[u32], pairing: &[u32], h: i32, c: usize) -> usize
+    requires { ⌜ Right (now coords) (now corners) (now pairing) ⌝ ∗ ⌜ Crossing (below (now coords) h) (now corners) c ⌝ }
+    ensures { λ r. ⌜ r ≡ successor (below (now (coords .entry)) h) (now (corners .entry)) (now (pairing .entry)) c ⌝ }
+{
+    let d = wide(pairing[c]);
+    let e = next_corner(d);
+    let f = next_corner(e);
+    let v = wide(corners[f]);
+    if is_below(coords, h, v) {
+        return f;
+    }
+    e
+}
+
+// Writes the contour of `start` into names, from place `at` on, and stamps its corners; returns the place after it.
+fn round(
+    coords: &[i32],
+    corners: &[u32],
+    pairing: &[u32],
+    h: i32,
+    stamp: u32,
+    names: &mut [u32],
+    marks: &mut [u32],
+    start: usize,
+    at: usize,
+) -> usize
+    requires { ⌜ Roundable (now coords) (now corners) (now pairing) h (now names) (now marks) start at ⌝ }
+    ensures { λ r. ⌜ Rounded (below (now (coords .entry)) h) (now (corners .entry)) (now (pairing .entry)) stamp start at (now (names .entry)) (now (marks .entry)) (now (names .exit)) (now (marks .exit)) r ⌝ }
+{
+    let mut c = start;
+    let mut k = at;
+    loop {
+        names[k] = c as u32;
+        marks[c] = stamp;
+        k += 1;
+        c = successor(coords, corners, pairing, h, c);
+        if c == start {
+            return k;
+        }
+    }
+}
+
+// Writes the contours of height h, by first corner, from the list of its crossings; returns their number and that of their names.
+pub fn outline(
+    coords: &[i32],
+    corners: &[u32],
+    pairing: &[u32],
+    h: i32,
+    stamp: u32,
+    ring: &[u32],
+    head: usize,
+    names: &mut [u32],
+    ends: &mut [u32],
+    marks: &mut [u32],
+) -> Counts
+    requires { ⌜ Outlinable (now coords) (now corners) (now pairing) h stamp (now ring) head (now names) (now ends) (now marks) ⌝ }
+    ensures { λ r. ⌜ Outlined (now (coords .entry)) (now (corners .entry)) (now (pairing .entry)) h (now (names .entry)) (now (ends .entry)) (now (names .exit)) (now (ends .exit)) (r .contours) (r .names) ⌝ }
+    ensures { λ _. ⌜ Marked (length (now (corners .entry))) stamp (now (marks .entry)) (now (marks .exit)) ⌝ }
+{
+    let n = corners.len();
+    let mut c = head;
+    let mut k: usize = 0;
+    let mut j: usize = 0;
+    while c < n {
+        let d = wide(ring[c]);
+        if marks[c] == stamp {
+            c = d;
+        } else {
+            k = round(coords, corners, pairing, h, stamp, names, marks, c, k);
+            ends[j] = k as u32;
+            j += 1;
+            c = d;
+        }
+    }
+    Counts {
+        contours: j,
+        names: k,
+    }
+}
