@@ -3,6 +3,9 @@
 pub mod internal;
 pub mod numbers;
 
+// The most layers of a file, and so the most heights of All layers.
+pub const MOST_LAYERS: usize = 4096;
+
 // A number and the position after it, or no number that may stand there.
 pub enum Number {
     Value(u64, usize),

@@ -5,6 +5,7 @@ ghost use lib.ListN.{length};
 ghost use Rattle.laws.specs.Least.{least};
 ghost use Rattle.mesh.specs.Refusals.{test};
 ghost use Rattle.heights.specs.Heights.{lower, higher, lowestZ, highestZ, defaultCount, heightsTaken, tooManyHeights, notAboveLast, fallingHeight};
+use formats::MOST_LAYERS;
 use mesh::Refusal;
 use mesh::Verdict;
 
@@ -95,7 +96,7 @@ pub fn taken_count(coords: &[i32], heights: &[i32]) -> usize
 pub fn count_test(coords: &[i32], heights: &[i32]) -> Verdict
     ensures { λ r. ⌜ r ≡ test (tooManyHeights (now (coords .entry)) (now (heights .entry))) ⌝ }
 {
-    if 4096 < taken_count(coords, heights) {
+    if MOST_LAYERS < taken_count(coords, heights) {
         return Verdict::Refused(Refusal::Size(0));
     }
     Verdict::Fine

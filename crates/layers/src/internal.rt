@@ -19,6 +19,7 @@ use crate::Filed;
 use active::internal::advance;
 use active::internal::deal;
 use cutter::internal::clear_points;
+use formats::MOST_LAYERS;
 use formats::internal::write_number;
 use formats::numbers::number_length;
 use heights::heights_test;
@@ -182,7 +183,7 @@ fn file_length(
     requires { ⌜ Ready (now coords) (now corners) (now pairing) low (now heights) count (now names) (now points) (now ends) (now marks) (now ring) ⌝ }
     ensures { λ r. ⌜ (r ≡ length (fileOf (now (coords .entry)) (now (corners .entry)) (now (pairing .entry)) (heightsTaken (now (coords .entry)) (now (heights .entry))))) × Works (length (now (corners .entry))) (now (names .entry)) (now (points .entry)) (now (ends .entry)) (now (marks .entry)) (now (ring .entry)) (now (names .exit)) (now (points .exit)) (now (ends .exit)) (now (marks .exit)) (now (ring .exit)) ⌝ }
 {
-    let mut heads = [0u32; 4096];
+    let mut heads = [0u32; MOST_LAYERS];
     begin(
         coords,
         corners,
@@ -273,7 +274,7 @@ fn write_file(
     requires { ⌜ Ready (now coords) (now corners) (now pairing) low (now heights) count (now names) (now points) (now ends) (now marks) (now ring) ⌝ ∗ ⌜ length (fileOf (now coords) (now corners) (now pairing) (heightsTaken (now coords) (now heights))) ≤ length (now output) ⌝ }
     ensures { λ _. ⌜ (now (output .exit) ≡ overwrite (fileOf (now (coords .entry)) (now (corners .entry)) (now (pairing .entry)) (heightsTaken (now (coords .entry)) (now (heights .entry)))) (now (output .entry))) × Works (length (now (corners .entry))) (now (names .entry)) (now (points .entry)) (now (ends .entry)) (now (marks .entry)) (now (ring .entry)) (now (names .exit)) (now (points .exit)) (now (ends .exit)) (now (marks .exit)) (now (ring .exit)) ⌝ }
 {
-    let mut heads = [0u32; 4096];
+    let mut heads = [0u32; MOST_LAYERS];
     begin(
         coords,
         corners,

@@ -4,6 +4,7 @@ ghost use Rattle.reader.specs.Reading.{roomFor, Reads};
 ghost use Rattle.reader.specs.Places.{Located};
 use crate::internal::fill_layer;
 use crate::internal::find_layer;
+use formats::MOST_LAYERS;
 use formats::Number;
 use formats::numbers::read_number;
 use mesh::Refusal;
@@ -51,7 +52,7 @@ fn room_for(contours: u64, count: u64, points: u64, ends: u64) -> bool
 fn locate(file: &[u8], i: u64, points: u64, ends: u64) -> Location
     ensures { λ r. ⌜ Located (now (file .entry)) i points ends r ⌝ }
 {
-    let n = read_number(file, 0, 4096);
+    let n = read_number(file, 0, MOST_LAYERS as u64);
     let Number::Value(count, start) = n else {
         return Location::Refused(Refusal::File(0));
     };
