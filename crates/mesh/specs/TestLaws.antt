@@ -85,6 +85,10 @@ pub names-vertex : (vertices : ℕ) (corners : List ℕ) (c : ℕ) → namesNone
 unfolding namesNone
 names-vertex vertices corners c e = leb-false vertices (getD corners c 0) e
 
+pub names-one : (vertices : ℕ) (corners : List ℕ) (c : ℕ) → getD corners c 0 < vertices → namesNone vertices corners c ≡ false
+unfolding namesNone
+names-one vertices corners c l = lt-leb vertices (getD corners c 0) l
+
 -- ---- 4
 
 module _ (corners : List ℕ) (t : ℕ) where

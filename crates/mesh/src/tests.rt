@@ -1,11 +1,13 @@
 // The tests of tables that several operations share. Each answers a verdict, the least place first.
 ghost use mathlib.Core.Path.{_≡_};
+ghost use mathlib.Core.Bool.{true};
 ghost use mathlib.Core.List.{[], _∷_};
 ghost use Prim.Native.Nat.{ℕ, _+_, _*_, _/_, _<_};
 ghost use lib.ListN.{length};
 ghost use Rattle.laws.specs.Least.{least};
 ghost use Rattle.mesh.specs.Corners.{vertexCount, triangleCount};
 ghost use Rattle.mesh.specs.Refusals.{test, verdict};
+ghost use Rattle.mesh.specs.RefusalLaws.{Nowhere};
 ghost use Rattle.mesh.specs.Tests.{sizesFit, size, outOfRange, range, namesNone, vertex, namesTwice, triangle, mesh};
 use crate::Refusal;
 use crate::Verdict;
@@ -49,6 +51,19 @@ fn out_of_range(coords: &[i32], i: usize) -> bool
     1048576 < z
 }
 
+// Whether every number is a coordinate: a pass that returns at its end only, and so tests several at once.
+fn all_in_range(coords: &[i32]) -> bool
+    ensures { λ r. ⌜ (r ≡ true → Nowhere (range (now (coords .entry)))) ⌝ }
+{
+    let mut fine = true;
+    let mut i: usize = 0;
+    while i < coords.len() {
+        fine = fine & !out_of_range(coords, i);
+        i += 1;
+    }
+    fine
+}
+
 // The least position with no coordinate, else the table's length.
 fn first_out(coords: &[i32]) -> usize
     ensures { λ r. ⌜ r ≡ least (length (now (coords .entry))) (outOfRange (now (coords .entry))) ⌝ }
@@ -67,6 +82,9 @@ fn first_out(coords: &[i32]) -> usize
 pub fn range_test(coords: &[i32]) -> Verdict
     ensures { λ r. ⌜ r ≡ test (range (now (coords .entry))) ⌝ }
 {
+    if all_in_range(coords) {
+        return Verdict::Fine;
+    }
     let i = first_out(coords);
     if i < coords.len() {
         return Verdict::Refused(Refusal::Range(i));
@@ -80,6 +98,23 @@ fn names_none(vertices: usize, corners: &[u32], c: usize) -> bool
     ensures { λ r. ⌜ r ≡ namesNone vertices (now (corners .entry)) c ⌝ }
 {
     vertices <= wide(corners[c])
+}
+
+// Whether each corner names one of at most 32,768 vertices: a pass that returns at its end only, and so tests several at once.
+fn all_named(vertices: usize, corners: &[u32]) -> bool
+    ensures { λ r. ⌜ (r ≡ true → Nowhere (vertex vertices (now (corners .entry)))) ⌝ }
+{
+    if 32768 < vertices {
+        return false;
+    }
+    let end = vertices as u32;
+    let mut fine = true;
+    let mut c: usize = 0;
+    while c < corners.len() {
+        fine = fine & (corners[c] < end);
+        c += 1;
+    }
+    fine
 }
 
 // The least corner that names no vertex, else the number of corners.
@@ -100,6 +135,9 @@ fn first_stray(vertices: usize, corners: &[u32]) -> usize
 pub fn vertex_test(vertices: usize, corners: &[u32]) -> Verdict
     ensures { λ r. ⌜ r ≡ test (vertex vertices (now (corners .entry))) ⌝ }
 {
+    if all_named(vertices, corners) {
+        return Verdict::Fine;
+    }
     let c = first_stray(vertices, corners);
     if c < corners.len() {
         return Verdict::Refused(Refusal::Vertex(c));
