@@ -1,2 +1,3 @@
--- Internal: what the test of an order table goes by.
+-- Internal: what the tests of a pairing and of an order table go by.
+pub mod Meeting
 pub mod Rising

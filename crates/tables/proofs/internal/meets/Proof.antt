@@ -1,0 +1,57 @@
+-- `internal::meets` meets its contract.
+use mathlib.Core.Path.{refl}
+use native.Mathlib.Omega.{arith}
+use Rattle.laws.specs.Booleans.{clash}
+use Rattle.tables.proofs.PairingTest.{meets-of}
+use borrow.Author.Needs.{needs}
+use Rattle.tables.proofs.internal.meets.Statement.{statement}
+use Rattle.tables.proofs.internal.meets.Tie as tie
+
+mul-wide : tie.Need-mul-wide
+mul-wide c = search needs
+
+shared-slice-read-wide : tie.Need-shared-slice-read-wide
+shared-slice-read-wide c = search needs
+
+wide-requires : tie.Need-wide-requires
+wide-requires c κs = search needs
+
+returns : tie.Need-returns
+returns c = λ e. absurd (clash e refl)
+
+mul-if2 : tie.Need-mul-if2
+mul-if2 c = search needs
+
+shared-slice-read-if2 : tie.Need-shared-slice-read-if2
+shared-slice-read-if2 c = search needs
+
+returns-2 : tie.Need-returns-2
+returns-2 c = λ e. absurd (clash e refl)
+
+mul-wide-2 : tie.Need-mul-wide-2
+mul-wide-2 c = search needs
+
+shared-slice-read-wide-2 : tie.Need-shared-slice-read-wide-2
+shared-slice-read-wide-2 c = search needs
+
+wide-requires-2 : tie.Need-wide-requires-2
+wide-requires-2 c κs = search needs
+
+returns-3 : tie.Need-returns-3
+returns-3 c = λ e. meets-of _ _ _ _ _ _ (c .before .before .before .before .before .wide .ensures) (omega (arith, c .before .before .before .before .if1 .left)) (c .before .before .if2 .left) (c .wide2 .ensures) e
+
+pub meets-spec : {M : Type 1} → statement M
+meets-spec =
+    tie.close
+    (tie.spec
+    mul-wide
+    shared-slice-read-wide
+    wide-requires
+    returns
+    mul-if2
+    shared-slice-read-if2
+    returns-2
+    mul-wide-2
+    shared-slice-read-wide-2
+    wide-requires-2
+    returns-3)

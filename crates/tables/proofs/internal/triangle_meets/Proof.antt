@@ -1,0 +1,72 @@
+-- `internal::triangle_meets` meets its contract.
+use mathlib.Core.Path.{refl}
+use borrow.Author.Tests.{not-false}
+use Rattle.laws.specs.Booleans.{clash}
+use borrow.Author.Needs.{needs}
+use Rattle.tables.proofs.internal.triangle_meets.Statement.{statement}
+use Rattle.tables.proofs.internal.triangle_meets.Tie as tie
+
+mul-i : tie.Need-mul-i
+mul-i c = search needs
+
+add-j : tie.Need-add-j
+add-j c = search needs
+
+add-k : tie.Need-add-k
+add-k c = search needs
+
+mul-meets : tie.Need-mul-meets
+mul-meets c = search needs
+
+shared-slice-read-meets : tie.Need-shared-slice-read-meets
+shared-slice-read-meets c = search needs
+
+meets-requires : tie.Need-meets-requires
+meets-requires c κs = search needs
+
+returns : tie.Need-returns
+returns c = λ e. absurd (clash e refl)
+
+mul-meets-2 : tie.Need-mul-meets-2
+mul-meets-2 c = search needs
+
+shared-slice-read-meets-2 : tie.Need-shared-slice-read-meets-2
+shared-slice-read-meets-2 c = search needs
+
+meets-requires-2 : tie.Need-meets-requires-2
+meets-requires-2 c κs = search needs
+
+returns-2 : tie.Need-returns-2
+returns-2 c = λ e. absurd (clash e refl)
+
+mul-meets-3 : tie.Need-mul-meets-3
+mul-meets-3 c = search needs
+
+shared-slice-read-meets-3 : tie.Need-shared-slice-read-meets-3
+shared-slice-read-meets-3 c = search needs
+
+meets-requires-3 : tie.Need-meets-requires-3
+meets-requires-3 c κs = search needs
+
+returns-3 : tie.Need-returns-3
+returns-3 c = λ e. record { first = c .before .before .before .before .before .before .meets .ensures (not-false _ (c .before .before .before .before .before .if1 .left)); second = c .before .before .before .meets2 .ensures (not-false _ (c .before .before .if2 .left)); third = c .meets3 .ensures e }
+
+pub triangle-meets-spec : {M : Type 1} → statement M
+triangle-meets-spec =
+    tie.close
+    (tie.spec
+    mul-i
+    add-j
+    add-k
+    mul-meets
+    shared-slice-read-meets
+    meets-requires
+    returns
+    mul-meets-2
+    shared-slice-read-meets-2
+    meets-requires-2
+    returns-2
+    mul-meets-3
+    shared-slice-read-meets-3
+    meets-requires-3
+    returns-3)
