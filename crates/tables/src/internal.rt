@@ -95,7 +95,7 @@ fn triangle_meets(corners: &[u32], pairing: &[u32], t: usize) -> bool
     meets(corners, pairing, k, corners[i])
 }
 
-// Whether every corner is, and so is paired rightly: that its partner ends where it starts is its partner's test.
+// Whether every corner is so paired. Then each is paired rightly: that its partner ends where it starts is the partner's own test.
 fn all_meet(corners: &[u32], pairing: &[u32]) -> bool
     requires { ⌜ Whole (length (now corners)) ⌝ }
     ensures { λ r. ⌜ (r ≡ true → Nowhere (pairs (now (corners .entry)) (now (pairing .entry)))) ⌝ }
