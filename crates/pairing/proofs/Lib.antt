@@ -1,4 +1,5 @@
 -- Lemmas that belong to no one function.
+pub mod Counts
 pub mod Edges
 pub mod Threads
 pub mod Joins
