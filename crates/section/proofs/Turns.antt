@@ -1,22 +1,25 @@
 -- What the code's branches say, in the definitions' terms.
-use Prim.Native.Nat.{ℕ, _+_, _*_, _/_, _^_, _≤_, _<_}
-use mathlib.Core.Path.{_≡_, sym, ap, _∙_}
-use mathlib.Core.Bool.{Bool, true, false, not, cond, _&&_}
+use Prim.Native.Nat.{ℕ, _+_, _*_, _/_, _%_, _^_, _≤_, _<_}
+use mathlib.Core.Path.{_≡_, refl, sym, ap, _∙_}
+use mathlib.Core.Bool.{Bool, true, false, not, cond, _&&_, _||_, Bool·beq}
 use mathlib.Core.List.{List}
 use native.Mathlib.Omega.{arith}
+use borrow.Author.Tests.{ltb-false, lt-ltb, le-ltb}
 use lib.Dec.{ltb}
 use lib.ListN.{length, getD, set}
-use lib.IntN.{ℤ}
+use lib.IntN.{ℤ, pos, negsuc}
 use lib.Signed.{ltZ, mag}
 use mir.Syntax.{w32}
 use mir.Val.{SFits, toZ, ofZ}
 use mir.ValLaws.{toZ-ofZ}
+use Rattle.laws.specs.Booleans.{clash}
 use Rattle.laws.specs.Machine.{same}
 use Rattle.laws.specs.Tables.{refill}
 use Rattle.laws.specs.TableLaws.{refill-more}
 use Rattle.mesh.specs.Corners.{triangleOf, nextCorner, startOf, zOf}
 use Rattle.mesh.specs.Tests.{pairOf}
 use Rattle.section.specs.Section.{VertexSet, under, rising, falling, risingIn, successor, noCorner, ringEntry}
+use Rattle.section.specs.Triangles.{Between, setThree}
 use Rattle.section.specs.SectionLaws.{beside-not, beside-passed}
 
 -- a signed argument as the code holds it
@@ -28,24 +31,28 @@ back {h} f = toZ-ofZ w32 h f
 
 -- ---- is_passed
 
+not-below : (a : ℤ) → ltZ a a ≡ false
+not-below (pos a) = le-ltb a a (omega arith)
+not-below (negsuc a) = le-ltb a a (omega arith)
+
+above : (a b : ℤ) → (a ≡ b → ⊥) → ltZ a b ≡ false → ltZ b a ≡ true
+above (pos a) (pos b) ne e = let n : a ≡ b → ⊥ = λ q. ne (ap pos q) in lt-ltb b a (omega (arith, n, ltb-false a b e))
+above (pos a) (negsuc b) ne e = refl
+above (negsuc a) (pos b) ne e = absurd (clash refl e)
+above (negsuc a) (negsuc b) ne e = let n : a ≡ b → ⊥ = λ q. ne (ap negsuc q) in lt-ltb a b (omega (arith, n, ltb-false b a e))
+
 module _ (coords : List ℤ) (h : ℤ) (k v : ℕ) (fz : mag (zOf coords v) < 2 ^ 31) (fh : SFits w32 h) where
-  z-lt : {b : Bool} → ltZ (held (zOf coords v)) (held h) ≡ b → ltZ (zOf coords v) h ≡ b
-  z-lt e = (λ i. ltZ (sym (same w32 (zOf coords v) fz) i) (sym (back fh) i)) ∙ e
-
-  h-lt : {b : Bool} → ltZ (held h) (held (zOf coords v)) ≡ b → ltZ h (zOf coords v) ≡ b
-  h-lt e = (λ i. ltZ (sym (back fh) i) (sym (same w32 (zOf coords v) fz) i)) ∙ e
-
-  pub passed-low : ltZ (held (zOf coords v)) (held h) ≡ true → true ≡ under coords h k v
+  pub passed-level : ofZ w32 (zOf coords v) ≡ ofZ w32 h → ltb v k ≡ under coords h k v
   unfolding under
-  passed-low p = simp (z-lt p)
+  passed-level e = let q : h ≡ zOf coords v = sym (sym (same w32 (zOf coords v) fz) ∙ ap (toZ w32) e ∙ back fh) in rw q (simp (not-below (zOf coords v)))
 
-  pub passed-high : ltZ (held (zOf coords v)) (held h) ≡ false → ltZ (held h) (held (zOf coords v)) ≡ true → false ≡ under coords h k v
+  pub passed-apart : (ofZ w32 (zOf coords v) ≡ ofZ w32 h → ⊥) → ltZ (held (zOf coords v)) (held h) ≡ under coords h k v
   unfolding under
-  passed-high p q = simp (z-lt p, h-lt q)
-
-  pub passed-level : ltZ (held (zOf coords v)) (held h) ≡ false → ltZ (held h) (held (zOf coords v)) ≡ false → ltb v k ≡ under coords h k v
-  unfolding under
-  passed-level p q = simp (z-lt p, h-lt q)
+  passed-apart ne = (λ i. ltZ (same w32 (zOf coords v) fz i) (back fh i)) ∙ by (ltZ (zOf coords v) h) refl
+    where
+      by : (b : Bool) → ltZ (zOf coords v) h ≡ b → ltZ (zOf coords v) h ≡ (ltZ (zOf coords v) h || (not (ltZ h (zOf coords v)) && ltb v k))
+      by true e = simp e
+      by false e = simp (e, above (zOf coords v) h (λ q. ne (ap (ofZ w32) q)) e)
 
 -- ---- leads_up and rises
 
@@ -82,7 +89,7 @@ module _ (passed : VertexSet) (corners : List ℕ) (t : ℕ) where
       by false true = omega arith
       by false false = omega arith
 
--- ---- entry_of
+-- ---- link_of and entry_of
 
 module _ (passed : VertexSet) (corners pairing : List ℕ) (c : ℕ) where
   pub entry-rises : rising passed corners c ≡ true → (s d : ℕ) → d ≡ pairOf pairing c → s ≡ risingIn passed corners (d / 3) → s ≡ ringEntry passed corners pairing c
@@ -93,7 +100,61 @@ module _ (passed : VertexSet) (corners pairing : List ℕ) (c : ℕ) where
   unfolding ringEntry
   entry-none p = simp p
 
+-- ---- is_level
+
+pub same-flag : (p q : Bool) → Bool·beq p q ≡ true → p ≡ q
+same-flag true true e = refl
+same-flag true false e = absurd (clash e refl)
+same-flag false true e = absurd (clash e refl)
+same-flag false false e = refl
+
+-- ---- entry_between
+
+module _ (passed : VertexSet) (corners pairing : List ℕ) {c : ℕ} {start end : Bool} (b : Between passed corners c start end) where
+  pub between-rises : {r : Bool} → (start && not end) ≡ r → rising passed corners c ≡ r
+  unfolding rising
+  between-rises e = (λ i. b .start-is i && not (b .end-is i)) ∙ e
+
+  pub between-level : start ≡ end → noCorner ≡ ringEntry passed corners pairing c
+  between-level e = entry-none passed corners pairing c (between-rises (ap (λ (s : Bool). s && not end) e ∙ never end))
+    where
+      never : (q : Bool) → (q && not q) ≡ false
+      never true = refl
+      never false = refl
+
+-- ---- link_triangle
+
+-- whether the three vertices of a triangle are passed
+pub record Seen (passed : VertexSet) (corners : List ℕ) (c : ℕ) (p q r : Bool) : Type 0 where
+  pub first : c % 3 ≡ 0
+  pub inside : c + 2 < length corners
+  pub p-is : p ≡ passed (startOf corners c)
+  pub q-is : q ≡ passed (startOf corners (c + 1))
+  pub r-is : r ≡ passed (startOf corners (c + 2))
+
+module _ {passed : VertexSet} {corners : List ℕ} {c : ℕ} {p q r : Bool} (s : Seen passed corners c p q r) where
+  from : {a b : Bool} (d e : ℕ) → d < length corners → nextCorner d ≡ e → a ≡ passed (startOf corners d) → b ≡ passed (startOf corners e) → Between passed corners d a b
+  from d e l n x y = record { corner = l; start-is = sym x; end-is = ap (λ (j : ℕ). passed (startOf corners j)) n ∙ sym y }
+
+  pub between-1 : Between passed corners c p q
+  between-1 = from c (c + 1) (omega (arith, s .inside)) (omega (arith, s .first)) (s .p-is) (s .q-is)
+
+  pub between-2 : Between passed corners (c + 1) q r
+  between-2 = from (c + 1) (c + 2) (omega (arith, s .inside)) (omega (arith, s .first)) (s .q-is) (s .r-is)
+
+  pub between-3 : Between passed corners (c + 2) r p
+  between-3 = from (c + 2) c (s .inside) (omega (arith, s .first)) (s .r-is) (s .p-is)
+
+pub three-are : (f : ℕ → ℕ) (c : ℕ) (t : List ℕ) {x y z : ℕ} → x ≡ f c → y ≡ f (c + 1) → z ≡ f (c + 2) → set (set (set t c x) (c + 1) y) (c + 2) z ≡ setThree f c t
+three-are f c t ex ey ez = λ i. set (set (set t c (ex i)) (c + 1) (ey i)) (c + 2) (ez i)
+
 -- ---- link
 
-pub link-more : (f : ℕ → ℕ) (c e : ℕ) (t t₀ : List ℕ) → t ≡ refill c f t₀ → c < length t₀ → e ≡ f c → set t c e ≡ refill (c + 1) f t₀
-link-more f c e t t₀ is h ee = (λ i. set (is i) c (ee i)) ∙ refill-more c f t₀ h
+pub link-three : (f : ℕ → ℕ) (c : ℕ) (t t₀ : List ℕ) → t ≡ refill c f t₀ → c + 2 < length t₀ → setThree f c t ≡ refill (c + 3) f t₀
+link-three f c t t₀ is h =
+    ap (setThree f c) is
+    ∙ ap (λ (l : List ℕ). set (set l (c + 1) (f (c + 1))) (c + 2) (f (c + 2))) (refill-more c f t₀ (omega arith))
+    ∙ ap (λ (l : List ℕ). set l (c + 2) (f (c + 2))) (refill-more (c + 1) f t₀ (omega arith))
+    ∙ ap (λ (j : ℕ). set (refill j f t₀) (c + 2) (f (c + 2))) (omega arith)
+    ∙ refill-more (c + 2) f t₀ h
+    ∙ ap (λ (j : ℕ). refill j f t₀) (omega arith)

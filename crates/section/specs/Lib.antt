@@ -10,3 +10,4 @@ pub mod LayerLaws
 pub mod Links
 pub mod LinkLaws
 pub mod RightLaws
+pub mod Triangles

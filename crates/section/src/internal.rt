@@ -2,11 +2,12 @@
 // the place (h, k) by z and then by number; (h, 0) is the set of height h.
 ghost use mathlib.Core.Path.{_≡_};
 ghost use mathlib.Core.Bool.{true, not, _&&_};
-ghost use Prim.Native.Nat.{_<_, _≤_};
-ghost use lib.ListN.{length};
+ghost use Prim.Native.Nat.{_+_, _%_, _<_, _≤_};
+ghost use lib.ListN.{length, set};
 ghost use Rattle.laws.specs.Tables.{refill};
-ghost use Rattle.mesh.specs.Corners.{vertexCount, triangleOf};
-ghost use Rattle.section.specs.Section.{under, rising, falling, risingIn, ringEntry, Named, Linked};
+ghost use Rattle.mesh.specs.Corners.{vertexCount, triangleOf, startOf};
+ghost use Rattle.section.specs.Section.{under, rising, falling, risingIn, ringEntry, Crossing, Named, Linked};
+ghost use Rattle.section.specs.Triangles.{Between, setThree};
 use mesh::internal::next_corner;
 use mesh::internal::wide;
 
@@ -17,13 +18,19 @@ pub fn is_passed(coords: &[i32], h: i32, k: usize, v: usize) -> bool
 {
     let i = 3 * v + 2;
     let z = coords[i];
-    if z < h {
-        return true;
+    if z == h {
+        return v < k;
     }
-    if h < z {
-        return false;
-    }
-    v < k
+    z < h
+}
+
+// Whether the start of corner c is passed.
+fn starts_passed(coords: &[i32], corners: &[u32], h: i32, k: usize, c: usize) -> bool
+    requires { ⌜ Named (now coords) (now corners) ⌝ ∗ ⌜ c < length (now corners) ⌝ }
+    ensures { λ r. ⌜ r ≡ under (now (coords .entry)) h k (startOf (now (corners .entry)) c) ⌝ }
+{
+    let v = wide(corners[c]);
+    is_passed(coords, h, k, v)
 }
 
 // Whether an edge from u to v leads from a passed vertex to one that is not.
@@ -62,20 +69,99 @@ pub fn rising_beside(coords: &[i32], corners: &[u32], h: i32, k: usize, d: usize
     e
 }
 
+// The ring entry of a corner c that rises.
+fn link_of(coords: &[i32], corners: &[u32], pairing: &[u32], h: i32, k: usize, c: usize) -> u32
+    requires { ⌜ Named (now coords) (now corners) ⌝ ∗ ⌜ Linked (now corners) (now pairing) ⌝ ∗ ⌜ Crossing (under (now coords) h k) (now corners) c ⌝ }
+    ensures { λ r. ⌜ r ≡ ringEntry (under (now (coords .entry)) h k) (now (corners .entry)) (now (pairing .entry)) c ⌝ }
+{
+    let d = wide(pairing[c]);
+    let s = rising_beside(coords, corners, h, k, d);
+    s as u32
+}
+
 // The ring entry of corner c.
 pub fn entry_of(coords: &[i32], corners: &[u32], pairing: &[u32], h: i32, k: usize, c: usize) -> u32
     requires { ⌜ Named (now coords) (now corners) ⌝ ∗ ⌜ Linked (now corners) (now pairing) ⌝ ∗ ⌜ c < length (now corners) ⌝ }
     ensures { λ r. ⌜ r ≡ ringEntry (under (now (coords .entry)) h k) (now (corners .entry)) (now (pairing .entry)) c ⌝ }
 {
     if rises(coords, corners, h, k, c) {
-        let d = wide(pairing[c]);
-        let s = rising_beside(coords, corners, h, k, d);
-        return s as u32;
+        return link_of(coords, corners, pairing, h, k, c);
     }
     4294967295
 }
 
-// Writes the ring entry of every corner.
+// The ring entry of corner c, where `start` and `end` say whether its start and its end are passed.
+fn entry_between(
+    coords: &[i32],
+    corners: &[u32],
+    pairing: &[u32],
+    h: i32,
+    k: usize,
+    c: usize,
+    start: bool,
+    end: bool,
+) -> u32
+    requires { ⌜ Named (now coords) (now corners) ⌝ ∗ ⌜ Linked (now corners) (now pairing) ⌝ ∗ ⌜ Between (under (now coords) h k) (now corners) c start end ⌝ }
+    ensures { λ r. ⌜ r ≡ ringEntry (under (now (coords .entry)) h k) (now (corners .entry)) (now (pairing .entry)) c ⌝ }
+{
+    if start {
+        if end {
+            return 4294967295;
+        }
+        return link_of(coords, corners, pairing, h, k, c);
+    }
+    4294967295
+}
+
+// Whether all three are so, or none is.
+fn is_level(p: bool, q: bool, r: bool) -> bool
+    ensures { λ s. ⌜ (s ≡ true → (p ≡ q) × (q ≡ r)) ⌝ }
+{
+    if p == q {
+        return q == r;
+    }
+    false
+}
+
+// Writes three entries, from entry c on.
+fn put_three(t: &mut [u32], c: usize, x: u32, y: u32, z: u32)
+    requires { ⌜ c + 2 < length (now t) ⌝ }
+    ensures { λ _. ⌜ now (t .exit) ≡ set (set (set (now (t .entry)) c x) (c + 1) y) (c + 2) z ⌝ }
+{
+    t[c] = x;
+    t[c + 1] = y;
+    t[c + 2] = z;
+}
+
+// Writes the ring entries of the triangle of corners c, c + 1 and c + 2.
+fn link_triangle(
+    coords: &[i32],
+    corners: &[u32],
+    pairing: &[u32],
+    h: i32,
+    k: usize,
+    ring: &mut [u32],
+    c: usize,
+)
+    requires { ⌜ Named (now coords) (now corners) ⌝ ∗ ⌜ Linked (now corners) (now pairing) ⌝ ∗ ⌜ length (now corners) ≤ length (now ring) ⌝ ∗ ⌜ (c < length (now corners)) × (c % 3 ≡ 0) ⌝ }
+    ensures { λ _. ⌜ now (ring .exit) ≡ setThree (ringEntry (under (now (coords .entry)) h k) (now (corners .entry)) (now (pairing .entry))) c (now (ring .entry)) ⌝ }
+{
+    let d = c + 1;
+    let e = c + 2;
+    let p = starts_passed(coords, corners, h, k, c);
+    let q = starts_passed(coords, corners, h, k, d);
+    let r = starts_passed(coords, corners, h, k, e);
+    if is_level(p, q, r) {
+        put_three(ring, c, 4294967295, 4294967295, 4294967295);
+        return;
+    }
+    let x = entry_between(coords, corners, pairing, h, k, c, p, q);
+    let y = entry_between(coords, corners, pairing, h, k, d, q, r);
+    let z = entry_between(coords, corners, pairing, h, k, e, r, p);
+    put_three(ring, c, x, y, z);
+}
+
+// Writes the ring entry of every corner, triangle by triangle.
 pub fn link(coords: &[i32], corners: &[u32], pairing: &[u32], h: i32, k: usize, ring: &mut [u32])
     requires { ⌜ Named (now coords) (now corners) ⌝ ∗ ⌜ Linked (now corners) (now pairing) ⌝ ∗ ⌜ length (now corners) ≤ length (now ring) ⌝ }
     ensures { λ _. ⌜ now (ring .exit) ≡ refill (length (now (corners .entry))) (ringEntry (under (now (coords .entry)) h k) (now (corners .entry)) (now (pairing .entry))) (now (ring .entry)) ⌝ }
@@ -83,8 +169,7 @@ pub fn link(coords: &[i32], corners: &[u32], pairing: &[u32], h: i32, k: usize, 
     let n = corners.len();
     let mut c: usize = 0;
     while c < n {
-        let e = entry_of(coords, corners, pairing, h, k, c);
-        ring[c] = e;
-        c += 1;
+        link_triangle(coords, corners, pairing, h, k, ring, c);
+        c += 3;
     }
 }
