@@ -2,3 +2,4 @@
 pub mod Strikes
 pub mod Walking
 pub mod Tracing
+pub mod Seeking

@@ -1,10 +1,11 @@
 -- The pass over the corners: what the tables hold when corner c is reached, and after the last.
-use Prim.Native.Nat.{ℕ, zero, suc, _+_, _≤_, _<_}
+use Prim.Native.Nat.{ℕ, zero, suc, _+_, _-_, _≤_, _<_}
 use mathlib.Core.Path.{_≡_, refl, sym, ap, _∙_, subst}
 use mathlib.Core.Bool.{Bool, true, false, not, _&&_}
 use mathlib.Core.List.{List, [], _∷_, _++_}
 use native.Mathlib.Omega.{arith}
 use native.Mathlib.Numerals.{add-one}
+use native.Mathlib.Nat.{add-zero}
 use borrow.Author.Tests.{eq-eqb, ne-eqb}
 use lib.ListN.{length, getD, set, drop, replicate, length-append, length-replicate}
 use lib.Seq.{sets}
@@ -18,7 +19,7 @@ use Rattle.section.specs.Links.{hasLink, linkOf, traceLinks}
 use Rattle.section.specs.OrbitLaws.{orbit, length-orbit, orbit-snoc}
 use Rattle.section.specs.LayerLaws.{names-snoc, Leads, starting, Begun, begun-start, begun-skip, crosses, ring, contour, fresh, begun-ring, ring-room, begun-few}
 use Rattle.tracer.specs.Traces.{found, zeroed, namesAfter, endsAfter}
-use Rattle.tracer.specs.Walks.{ringOf, strike, Walkable, Traceable}
+use Rattle.tracer.specs.Walks.{ringOf, strike, Walkable, Traceable, Sought}
 use Rattle.tracer.specs.declared.Found.the-variants.{Contours}
 use Rattle.tracer.proofs.Strikes.{length-strike, strike-join, strike-other, strike-same, strike-behind}
 use Rattle.tracer.proofs.Walking.{ring-is}
@@ -78,11 +79,6 @@ tracing-start n links names ends g =
       links-is = refl;
     }
 
--- the same, by other names
-pub tracing-same : {n : ℕ} {links₀ names₀ ends₀ links names ends links₁ names₁ ends₁ : List ℕ} {c k j k₁ j₁ : ℕ}
-    → links₁ ≡ links → names₁ ≡ names → ends₁ ≡ ends → k₁ ≡ k → j₁ ≡ j → Tracing n links₀ names₀ ends₀ links names ends c k j → Tracing n links₀ names₀ ends₀ links₁ names₁ ends₁ c k₁ j₁
-tracing-same {n} {links₀} {names₀} {ends₀} {c = c} el en ee ek ej w = subst (λ (A : Type 0). A) (λ i. Tracing n links₀ names₀ ends₀ (sym el i) (sym en i) (sym ee i) c (sym ek i) (sym ej i)) w
-
 module _ (n : ℕ) (links₀ names₀ ends₀ links names ends : List ℕ) (c k j : ℕ) (w : Tracing n links₀ names₀ ends₀ links names ends c k j) where
   abbrev rises : ℕ → Bool
   rises = hasLink links₀
@@ -106,9 +102,6 @@ module _ (n : ℕ) (links₀ names₀ ends₀ links names ends : List ℕ) (c k 
   links-length = ap length (w .links-is) ∙ length-strike links₀ (flat (w .rings))
 
   module _ (l : c < n) where
-    pub c-inside : c < length links
-    c-inside = omega (arith, links-length, w .given .links-room)
-
     pub j-inside : j < length ends
     j-inside = omega (arith, w .at-j, w .begun .few, ends-length, w .given .ends-room)
 
@@ -242,3 +235,16 @@ module _ (n : ℕ) (links₀ names₀ ends₀ links names ends : List ℕ) (c k 
         let z : length {A = ℕ} (replicate n 0) ≡ n = length-replicate {A = ℕ} n 0 in
         e ∙ ap (λ (s : List ℕ). replicate n 0 ++ s)
         (ap (λ (i : ℕ). drop i links) z ∙ ap (drop n) (w .links-is) ∙ strike-behind (flat (w .rings)) links₀ n (λ x y. w .begun .only x y .below) ∙ ap (λ (i : ℕ). drop i links₀) (sym z))
+
+-- the corners passed over
+pub tracing-pass : {n : ℕ} {links₀ names₀ ends₀ links names ends : List ℕ} {c k j : ℕ} (d : ℕ) → Tracing n links₀ names₀ ends₀ links names ends c k j → Sought n links c d → Tracing n links₀ names₀ ends₀ links names ends d k j
+tracing-pass {n} {links₀} {names₀} {ends₀} {links} {names} {ends} {c} {k} {j} d w s =
+    let e : c + (d - c) ≡ d = omega (arith, s .onward) in
+    subst (λ (i : ℕ). Tracing n links₀ names₀ ends₀ links names ends i k j) e (go (d - c) c w (λ i l h. s .none i l (omega (arith, s .onward))) (omega (arith, s .onward, s .upto)))
+  where
+    go : (m c : ℕ) → Tracing n links₀ names₀ ends₀ links names ends c k j → ((i : ℕ) → c ≤ i → i < c + m → getD links i 0 ≡ noCorner) → c + m ≤ n → Tracing n links₀ names₀ ends₀ links names ends (c + m) k j
+    go zero c w f l = subst (λ (i : ℕ). Tracing n links₀ names₀ ends₀ links names ends i k j) (sym (add-zero c)) w
+    go (suc m) c w f l =
+        let e : c + 1 + m ≡ c + suc m = omega arith in
+        subst (λ (i : ℕ). Tracing n links₀ names₀ ends₀ links names ends i k j) e
+        (go m (c + 1) (tracing-skip n links₀ names₀ ends₀ links names ends c k j w (omega arith) (f c (omega arith) (omega arith))) (λ i a b. f i (omega arith) (omega arith)) (omega arith))

@@ -1,7 +1,8 @@
 -- Internal: the walk along one ring of a table of links, and what it and the pass over all corners ask.
 use Prim.Native.Nat.{ℕ, _+_, _≤_, _<_}
+use mathlib.Core.Path.{_≡_}
 use mathlib.Core.List.{List, [], _∷_}
-use lib.ListN.{length, set}
+use lib.ListN.{length, getD, set}
 use Rattle.section.specs.Section.{noCorner}
 use Rattle.section.specs.Rings.{iterate, Ring}
 use Rattle.section.specs.Contours.{Way, closed, met, walk}
@@ -33,3 +34,18 @@ pub record Traceable (n : ℕ) (links names ends : List ℕ) : Type 0 where
   pub links-room : n ≤ length links
   pub names-room : n ≤ length names
   pub ends-room : n ≤ length ends
+
+-- no corner from c on, before d, has a link
+abbrev pub None : List ℕ → ℕ → ℕ → Type 0
+None links c d = (i : ℕ) → c ≤ i → i < d → getD links i 0 ≡ noCorner
+
+-- what seeking from c on asks, and what it finds: corner d, at most n
+pub record Seekable (n : ℕ) (links : List ℕ) (c : ℕ) : Type 0 where
+  pub begins : c ≤ n
+  pub few : n ≤ 196608
+  pub there : n ≤ length links
+
+pub record Sought (n : ℕ) (links : List ℕ) (c d : ℕ) : Type 0 where
+  pub onward : c ≤ d
+  pub upto : d ≤ n
+  pub none : None links c d

@@ -1,11 +1,13 @@
 // Internal: tracing, whose `requires` say that the links lead round rings.
 ghost use mathlib.Core.Path.{_≡_};
-ghost use Prim.Native.Nat.{_+_, _≤_};
-ghost use lib.ListN.{length};
+ghost use mathlib.Core.Bool.{true};
+ghost use Prim.Native.Nat.{_+_, _≤_, _<_};
+ghost use lib.ListN.{length, getD};
 ghost use lib.Seq.{sets};
+ghost use Rattle.section.specs.Section.{noCorner};
 ghost use Rattle.section.specs.Links.{traceLinks};
 ghost use Rattle.tracer.specs.Traces.{found, zeroed, namesAfter, endsAfter};
-ghost use Rattle.tracer.specs.Walks.{ringOf, strike, Walkable, Traceable};
+ghost use Rattle.tracer.specs.Walks.{ringOf, strike, None, Sought, Seekable, Walkable, Traceable};
 use crate::Found;
 use crate::Walked;
 use mesh::internal::fill;
@@ -48,6 +50,47 @@ fn wipe(n: usize, marks: &mut [u32], names: &mut [u32], ends: &mut [u32])
     fill(ends, n, 0);
 }
 
+// Whether the four corners from c on have no link. A link is at most 4294967295.
+fn no_links(links: &[u32], c: usize) -> bool
+    requires { ⌜ (c < 196608) × (c + 3 < length (now links)) ⌝ }
+    ensures { λ r. ⌜ (r ≡ true → None (now (links .entry)) c (c + 4)) ⌝ }
+{
+    let a = wide(links[c]) + wide(links[c + 1]);
+    let b = wide(links[c + 2]) + wide(links[c + 3]);
+    a + b == 17179869180
+}
+
+// A corner from c on, below n, with no link before it: by fours.
+fn leap(n: usize, links: &[u32], c: usize) -> usize
+    requires { ⌜ Seekable n (now links) c ⌝ }
+    ensures { λ r. ⌜ Sought n (now (links .entry)) c r ⌝ }
+{
+    let mut d = c;
+    while d + 4 <= n {
+        if !no_links(links, d) {
+            return d;
+        }
+        d += 4;
+    }
+    d
+}
+
+// The first corner from c on that has a link, else n.
+fn seek(n: usize, links: &[u32], c: usize) -> usize
+    requires { ⌜ Seekable n (now links) c ⌝ }
+    ensures { λ r. ⌜ Sought n (now (links .entry)) c r ⌝ }
+    ensures { λ r. ⌜ (r < n → getD (now (links .entry)) r 0 ≡ noCorner → ⊥) ⌝ }
+{
+    let mut d = leap(n, links, c);
+    while d < n {
+        if links[d] != 4294967295 {
+            return d;
+        }
+        d += 1;
+    }
+    d
+}
+
 // Takes the contours out of the first n links, by first corner, and leaves zeros there.
 pub fn trace(n: usize, links: &mut [u32], names: &mut [u32], ends: &mut [u32]) -> Found
     requires { ⌜ Traceable n (now links) (now names) (now ends) ⌝ }
@@ -56,25 +99,23 @@ pub fn trace(n: usize, links: &mut [u32], names: &mut [u32], ends: &mut [u32]) -
     ensures { λ _. ⌜ now (ends .exit) ≡ endsAfter (traceLinks n (now (links .entry))) n (now (ends .entry)) ⌝ }
     ensures { λ _. ⌜ now (links .exit) ≡ zeroed n (now (links .entry)) ⌝ }
 {
-    let mut c: usize = 0;
+    let mut c = seek(n, links, 0);
     let mut k: usize = 0;
     let mut j: usize = 0;
     while c < n {
-        if links[c] != 4294967295 {
-            let w = walk(links, names, c, k);
-            match w {
-                Walked::Closed(e) => {
-                    ends[j] = e as u32;
-                    j += 1;
-                    k = e;
-                }
-                Walked::Met(p) => {
-                    wipe(n, links, names, ends);
-                    return Found::Stuck(p);
-                }
+        let w = walk(links, names, c, k);
+        match w {
+            Walked::Closed(e) => {
+                ends[j] = e as u32;
+                j += 1;
+                k = e;
+            }
+            Walked::Met(p) => {
+                wipe(n, links, names, ends);
+                return Found::Stuck(p);
             }
         }
-        c += 1;
+        c = seek(n, links, c + 1);
     }
     fill(links, n, 0);
     Found::Contours(j, k)
