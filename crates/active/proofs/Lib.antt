@@ -2,4 +2,3 @@
 pub mod Merging
 pub mod Going
 pub mod Dealing
-pub mod Totalling

@@ -5,7 +5,6 @@ use mathlib.Core.Bool.{Bool, true, false, not, cond, _&&_}
 use mathlib.Core.List.{List}
 use mathlib.Core.Logic.{⊎-elim}
 use native.Mathlib.Omega.{arith}
-use native.Mathlib.Numerals.{add-one}
 use borrow.Author.Tests.{not-true}
 use lib.ListN.{length, getD}
 use lib.IntN.{ℤ}
@@ -13,21 +12,17 @@ use lib.Signed.{_<ℤ_, ltZ}
 use Rattle.laws.specs.Booleans.{clash, and-parts, split-lt}
 use Rattle.laws.specs.Integers.{le-in, lt-in}
 use Rattle.laws.specs.Count.{count as tally}
+use Rattle.formats.specs.Numbers.{Word}
 use Rattle.mesh.specs.Corners.{startOf, endOf, zOf}
 use Rattle.section.specs.Section.{below, rising}
 use Rattle.section.specs.Layers.{Distinct}
 use Rattle.section.specs.RingLaws.{pigeonhole}
 use Rattle.active.specs.Lists.{CornerSet, activeAt}
-use Rattle.active.specs.Levels.{FirstAbove}
-use Rattle.active.specs.LevelLaws.{lt-yes, lt-no, above-later}
-use Rattle.active.specs.Totals.{sumTo, RiseCount, RiseTotal}
+use Rattle.active.specs.Levels.{FirstAbove, LevelOf}
+use Rattle.active.specs.LevelLaws.{lt-yes, lt-no, above-later, level-flat, level-none, level-high, level-here}
+use Rattle.active.specs.Totals.{sumTo, Rises, RiseTotal, CrossingTotal}
 
 -- ---- sums
-
-pub sum-le : (m : ℕ) (f g : ℕ → ℕ) → ((k : ℕ) → k < m → f k ≤ g k) → sumTo m f ≤ sumTo m g
-unfolding sumTo
-sum-le zero f g h = omega arith
-sum-le (suc m) f g h = omega (arith, h m (omega arith), sum-le m f g (λ k l. h k (omega arith)))
 
 sum-none : (m : ℕ) → sumTo m (λ k. 0) ≡ 0
 unfolding sumTo
@@ -95,10 +90,11 @@ tally-range (suc m) a b t h = by (t m) (h m (omega arith)) (tally-range m a b t 
     by true f g = let q = f refl in omega (arith, q .0, q .1)
     by false f g = omega arith
 
-module _ (hs : ℕ → ℤ) (count : ℕ) (z y : ℤ) where
-  pub count-flat : ltZ z y ≡ false → RiseCount hs count z y 0
-  count-flat e =
+module _ (hs : ℕ → ℤ) (count : ℕ) (few : count ≤ 4096) (rises : (i j : ℕ) → i < j → j < count → hs i <ℤ hs j) (z y : ℤ) where
+  pub rises-flat : ltZ z y ≡ false → Rises hs count z y count 0
+  rises-flat e =
       record {
+        begins = level-flat hs count rises z y e;
         most = omega (arith, tally-range count 0 0 (λ k. ltZ z (hs k) && not (ltZ y (hs k))) (λ k l t. absurd (none k t)));
         few = omega arith;
       }
@@ -108,48 +104,43 @@ module _ (hs : ℕ → ℤ) (count : ℕ) (z y : ℤ) where
           let p = and-parts (ltZ z (hs k)) (not (ltZ y (hs k))) t in
           omega (arith, le-in (lt-no z y e), lt-in (lt-yes z (hs k) (p .0)), le-in (lt-no y (hs k) (not-true _ (p .1))))
 
-  module _ (e : ltZ z y ≡ true) {a b : ℕ} (f : FirstAbove hs count z a) (g : FirstAbove hs count y b) (small : count ≤ 4096) (rises : (i j : ℕ) → i < j → j < count → hs i <ℤ hs j) where
-    -- the first above z is not after the first above y
-    pub firsts-rise : a ≤ b
-    firsts-rise = ⊎-elim
-        (λ h. absurd (omega (arith, le-in (lt-no z (hs b) (f .before b h)), lt-in (lt-yes y (hs b) (g .there (omega (arith, f .upto)))), lt-in (lt-yes z y e))))
-        (λ h. h)
-        (split-lt b a)
+  module _ {a b : ℕ} (f : FirstAbove hs count 0 z a) (g : FirstAbove hs count a y b) where
+    between : (k : ℕ) → k < count → (ltZ z (hs k) && not (ltZ y (hs k))) ≡ true → (a ≤ k) × (k < b)
+    between k l t =
+        let p = and-parts (ltZ z (hs k)) (not (ltZ y (hs k))) t in (
+          ⊎-elim (λ h. absurd (clash (p .0) (f .before k (omega arith) h))) (λ h. h) (split-lt k a),
+          ⊎-elim (λ h. h) (λ h. absurd (clash (g .there (omega arith)) (above-later hs count rises y b k h l (not-true _ (p .1))))) (split-lt k b),
+        )
 
-    pub count-rises : RiseCount hs count z y (b - a)
-    count-rises =
+    counted : tally count (λ k. ltZ z (hs k) && not (ltZ y (hs k))) ≤ b - a
+    counted = omega (arith, tally-range count a b (λ k. ltZ z (hs k) && not (ltZ y (hs k))) between, g .upto)
+
+    pub rises-none : b ≤ a → Rises hs count z y count 0
+    rises-none h = record { begins = ⊎-elim high (level-none hs count rises z y a f) (split-lt a count); most = omega (arith, counted); few = omega arith }
+      where
+        high : a < count → LevelOf hs count z y count
+        high l = let q : b ≡ a = omega (arith, g .from) in level-high hs count rises z y a f l (subst (λ (k : ℕ). ltZ y (hs k) ≡ true) q (g .there (omega arith)))
+
+    pub rises-here : a < b → Word z → Rises hs count z y a (b - a)
+    rises-here h w =
         record {
-          most = let r = tally-range count a b (λ k. ltZ z (hs k) && not (ltZ y (hs k))) between in omega (arith, g .upto);
+          begins = level-here hs count rises z y a f (omega (arith, g .upto)) w (g .before a (omega arith) h);
+          most = counted;
           few = omega (arith, g .upto);
         }
-      where
-        between : (k : ℕ) → k < count → (ltZ z (hs k) && not (ltZ y (hs k))) ≡ true → (a ≤ k) × (k < b)
-        between k l t =
-            let p = and-parts (ltZ z (hs k)) (not (ltZ y (hs k))) t in (
-              ⊎-elim (λ h. absurd (clash (p .0) (f .before k h))) (λ h. h) (split-lt k a),
-              ⊎-elim (λ h. h) (λ h. absurd (after k l h (not-true _ (p .1)))) (split-lt k b),
-            )
-          where
-            after : (k : ℕ) → k < count → b ≤ k → ltZ y (hs k) ≡ false → ⊥
-            after k l h q = clash (g .there (omega arith)) (above-later hs count rises y b k h l q)
 
 -- ---- all corners
 
 module _ (coords : List ℤ) (corners : List ℕ) (hs : ℕ → ℤ) (count : ℕ) where
-  pub total-start : RiseTotal coords corners hs count 0 0
-  unfolding sumTo
-  total-start = record { upto = omega arith; most = omega arith; few = omega arith }
+  pub total-start : RiseTotal coords corners hs count (length corners) 0
+  total-start = record { most = omega arith; few = omega arith }
 
-  pub total-more : {c total r : ℕ} → RiseTotal coords corners hs count c total → c < length corners → RiseCount hs count (zOf coords (startOf corners c)) (zOf coords (endOf corners c)) r
-      → RiseTotal coords corners hs count (c + 1) (total + r)
+  pub total-more : {c total level r : ℕ} → RiseTotal coords corners hs count (suc c) total → Rises hs count (zOf coords (startOf corners c)) (zOf coords (endOf corners c)) level r
+      → RiseTotal coords corners hs count c (total + r)
   unfolding sumTo rising below
-  total-more {c} {total} {r} t l e =
-      subst (λ (k : ℕ). RiseTotal coords corners hs count k (total + r)) (sym (add-one c))
-      (record { upto = l; most = omega (arith, t .most, e .most); few = omega (arith, t .few, e .few) })
+  total-more t e = record { most = omega (arith, t .most, e .most); few = omega (arith, t .few, e .few) }
 
   -- all heights have no more crossings than that
-  pub total-end : {c total : ℕ} → RiseTotal coords corners hs count c total → length corners ≤ c → sumTo count (λ k. tally (length corners) (activeAt coords corners (hs k))) ≤ total
-  total-end {c} {total} t l =
-      let e : c ≡ length corners = omega (arith, t .upto) in
-      let m : sumTo (length corners) (λ d. tally count (λ k. activeAt coords corners (hs k) d)) ≤ total = subst (λ (k : ℕ). sumTo k (λ d. tally count (λ j. activeAt coords corners (hs j) d)) ≤ total) e (t .most) in
-      omega (arith, m, sum-across count (length corners) (λ k. activeAt coords corners (hs k)))
+  pub total-end : {total : ℕ} → length corners ≤ 196608 → RiseTotal coords corners hs count 0 total → CrossingTotal coords corners hs count total
+  unfolding sumTo
+  total-end few t = record { most = omega (arith, t .most, sum-across count (length corners) (λ k. activeAt coords corners (hs k))); few = omega (arith, t .few) }

@@ -1,10 +1,10 @@
 -- All layers as a whole: what passing the tests gives, and what each return leaves.
-use Prim.Native.Nat.{ℕ, _*_, _≤_, _<_}
+use Prim.Native.Nat.{ℕ, _*_, _≤_}
 use mathlib.Core.Path.{_≡_, refl, sym, ap, _∙_, subst}
 use mathlib.Core.Bool.{Bool, true, false, cond}
 use mathlib.Core.List.{List, [], _∷_, _++_, map}
 use native.Mathlib.Omega.{arith}
-use borrow.Author.Tests.{ltb-false, not-false, lt-ltb, le-ltb}
+use borrow.Author.Tests.{ltb-false, not-false}
 use lib.Dec.{ltb}
 use lib.ListN.{length, getD, replicate}
 use lib.IntN.{ℤ, pos}
@@ -88,20 +88,18 @@ module _ (coords : List ℤ) (corners pairing order : List ℕ) (heights : List 
 -- ---- put_file
 
 -- the output is shorter than the file
-pub puts-short : (file output : List ℕ) {n : ℕ} → n ≡ length file → length output < n → Puts file output (Unfiled (Output 0)) output
+pub puts-short : (file output : List ℕ) → ltb (length output) (length file) ≡ true → Puts file output (Unfiled (Output 0)) output
 unfolding filed outputAfter
-puts-short file output e l =
-    let less : length output < length file = omega arith in
-    let short : Refused (Output 0) ≡ test (shortOutput (length output) file) = whole-refused Output _ (lt-ltb _ _ less) in
+puts-short file output e =
+    let short : Refused (Output 0) ≡ test (shortOutput (length output) file) = whole-refused Output _ e in
     record { answers = ap (λ (v : Verdict). filed v file) short; writes = ap (λ (v : Verdict). outputAfter v file output) short }
 
 -- it has room
-pub puts-whole : (file output : List ℕ) {n : ℕ} {output′ : List ℕ} → n ≡ length file → n ≤ length output → output′ ≡ overwrite file output → Puts file output (Length n) output′
+pub puts-whole : (file output : List ℕ) {n : ℕ} {output′ : List ℕ} → ltb (length output) (length file) ≡ false → n ≡ length file → output′ ≡ overwrite file output → Puts file output (Length n) output′
 unfolding filed outputAfter
-puts-whole file output e l is =
-    let more : length file ≤ length output = omega arith in
-    let room : Fine ≡ test (shortOutput (length output) file) = whole-fine Output _ (le-ltb _ _ more) in
-    record { answers = ap Length e ∙ ap (λ (v : Verdict). filed v file) room; writes = is ∙ ap (λ (v : Verdict). outputAfter v file output) room }
+puts-whole file output e n is =
+    let room : Fine ≡ test (shortOutput (length output) file) = whole-fine Output _ e in
+    record { answers = ap Length n ∙ ap (λ (v : Verdict). filed v file) room; writes = is ∙ ap (λ (v : Verdict). outputAfter v file output) room }
 
 -- ---- zeros hide what a pass has left in the work tables
 

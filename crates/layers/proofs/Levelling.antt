@@ -18,6 +18,7 @@ use Rattle.cutter.specs.Outlines.{Long}
 use Rattle.active.specs.Lists.{activeAt}
 use Rattle.active.specs.Advances.{Relinked}
 use Rattle.active.specs.Levels.{Climbing, Dealt, Kept}
+use Rattle.active.specs.Totals.{CrossingTotal}
 use Rattle.rounds.specs.Rounds.{Outlined, Marked}
 use Rattle.layers.specs.Works.{Spent, Works, Holds}
 use Rattle.layers.specs.Sweeps.{Ranged, Ready, Sweeping}
@@ -63,6 +64,10 @@ module _ {coords : List ℤ} {corners : List ℕ} (ranged : Ranged coords corner
   begun-spent =
       let z : length {A = ℕ} (replicate (length corners) 0) ≡ length corners = length-replicate {A = ℕ} (length corners) 0 in
       (subst (Spent (length corners) marks) (sym em) (spent-front (length corners) (replicate (length corners) 0) marks (omega arith) marks-long), spent-kept (d .1))
+
+pub crossings-held : (heights : List ℤ) {coords : List ℤ} {corners : List ℕ} {low low′ : ℤ} {count crossings : ℕ} → low′ ≡ low → CrossingTotal coords corners (heightAt low′ heights) count crossings
+    → CrossingTotal coords corners (heightAt low heights) count crossings
+crossings-held heights {coords} {corners} {count = count} {crossings} e = subst (λ (z : ℤ). CrossingTotal coords corners (heightAt z heights) count crossings) e
 
 -- ---- next_layer
 

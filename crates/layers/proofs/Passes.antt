@@ -89,6 +89,29 @@ module _ (coords : List ℤ) (corners pairing : List ℕ) (heights : List ℤ) (
     height-is : {k : ℕ} {h : ℤ} → k < count → h ≡ heightAt low heights k → h ≡ getD hs k (pos 0)
     height-is {k} l e = e ∙ ap (λ (z : ℤ). heightAt z heights k) (listed .low-is) ∙ height-at coords heights k (omega (arith, listed .count-is))
 
+    -- one layer more
+    next-list : {k : ℕ} {h : ℤ} → k < count → h ≡ heightAt low heights k → map at (take (suc k) hs) ≡ map at (take k hs) ++ (at h ∷ [])
+    next-list {k} {h} l e =
+        ap (map at) (take-suc hs k (pos 0) (omega (arith, listed .count-is)))
+        ∙ map-append at (take k hs) (getD hs k (pos 0) ∷ [])
+        ∙ ap (λ (z : ℤ). map at (take k hs) ++ (at z ∷ [])) (sym (height-is l e))
+
+    pub total-next : {k : ℕ} {h : ℤ} → k < count → h ≡ heightAt low heights k
+        → totalOf (λ l. length (layerBytes l)) (map (layerAt coords corners pairing) (take (suc k) (heightsTaken coords heights)))
+        ≡ totalOf (λ l. length (layerBytes l)) (map (layerAt coords corners pairing) (take k (heightsTaken coords heights))) + length (layerBytes (layerAt coords corners pairing h))
+    total-next {k} {h} l e = ap (totalOf (λ y. length (layerBytes y))) (next-list l e) ∙ total-snoc (λ y. length (layerBytes y)) (map at (take k hs)) (at h)
+
+    pub total-all : {k : ℕ} → count ≤ k
+        → length (encodeNumber count) + totalOf (λ l. length (layerBytes l)) (map (layerAt coords corners pairing) (take k (heightsTaken coords heights)))
+        ≡ length (fileOf coords corners pairing (heightsTaken coords heights))
+    total-all {k} l =
+        let all : take k hs ≡ hs = take-all k hs (omega (arith, listed .count-is)) in
+        (λ i. length (encodeNumber (sym n-layers i)) + totalOf (λ y. length (layerBytes y)) (map at (all i)))
+        ∙ sym (file-length (map at hs))
+      where
+        n-layers : length (map at hs) ≡ count
+        n-layers = length-map hs at ∙ sym (listed .count-is)
+
     -- ---- measured
 
     pub measured-start : {total : ℕ} → total ≡ length (encodeNumber count) → Measured 0 total
@@ -106,27 +129,16 @@ module _ (coords : List ℤ) (corners pairing : List ℕ) (heights : List ℤ) (
       pub measured-fits : total + n < 2 ^ 64
       measured-fits = omega (arith, m .few, n-few, listed .few)
 
-      next-list : map at (take (suc k) hs) ≡ map at (take k hs) ++ (at h ∷ [])
-      next-list =
-          ap (map at) (take-suc hs k (pos 0) (omega (arith, listed .count-is)))
-          ∙ map-append at (take k hs) (getD hs k (pos 0) ∷ [])
-          ∙ ap (λ (z : ℤ). map at (take k hs) ++ (at z ∷ [])) (sym (height-is l e))
-
       pub measured-next : Measured (k + 1) (total + n)
       measured-next =
           subst (λ (i : ℕ). Measured i (total + n)) (sym (add-one k))
           (record {
-            sum = omega (arith, m .sum, n-is, ap (totalOf (λ y. length (layerBytes y))) next-list, total-snoc (λ y. length (layerBytes y)) (map at (take k hs)) (at h));
+            sum = omega (arith, m .sum, n-is, total-next l e);
             few = omega (arith, m .few, n-few);
           })
 
     pub measured-end : {k total : ℕ} → Measured k total → count ≤ k → total ≡ length (fileOf coords corners pairing (heightsTaken coords heights))
-    measured-end {k} {total} m l =
-        let all : take k hs ≡ hs = take-all k hs (omega (arith, listed .count-is)) in
-        let n : length (map at hs) ≡ count = length-map hs at ∙ sym (listed .count-is) in
-        m .sum
-        ∙ (λ i. length (encodeNumber (sym n i)) + totalOf (λ y. length (layerBytes y)) (map at (all i)))
-        ∙ sym (file-length (map at hs))
+    measured-end m l = m .sum ∙ total-all l
 
     -- ---- written
 
@@ -148,12 +160,12 @@ module _ (coords : List ℤ) (corners pairing : List ℕ) (heights : List ℤ) (
         pub wrote-size : {m : List ℕ} {p k : ℕ} → Wrote l first m p k → length m ≡ length output
         wrote-size w = w .bytes .size ∙ counted .size
 
-        pub wrote-end : {m : List ℕ} {p k : ℕ} → Wrote l first m p k → count ≤ k → m ≡ overwrite (fileOf coords corners pairing (heightsTaken coords heights)) output
+        pub wrote-end : {m : List ℕ} {p k : ℕ} → Wrote l first m p k → count ≤ k
+            → (p ≡ length (fileOf coords corners pairing (heightsTaken coords heights))) × (m ≡ overwrite (fileOf coords corners pairing (heightsTaken coords heights)) output)
         wrote-end {m} {p} {k} w le =
             let none : drop k hs ≡ [] = drop-of-length-le hs {i = k} (omega (arith, listed .count-is)) in
-            each-end layerBytes (subst (λ (zs : List ℤ). Emit l first (flatMap layerBytes (map at hs)) m p (flatMap layerBytes (map at zs))) none (w .bytes)) .1
-            ∙ counted .same
-            ∙ put-front output (fileOf coords corners pairing hs) (omega arith)
+            let e = each-end layerBytes (subst (λ (zs : List ℤ). Emit l first (flatMap layerBytes (map at hs)) m p (flatMap layerBytes (map at zs))) none (w .bytes)) in
+            (omega (arith, e .0, counted .ends), e .1 ∙ counted .same ∙ put-front output (fileOf coords corners pairing hs) (omega arith))
 
     module _ {l : List ℕ} {first : ℕ} {m : List ℕ} {p k : ℕ} (w : Wrote l first m p k) (less : k < count) {h : ℤ} (e : h ≡ heightAt low heights k)
         {points : List ℤ} {ends : List ℕ} {j : ℕ} (holds : Holds coords corners pairing h points ends j) where

@@ -10,6 +10,7 @@ use lib.IntN.{ℤ, pos}
 use lib.Dec.{eqb}
 use borrow.Author.Tests.{eq-eqb}
 use Rattle.laws.specs.Booleans.{or-left, or-right}
+use Rattle.laws.specs.Count.{count as tally}
 use Rattle.laws.specs.Tables.{overwrite}
 use Rattle.laws.specs.TableLaws.{length-overwrite, overwrite-at}
 use Rattle.mesh.specs.Corners.{triangleCount}
@@ -31,15 +32,17 @@ use Rattle.cutter.specs.SolidLaws.{crossing-climbs}
 use Rattle.cutter.specs.declared.Sliced.{Sliced}
 use Rattle.cutter.specs.declared.Sliced.the-variants.{Layer as Cut}
 use Rattle.formats.specs.Formats.{Each}
-use Rattle.formats.specs.Numbers.{Word}
-use Rattle.formats.specs.LayerFile.{Point, Layer}
+use Rattle.formats.specs.Numbers.{encodeNumber, zigzag, Word}
+use Rattle.formats.specs.LayerFile.{mostPoints, Point, Layer}
 use Rattle.formats.specs.LayerRules.{PointRules, ContourRules, pointTotal, LayerRules}
 use Rattle.writer.specs.Written as written
-use Rattle.writer.specs.Written.{layerOf, numbersOf}
+use Rattle.writer.specs.Written.{layerOf, numbersOf, layerBytes}
 use Rattle.writer.specs.LayerTables.{LayerTables}
-use Rattle.writer.specs.WrittenLaws.{layer-held, tables-held, flatten-map, ends-map, length-ends}
+use Rattle.writer.specs.WrittenLaws.{layer-held, tables-held, flatten-map, ends-map, length-ends, layer-short}
 use Rattle.layers.specs.AllLayers.{pointOf, layerAt}
+use Rattle.active.specs.Lists.{activeAt}
 use Rattle.active.specs.Levels.{Kept}
+use Rattle.active.specs.TotalLaws.{distinct-tally}
 use Rattle.rounds.specs.Rounds.{Outlined}
 use Rattle.layers.specs.Works.{Spent, Holds}
 
@@ -157,15 +160,24 @@ module _ (coords : List ℤ) (corners pairing : List ℕ) (right : Right coords 
   unfolding layerAt
   layer-is = ap (λ (t : Traced). record { height = h; contours = drawn coords corners h (contoursOf t) }) section-rings
 
+  rings-small : pointTotal (drawn coords corners h rings) ≤ mostPoints
+  rings-small = omega (arith, drawn-total coords corners h rings, rings-few, right .named .whole .few)
+
+  rings-rules : Each ContourRules (drawn coords corners h rings)
+  rings-rules =
+      contours-rule coords corners h rings (λ i l. rings-layer .each i l .two)
+      (λ x e. let t = crossing-climbs coords corners h pairing right x (rings-layer .only x e) in (point-in coords corners h x t 0 (omega arith), point-in coords corners h x t 1 (omega arith)))
+
   pub layer-rules : Word h → LayerRules (layerAt coords corners pairing h)
-  layer-rules fits =
-      subst LayerRules (sym layer-is)
-      (record {
-        height-fits = fits;
-        few = omega (arith, drawn-total coords corners h rings, rings-few, right .named .whole .few);
-        each = contours-rule coords corners h rings (λ i l. rings-layer .each i l .two)
-            (λ x e. let t = crossing-climbs coords corners h pairing right x (rings-layer .only x e) in (point-in coords corners h x t 0 (omega arith), point-in coords corners h x t 1 (omega arith)));
-      })
+  layer-rules fits = subst LayerRules (sym layer-is) (record { height-fits = fits; few = rings-small; each = rings-rules })
+
+  -- a crossing takes ten bytes at most
+  pub layer-bound : length (layerBytes (layerAt coords corners pairing h)) ≤ length (encodeNumber (zigzag h)) + 3 + 10 * tally (length corners) (activeAt coords corners h)
+  layer-bound =
+      let n = distinct-tally (activeAt coords corners h) (length corners) (namesOf rings) (rings-layer .once)
+      (λ i l. let x = rings-layer .only (getD (namesOf rings) i 0) (at-member (namesOf rings) i l) in (x .below, x .upward)) in
+      let m = layer-short (record { height = h; contours = drawn coords corners h rings }) rings-small rings-rules in
+      omega (arith, ap (λ (l : Layer). length (layerBytes l)) layer-is, m, n, drawn-total coords corners h rings)
 
   -- ---- what Cut's tables hold
 

@@ -2,6 +2,7 @@
 pub mod AllLayers
 pub mod Works
 pub mod Sweeps
+pub mod Bounds
 pub mod LayerAtLaws
 pub mod SweepLaws
 pub mod LayersLaws

@@ -1,7 +1,9 @@
 // Internal: the passes over the heights, for a mesh and heights that the tests have passed.
 ghost use mathlib.Core.Path.{_≡_};
-ghost use Prim.Native.Nat.{_+_, _<_, _≤_};
+ghost use Prim.Native.Nat.{_+_, _*_, _<_, _≤_};
+ghost use mathlib.Core.Bool.{false};
 ghost use mathlib.Core.List.{[], _∷_};
+ghost use lib.Dec.{ltb};
 ghost use lib.ListN.{length};
 ghost use Rattle.laws.specs.Tables.{overwrite};
 ghost use Rattle.mesh.specs.Corners.{vertexCount};
@@ -10,11 +12,14 @@ ghost use Rattle.mesh.specs.Tests.{Whole, range, vertex, triangle, pairs, order
 ghost use Rattle.section.specs.Section.{Right};
 ghost use Rattle.cutter.specs.Outlines.{Long};
 ghost use Rattle.active.specs.Levels.{Climbing};
+ghost use Rattle.active.specs.Totals.{CrossingTotal};
+ghost use Rattle.formats.specs.Numbers.{encodeNumber, zigzag};
 ghost use Rattle.heights.specs.Taking.{heightAt};
 ghost use Rattle.heights.specs.Heights.{heightsTaken, fallingHeight};
 ghost use Rattle.layers.specs.AllLayers.{fileOf};
 ghost use Rattle.layers.specs.Works.{Spent, Works, Zeroed, Holds, Puts};
 ghost use Rattle.layers.specs.Sweeps.{Ranged, Ready, Sweeping};
+ghost use Rattle.layers.specs.Bounds.{longestFile};
 use crate::Filed;
 use active::internal::advance;
 use active::internal::deal;
@@ -22,6 +27,7 @@ use cutter::internal::clear_points;
 use formats::MOST_LAYERS;
 use formats::internal::write_number;
 use formats::numbers::number_length;
+use formats::numbers::unsigned_of;
 use heights::heights_test;
 use heights::internal::taken_height;
 use mesh::Refusal;
@@ -68,7 +74,7 @@ struct Level {
     contours: usize,
 }
 
-// Begins the sweep: no mark, and each corner that rises somewhere in the list of the first height at which it does.
+// Begins the sweep: no mark, and each corner that rises somewhere in the list of the first height at which it does; returns how many crossings all heights have.
 fn begin(
     coords: &[i32],
     corners: &[u32],
@@ -78,13 +84,14 @@ fn begin(
     marks: &mut [u32],
     ring: &mut [u32],
     heads: &mut [u32],
-)
+) -> usize
     requires { ⌜ Ranged (now coords) (now corners) ⌝ ∗ ⌜ Climbing low (now heights) count ⌝ ∗ ⌜ (length (now corners) ≤ length (now marks)) × (length (now corners) ≤ length (now ring)) × (count ≤ length (now heads)) ⌝ }
     ensures { λ _. ⌜ Sweeping (now (coords .entry)) (now (corners .entry)) (heightAt low (now (heights .entry))) count 0 (now (ring .exit)) (now (heads .exit)) (now (marks .exit)) (length (now (corners .entry))) ⌝ }
     ensures { λ _. ⌜ Spent (length (now (corners .entry))) (now (marks .entry)) (now (marks .exit)) × Spent (length (now (corners .entry))) (now (ring .entry)) (now (ring .exit)) ⌝ }
+    ensures { λ r. ⌜ CrossingTotal (now (coords .entry)) (now (corners .entry)) (heightAt low (now (heights .entry))) count r ⌝ }
 {
     fill(marks, corners.len(), 0);
-    deal(coords, corners, low, heights, count, ring, heads);
+    deal(coords, corners, low, heights, count, ring, heads)
 }
 
 // The layer of height k, put into the tables of points and ends.
@@ -166,8 +173,30 @@ fn layers_length(
     total
 }
 
-// How many bytes the layer file takes.
-fn file_length(
+// How many bytes a height takes.
+fn height_length(h: i32) -> usize
+    ensures { λ r. ⌜ (r ≡ length (encodeNumber (zigzag h))) × (r ≤ 5) ⌝ }
+{
+    number_length(unsigned_of(h as i64))
+}
+
+// How many bytes the layer file takes at most, by how many crossings all heights have.
+fn longest(low: i32, heights: &[i32], count: usize, crossings: usize) -> usize
+    requires { ⌜ Climbing low (now heights) count ⌝ ∗ ⌜ crossings ≤ 196608 * 4096 ⌝ }
+    ensures { λ r. ⌜ r ≡ longestFile (heightAt low (now (heights .entry))) count crossings ⌝ }
+{
+    let mut total = number_length(count as u64) + 10 * crossings;
+    let mut k: usize = 0;
+    while k < count {
+        let h = taken_height(low, heights, k);
+        total += height_length(h) + 3;
+        k += 1;
+    }
+    total
+}
+
+// Whether the file, which is no longer than bound, is longer than room: it is measured where the bound is. Else the sweep is begun.
+fn is_short(
     coords: &[i32],
     corners: &[u32],
     pairing: &[u32],
@@ -179,22 +208,18 @@ fn file_length(
     ends: &mut [u32],
     marks: &mut [u32],
     ring: &mut [u32],
-) -> usize
-    requires { ⌜ Ready (now coords) (now corners) (now pairing) low (now heights) count (now names) (now points) (now ends) (now marks) (now ring) ⌝ }
-    ensures { λ r. ⌜ (r ≡ length (fileOf (now (coords .entry)) (now (corners .entry)) (now (pairing .entry)) (heightsTaken (now (coords .entry)) (now (heights .entry))))) × Works (length (now (corners .entry))) (now (names .entry)) (now (points .entry)) (now (ends .entry)) (now (marks .entry)) (now (ring .entry)) (now (names .exit)) (now (points .exit)) (now (ends .exit)) (now (marks .exit)) (now (ring .exit)) ⌝ }
+    heads: &mut [u32],
+    bound: usize,
+    room: usize,
+) -> bool
+    requires { ⌜ Ready (now coords) (now corners) (now pairing) low (now heights) count (now names) (now points) (now ends) (now marks) (now ring) ⌝ ∗ ⌜ Sweeping (now coords) (now corners) (heightAt low (now heights)) count 0 (now ring) (now heads) (now marks) (length (now corners)) ⌝ ∗ ⌜ length (fileOf (now coords) (now corners) (now pairing) (heightsTaken (now coords) (now heights))) ≤ bound ⌝ }
+    ensures { λ r. ⌜ (r ≡ ltb room (length (fileOf (now (coords .entry)) (now (corners .entry)) (now (pairing .entry)) (heightsTaken (now (coords .entry)) (now (heights .entry)))))) × Works (length (now (corners .entry))) (now (names .entry)) (now (points .entry)) (now (ends .entry)) (now (marks .entry)) (now (ring .entry)) (now (names .exit)) (now (points .exit)) (now (ends .exit)) (now (marks .exit)) (now (ring .exit)) ⌝ }
+    ensures { λ r. ⌜ (r ≡ false → Sweeping (now (coords .entry)) (now (corners .entry)) (heightAt low (now (heights .entry))) count 0 (now (ring .exit)) (now (heads .exit)) (now (marks .exit)) (length (now (corners .entry)))) ⌝ }
 {
-    let mut heads = [0u32; MOST_LAYERS];
-    begin(
-        coords,
-        corners,
-        low,
-        heights,
-        count,
-        marks,
-        ring,
-        &mut heads,
-    );
-    layers_length(
+    if bound <= room {
+        return false;
+    }
+    let n = layers_length(
         coords,
         corners,
         pairing,
@@ -206,11 +231,16 @@ fn file_length(
         ends,
         marks,
         ring,
-        &heads,
-    )
+        heads,
+    );
+    if room < n {
+        return true;
+    }
+    begin(coords, corners, low, heights, count, marks, ring, heads);
+    false
 }
 
-// Writes the layers, the sweep begun.
+// Writes the layer file, the sweep begun, and returns its length.
 fn write_layers(
     coords: &[i32],
     corners: &[u32],
@@ -225,9 +255,9 @@ fn write_layers(
     ring: &mut [u32],
     heads: &[u32],
     output: &mut [u8],
-)
+) -> usize
     requires { ⌜ Ready (now coords) (now corners) (now pairing) low (now heights) count (now names) (now points) (now ends) (now marks) (now ring) ⌝ ∗ ⌜ Sweeping (now coords) (now corners) (heightAt low (now heights)) count 0 (now ring) (now heads) (now marks) (length (now corners)) ⌝ ∗ ⌜ length (fileOf (now coords) (now corners) (now pairing) (heightsTaken (now coords) (now heights))) ≤ length (now output) ⌝ }
-    ensures { λ _. ⌜ (now (output .exit) ≡ overwrite (fileOf (now (coords .entry)) (now (corners .entry)) (now (pairing .entry)) (heightsTaken (now (coords .entry)) (now (heights .entry)))) (now (output .entry))) × Works (length (now (corners .entry))) (now (names .entry)) (now (points .entry)) (now (ends .entry)) (now (marks .entry)) (now (ring .entry)) (now (names .exit)) (now (points .exit)) (now (ends .exit)) (now (marks .exit)) (now (ring .exit)) ⌝ }
+    ensures { λ r. ⌜ (r ≡ length (fileOf (now (coords .entry)) (now (corners .entry)) (now (pairing .entry)) (heightsTaken (now (coords .entry)) (now (heights .entry))))) × (now (output .exit) ≡ overwrite (fileOf (now (coords .entry)) (now (corners .entry)) (now (pairing .entry)) (heightsTaken (now (coords .entry)) (now (heights .entry)))) (now (output .entry))) × Works (length (now (corners .entry))) (now (names .entry)) (now (points .entry)) (now (ends .entry)) (now (marks .entry)) (now (ring .entry)) (now (names .exit)) (now (points .exit)) (now (ends .exit)) (now (marks .exit)) (now (ring .exit)) ⌝ }
 {
     let mut p = write_number(output, 0, count as u64);
     let mut active = corners.len();
@@ -254,10 +284,11 @@ fn write_layers(
         active = s.active;
         i += 1;
     }
+    p
 }
 
-// Writes the layer file at the front of an output that has room for it.
-fn write_file(
+// Writes the layer file, unless the output is shorter: that is known before the first byte is written. The heights have their lists in heads.
+fn put_layers(
     coords: &[i32],
     corners: &[u32],
     pairing: &[u32],
@@ -269,23 +300,15 @@ fn write_file(
     ends: &mut [u32],
     marks: &mut [u32],
     ring: &mut [u32],
+    heads: &mut [u32],
     output: &mut [u8],
-)
-    requires { ⌜ Ready (now coords) (now corners) (now pairing) low (now heights) count (now names) (now points) (now ends) (now marks) (now ring) ⌝ ∗ ⌜ length (fileOf (now coords) (now corners) (now pairing) (heightsTaken (now coords) (now heights))) ≤ length (now output) ⌝ }
-    ensures { λ _. ⌜ (now (output .exit) ≡ overwrite (fileOf (now (coords .entry)) (now (corners .entry)) (now (pairing .entry)) (heightsTaken (now (coords .entry)) (now (heights .entry)))) (now (output .entry))) × Works (length (now (corners .entry))) (now (names .entry)) (now (points .entry)) (now (ends .entry)) (now (marks .entry)) (now (ring .entry)) (now (names .exit)) (now (points .exit)) (now (ends .exit)) (now (marks .exit)) (now (ring .exit)) ⌝ }
+) -> Filed
+    requires { ⌜ Ready (now coords) (now corners) (now pairing) low (now heights) count (now names) (now points) (now ends) (now marks) (now ring) ⌝ ∗ ⌜ count ≤ length (now heads) ⌝ }
+    ensures { λ r. ⌜ Puts (fileOf (now (coords .entry)) (now (corners .entry)) (now (pairing .entry)) (heightsTaken (now (coords .entry)) (now (heights .entry)))) (now (output .entry)) r (now (output .exit)) × Works (length (now (corners .entry))) (now (names .entry)) (now (points .entry)) (now (ends .entry)) (now (marks .entry)) (now (ring .entry)) (now (names .exit)) (now (points .exit)) (now (ends .exit)) (now (marks .exit)) (now (ring .exit)) ⌝ }
 {
-    let mut heads = [0u32; MOST_LAYERS];
-    begin(
-        coords,
-        corners,
-        low,
-        heights,
-        count,
-        marks,
-        ring,
-        &mut heads,
-    );
-    write_layers(
+    let crossings = begin(coords, corners, low, heights, count, marks, ring, heads);
+    let bound = longest(low, heights, count, crossings);
+    let short = is_short(
         coords,
         corners,
         pairing,
@@ -297,12 +320,32 @@ fn write_file(
         ends,
         marks,
         ring,
-        &heads,
+        heads,
+        bound,
+        output.len(),
+    );
+    if short {
+        return Filed::Refused(Refusal::Output(0));
+    }
+    let n = write_layers(
+        coords,
+        corners,
+        pairing,
+        low,
+        heights,
+        count,
+        names,
+        points,
+        ends,
+        marks,
+        ring,
+        heads,
         output,
     );
+    Filed::Length(n)
 }
 
-// Writes the layer file, unless the output is shorter: its length is known before the first byte is written.
+// Writes the layer file, unless the output is shorter.
 pub fn put_file(
     coords: &[i32],
     corners: &[u32],
@@ -320,7 +363,8 @@ pub fn put_file(
     requires { ⌜ Ready (now coords) (now corners) (now pairing) low (now heights) count (now names) (now points) (now ends) (now marks) (now ring) ⌝ }
     ensures { λ r. ⌜ Puts (fileOf (now (coords .entry)) (now (corners .entry)) (now (pairing .entry)) (heightsTaken (now (coords .entry)) (now (heights .entry)))) (now (output .entry)) r (now (output .exit)) × Works (length (now (corners .entry))) (now (names .entry)) (now (points .entry)) (now (ends .entry)) (now (marks .entry)) (now (ring .entry)) (now (names .exit)) (now (points .exit)) (now (ends .exit)) (now (marks .exit)) (now (ring .exit)) ⌝ }
 {
-    let n = file_length(
+    let mut heads = [0u32; MOST_LAYERS];
+    put_layers(
         coords,
         corners,
         pairing,
@@ -332,25 +376,9 @@ pub fn put_file(
         ends,
         marks,
         ring,
-    );
-    if output.len() < n {
-        return Filed::Refused(Refusal::Output(0));
-    }
-    write_file(
-        coords,
-        corners,
-        pairing,
-        low,
-        heights,
-        count,
-        names,
-        points,
-        ends,
-        marks,
-        ring,
+        &mut heads,
         output,
-    );
-    Filed::Length(n)
+    )
 }
 
 // Zeroes the entries of the work tables that n corners ask for.

@@ -253,18 +253,15 @@ few-contours : (cs : List (List Point)) → Each ContourRules cs → 2 * length 
 few-contours [] e = omega arith
 few-contours (c ∷ cs) e = omega (arith, e .0 .0, few-contours cs (e .1))
 
-module _ (l : Layer) (r : LayerRules l) where
-  few : 2 * length (l .contours) ≤ pointTotal (l .contours)
-  few = few-contours (l .contours) (r .each)
+-- a layer whose points and contours keep the rules
+pub layer-short : (l : Layer) → pointTotal (l .contours) ≤ mostPoints → Each ContourRules (l .contours) → length (layerBytes l) ≤ length (encodeNumber (zigzag (l .height))) + 3 + 10 * pointTotal (l .contours)
+layer-short l h e =
+    let few = few-contours (l .contours) e in
+    let n = encode-short 2 (length (l .contours)) (omega arith) in
+    omega (arith, few, n, contours-short (l .contours) h e, simp length-append at (ap length (layer-bytes l)))
 
-  pub layer-short : length (layerBytes l) ≤ 8 + 3 * length (l .contours) + 8 * pointTotal (l .contours)
-  layer-short =
-      let h = word-bytes (zigzag (l .height)) (omega (arith, word-sent (l .height) (r .height-fits))) in
-      let n = encode-short 2 (length (l .contours)) (omega (arith, few, r .few)) in
-      omega (arith, h, n, contours-short (l .contours) (r .few) (r .each), simp length-append at (ap length (layer-bytes l)))
-
-  pub layer-most : length (layerBytes l) ≤ mostLayerBytes
-  layer-most = omega (arith, layer-short, few, r .few)
+pub layer-most : (l : Layer) → LayerRules l → length (layerBytes l) ≤ mostLayerBytes
+layer-most l r = omega (arith, layer-short l (r .few) (r .each), r .few, word-bytes (zigzag (l .height)) (omega (arith, word-sent (l .height) (r .height-fits))))
 
 pub layers-most : (ls : List Layer) → Each LayerRules ls → totalOf (λ l. length (layerBytes l)) ls ≤ length ls * mostLayerBytes
 unfolding totalOf

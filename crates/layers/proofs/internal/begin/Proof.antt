@@ -1,9 +1,9 @@
 -- `internal::begin` meets its contract.
+use Rattle.layers.proofs.Levelling.{begun-sweep, begun-spent, crossings-held}
 use denote.Ref.{now}
 use mir.Syntax.{w32}
 use mir.ValLaws.{toZ-ofZ}
 use Rattle.active.specs.LevelLaws.{climbing-held}
-use Rattle.layers.proofs.Levelling.{begun-sweep, begun-spent}
 use borrow.Author.Needs.{needs}
 use Rattle.layers.proofs.internal.begin.Statement.{statement}
 use Rattle.layers.proofs.internal.begin.Tie as tie
@@ -24,7 +24,7 @@ same-length-3 : tie.Need-same-length-3
 same-length-3 c = search needs
 
 returns : tie.Need-returns
-returns c = let s = c .before .before .before .before .before .before .before .before .before .before .before .before .before .before .before in (begun-sweep (s .pre .0) (now (s .args .heights)) (toZ-ofZ w32 (s .args .low) (s .fits .low)) (now (s .args .marks)) (now (s .args .heads)) (s .pre .1 .1 .0) (s .pre .1 .1 .1) (s .pre .1 .1 .2) (c .before .before .before .before .before .before .before .before .before .fill .ensures) (c .before .before .before .before .deal .ensures) (c .before .before .before .before .deal .kept .1 .1 .1 .1 .1 .1 .0), begun-spent (s .pre .0) (now (s .args .heights)) (toZ-ofZ w32 (s .args .low) (s .fits .low)) (now (s .args .marks)) (now (s .args .heads)) (s .pre .1 .1 .0) (s .pre .1 .1 .1) (s .pre .1 .1 .2) (c .before .before .before .before .before .before .before .before .before .fill .ensures) (c .before .before .before .before .deal .ensures) (c .before .before .before .before .deal .kept .1 .1 .1 .1 .1 .1 .0))
+returns c = let s = c .before .before .before .before .before .before .before .before .before .before .before .before .before .before .before in let e = toZ-ofZ w32 (s .args .low) (s .fits .low) in (begun-sweep (s .pre .0) (now (s .args .heights)) e (now (s .args .marks)) (now (s .args .heads)) (s .pre .1 .1 .0) (s .pre .1 .1 .1) (s .pre .1 .1 .2) (c .before .before .before .before .before .before .before .before .before .fill .ensures) (c .before .before .before .before .deal .ensures .0) (c .before .before .before .before .deal .kept .1 .1 .1 .1 .1 .1 .0), (begun-spent (s .pre .0) (now (s .args .heights)) e (now (s .args .marks)) (now (s .args .heads)) (s .pre .1 .1 .0) (s .pre .1 .1 .1) (s .pre .1 .1 .2) (c .before .before .before .before .before .before .before .before .before .fill .ensures) (c .before .before .before .before .deal .ensures .0) (c .before .before .before .before .deal .kept .1 .1 .1 .1 .1 .1 .0), crossings-held (now (s .args .heights)) e (c .before .before .before .before .deal .ensures .1)))
 
 pub begin-spec : {M : Type 1} → statement M
 begin-spec =

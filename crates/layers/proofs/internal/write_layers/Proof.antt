@@ -64,7 +64,7 @@ same-length-6 : tie.Need-same-length-6 Inv-loop μ-loop
 same-length-6 c = let s = c .before .before .before .before .before .before .before .before .before .before .before .before .before .before in wrote-size _ _ _ _ _ (s .pre .0 .listed) _ (s .pre .1 .1) (c .before .before .before .before .write-number .ensures) (c .before .loop .inv .0)
 
 returns : tie.Need-returns Inv-loop μ-loop
-returns c = let s = c .before .before .before .before .before .before .before .before .before .before .before .before .before .before in (wrote-end _ _ _ _ _ (s .pre .0 .listed) _ (s .pre .1 .1) (c .before .before .before .before .write-number .ensures) (c .before .loop .inv .0) (c .loop-test .left), c .before .loop .inv .1 .0)
+returns c = let s = c .before .before .before .before .before .before .before .before .before .before .before .before .before .before in let e = wrote-end _ _ _ _ _ (s .pre .0 .listed) _ (s .pre .1 .1) (c .before .before .before .before .write-number .ensures) (c .before .loop .inv .0) (c .loop-test .left) in (e .0, e .1, c .before .loop .inv .1 .0)
 
 pub write-layers-spec : {M : Type 1} → statement M
 write-layers-spec =

@@ -1,0 +1,87 @@
+-- `internal::is_short` meets its contract.
+use mathlib.Core.Path.{refl, sym}
+use native.Mathlib.Omega.{arith}
+use denote.Ref.{now}
+use mir.Syntax.{w32}
+use mir.ValLaws.{toZ-ofZ}
+use Rattle.laws.specs.Booleans.{clash}
+use Rattle.layers.specs.SweepLaws.{climbing}
+use Rattle.layers.proofs.Passes.{works-none, works-begun, works-more, held-listed}
+use Rattle.layers.proofs.Bounding.{room-bound, room-short, room-left}
+use Rattle.layers.proofs.Levelling.{right-ranged, ready-held, sweeping-held}
+use borrow.Author.Needs.{needs}
+use Rattle.layers.proofs.internal.is_short.Statement.{statement}
+use Rattle.layers.proofs.internal.is_short.Tie as tie
+
+returns : tie.Need-returns
+returns c = let s = c .before .before .before .before .before .before .before .before in ((room-bound (s .pre .1 .1) (c .if1 .taken), works-none), (λ e. s .pre .1 .0))
+
+layers-length-requires : tie.Need-layers-length-requires
+layers-length-requires c κs = let s = c .before .before .before .before .before .before .before .before .before .before .before .before .before .before in let e = toZ-ofZ w32 (s .args .low) (s .fits .low) in (ready-held e (s .pre .0), sweeping-held (now (s .args .heights)) e (s .pre .1 .0))
+
+same-length : tie.Need-same-length
+same-length c = search needs
+
+same-length-2 : tie.Need-same-length-2
+same-length-2 c = search needs
+
+same-length-3 : tie.Need-same-length-3
+same-length-3 c = search needs
+
+same-length-4 : tie.Need-same-length-4
+same-length-4 c = search needs
+
+same-length-5 : tie.Need-same-length-5
+same-length-5 c = search needs
+
+same-length-6 : tie.Need-same-length-6
+same-length-6 c = search needs
+
+returns-2 : tie.Need-returns-2
+returns-2 c = ((room-short (c .before .before .before .before .before .before .before .before .before .before .layers-length .ensures .0) (c .if2 .taken), c .before .before .before .before .before .before .before .before .before .before .layers-length .ensures .1), (λ e. absurd (clash refl e)))
+
+begin-requires : tie.Need-begin-requires
+begin-requires c κs = let s = c .before .before .before .before .before .before .before .before .before .before .before .before .before .before .before .before .before .before .before .before .before .before .before .before .before .before .before .before in let w = c .before .before .before .before .before .before .before .before .before .before .before .before .before .layers-length .ensures .1 in (right-ranged (s .pre .0 .right), (climbing (held-listed (s .pre .0 .listed) (toZ-ofZ w32 (s .args .low) (s .fits .low))), (omega (arith, s .pre .0 .long .marks-long, w .marks-spent .same-length), omega (arith, s .pre .0 .ring-long, w .ring-spent .same-length), s .pre .1 .0 .heads-room)))
+
+same-length-7 : tie.Need-same-length-7
+same-length-7 c = search needs
+
+same-length-8 : tie.Need-same-length-8
+same-length-8 c = search needs
+
+same-length-9 : tie.Need-same-length-9
+same-length-9 c = search needs
+
+same-length-10 : tie.Need-same-length-10
+same-length-10 c = search needs
+
+same-length-11 : tie.Need-same-length-11
+same-length-11 c = search needs
+
+same-length-12 : tie.Need-same-length-12
+same-length-12 c = search needs
+
+returns-3 : tie.Need-returns-3
+returns-3 c = let s = c .before .before .before .before .before .before .before .before .before .before .before .before .before .before .before .before .before .before .before .before .before .before .before .before .before .before .before .before .before .before .before .before .before .before .before in ((room-left (c .before .before .before .before .before .before .before .before .before .before .before .before .before .before .before .before .before .before .before .before .layers-length .ensures .0) (c .before .before .before .before .before .before .before .before .before .before .if2 .left), works-more (c .before .before .before .before .before .before .before .before .before .before .before .before .before .before .before .before .before .before .before .before .layers-length .ensures .1) (works-begun (c .before .before .before .before .before .before .begin .ensures .1 .0))), (λ e. sweeping-held (now (s .args .heights)) (sym (toZ-ofZ w32 (s .args .low) (s .fits .low))) (c .before .before .before .before .before .before .begin .ensures .0)))
+
+pub is-short-spec : {M : Type 1} → statement M
+is-short-spec =
+    tie.close
+    (tie.spec
+    returns
+    layers-length-requires
+    same-length
+    same-length-2
+    same-length-3
+    same-length-4
+    same-length-5
+    same-length-6
+    returns-2
+    begin-requires
+    same-length-7
+    same-length-8
+    same-length-9
+    same-length-10
+    same-length-11
+    same-length-12
+    returns-3)
