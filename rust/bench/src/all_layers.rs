@@ -1,44 +1,128 @@
-use crate::inputs::{heights, tori};
-use crate::unproved;
-use crate::versions::{compare_in, Kind, Subject, Version};
+use crate::comparison::{Bench, Comparison, Figure, Kind, Row};
+use crate::inputs::{heights, largest_cone, largest_torus, point_count, tori};
+use crate::unproved::{self, AllLayers};
+use crate::versions::{Subject, Version};
 use meshes::{random_pairing, vertex_order, Mesh, Random};
 use std::hint::black_box;
-use std::time::{Duration, Instant};
-use wadroles::{LayerTables, MeshTables, Refusal};
+use wadroles::{LayerTables, MeshTables};
 
 const HEIGHTS: i32 = 1000;
+const MORE_HEIGHTS: i32 = 4096;
+const CONE_HEIGHTS: i32 = 100;
+const CONE_POINTS: usize = 32_766;
+const SINGLE_HEIGHTS: i32 = 20;
 const RUNS: usize = 11;
 const JUNK: u32 = 0xDEAD_BEEF;
 
-type AllLayers =
-    fn(MeshTables, &[i32], LayerTables, &mut [u32], &mut [u8]) -> Result<usize, Refusal>;
+/// More bytes than a layer takes beside its points.
+const LAYER_BYTES: usize = 16;
 
-/// Times all layers: against a version that makes the section of the whole mesh at each height, as
-/// the library does, and against one that visits only the crossings of each height.
-pub fn run() {
-    let heading = format!("all layers at {HEIGHTS} heights");
-    let rows: [(&str, AllLayers); 2] = [
-        ("torus", unproved::all_layers),
-        ("torus, by crossings", unproved::all_layers_by_crossings),
-    ];
-    let kinds = rows.map(|(name, unproved)| Kind {
-        name,
-        sizes: tori().map(|mesh| Swept::new(mesh, unproved)),
-    });
-    compare_in(RUNS, &heading, "triangles", kinds.into());
+/// More bytes than a point takes, with its part of the point count of its contour.
+const POINT_BYTES: usize = 12;
+
+/// All layers: by size, by the number of heights, at one height, and for each point.
+pub fn benches() -> Vec<Box<dyn Bench>> {
+    [by_size(), by_heights(), at_one_height(), by_points()]
+        .map(|table| Box::new(table) as Box<dyn Bench>)
+        .into()
 }
 
-/// A mesh with its pairing and order, heights to cut it at, and the tables lent to all layers.
+fn table(heading: &str, unit: &'static str, kinds: Vec<Kind<Swept>>) -> Comparison<Swept> {
+    Comparison {
+        runs: RUNS,
+        ..Comparison::new(heading, unit, kinds)
+    }
+}
+
+/// Three tori: against a version with a list of the corners that cross the present height, as the
+/// library has it, and against one that makes the section of the whole mesh at each height.
+fn by_size() -> Comparison<Swept> {
+    let rows: [(_, AllLayers); 2] = [
+        ("torus", unproved::all_layers),
+        ("torus, by section", unproved::all_layers_by_section),
+    ];
+    let kinds = rows.map(|(name, unproved)| {
+        Kind::new(name, tori(), move |mesh| {
+            Swept::new(mesh, HEIGHTS, unproved)
+        })
+    });
+    let heading = format!("all layers at {HEIGHTS} heights");
+    table(&heading, "triangles", kinds.into())
+}
+
+/// The largest torus at one height and at many: the growth of the last row is from 1,000 to 4,096.
+fn by_heights() -> Comparison<Swept> {
+    let counts = [1, HEIGHTS, MORE_HEIGHTS];
+    let kind = Kind::new("largest torus", counts, |count| {
+        Swept::new(largest_torus(), count, unproved::all_layers).with_size(count as usize)
+    });
+    table("all layers by heights", "heights", vec![kind])
+}
+
+/// Calls of one height each, against the library's Cut with its layer encoded in Rust: so here both
+/// versions are the library, and the ratio is that of All layers to Cut.
+fn at_one_height() -> Comparison<Swept> {
+    let kind = Kind::new("torus, cut and encode", tori(), |mesh| {
+        Swept::new(mesh, SINGLE_HEIGHTS, unproved::all_layers_by_cut).one_by_one()
+    });
+    let heading =
+        format!("all layers at one height, {SINGLE_HEIGHTS} times (unproved: cut and encode)");
+    table(&heading, "triangles", vec![kind])
+}
+
+/// The largest torus and a double cone whose every layer has half as many points as the mesh has
+/// triangles: with an output that is long enough for any file of so many points, so that one pass is
+/// enough, and with one of the file's own length. Growth is from torus to cone.
+fn by_points() -> Comparison<Swept> {
+    let long = Kind {
+        rows: vec![
+            Row::new("torus, long output", torus_by_points),
+            Row::new("double cone, long output", cone_by_points),
+        ],
+    };
+    let exact = Kind {
+        rows: vec![
+            Row::new("torus, exact output", || torus_by_points().exact()),
+            Row::new("double cone, exact output", || cone_by_points().exact()),
+        ],
+    };
+    Comparison {
+        figure: Figure::Each,
+        ..table("all layers for each point", "points", vec![long, exact])
+    }
+}
+
+fn torus_by_points() -> Swept {
+    let swept = Swept::new(largest_torus(), HEIGHTS, unproved::all_layers);
+    let points = point_count(&swept.mesh, &swept.calls[0]);
+    swept.with_size(points)
+}
+
+fn cone_by_points() -> Swept {
+    let swept = Swept::new(largest_cone(), CONE_HEIGHTS, unproved::all_layers);
+    let layers = swept.calls.concat();
+    let mut points = layers.iter().map(|&h| point_count(&swept.mesh, &[h]));
+    assert!(points.all(|count| count == CONE_POINTS));
+    swept.with_size(layers.len() * CONE_POINTS)
+}
+
+/// The layer file of the largest torus at so many heights.
+pub fn torus_file(count: i32) -> Vec<u8> {
+    let swept = Swept::new(largest_torus(), count, unproved::all_layers);
+    swept.exact().tables.output
+}
+
+/// A mesh with its pairing and order, the heights of each call, and the tables lent to all layers.
 struct Swept {
     unproved: AllLayers,
+    size: usize,
     mesh: Mesh,
     pairing: Vec<u32>,
     order: Vec<u32>,
-    heights: Vec<i32>,
+    calls: Vec<Vec<i32>>,
     tables: Tables,
 }
 
-#[derive(Clone, PartialEq)]
 struct Tables {
     names: Vec<u32>,
     points: Vec<i32>,
@@ -59,29 +143,61 @@ impl Tables {
             output: vec![JUNK as u8; output],
         }
     }
-
-    fn refill(&mut self) {
-        *self = Tables::new(self.ring.len(), self.output.len());
-    }
 }
 
 impl Swept {
-    /// With an output so long that its caller need not know the length of the file.
-    fn new(mesh: Mesh, unproved: AllLayers) -> Self {
-        let mut swept = Swept {
+    /// One call of so many heights, with an output that is long enough for any file of so many
+    /// points; the size is that of the mesh.
+    fn new(mesh: Mesh, count: i32, unproved: AllLayers) -> Self {
+        let heights = heights(&mesh, count);
+        let output = LAYER_BYTES * (heights.len() + 1) + POINT_BYTES * point_count(&mesh, &heights);
+        Swept {
             unproved,
+            size: mesh.triangle_count(),
             pairing: random_pairing(&mesh, &mut Random::new(1)),
             order: vertex_order(&mesh),
-            heights: heights(&mesh, HEIGHTS),
-            tables: Tables::new(mesh.corners.len(), 1 << 24),
+            calls: vec![heights],
+            tables: Tables::new(mesh.corners.len(), output),
             mesh,
-        };
-        let length = swept.sweep(Version::Unproved);
-        swept.tables = Tables::new(swept.mesh.corners.len(), 3 * length);
-        swept
+        }
     }
 
-    fn sweep(&mut self, version: Version) -> usize {
+    /// The same heights in a call each.
+    fn one_by_one(mut self) -> Self {
+        self.calls = self.calls.concat().into_iter().map(|h| vec![h]).collect();
+        self
+    }
+
+    /// With an output that the file fills.
+    fn exact(mut self) -> Self {
+        let length = self.call(Version::Unproved, 0);
+        self.tables.output.truncate(length);
+        self
+    }
+
+    /// Of another size, in units of the table.
+    fn with_size(self, size: usize) -> Self {
+        Swept { size, ..self }
+    }
+}
+
+impl Subject for Swept {
+    type Answer = usize;
+    type Left = Vec<u8>;
+
+    fn size(&self) -> usize {
+        self.size
+    }
+
+    fn calls(&self) -> usize {
+        self.calls.len()
+    }
+
+    fn refill(&mut self) {
+        self.tables = Tables::new(self.tables.ring.len(), self.tables.output.len());
+    }
+
+    fn call(&mut self, version: Version, call: usize) -> usize {
         let all_layers = black_box(match version {
             Version::Library => wadroles::all_layers,
             Version::Unproved => self.unproved,
@@ -99,32 +215,12 @@ impl Swept {
             marks: &mut self.tables.marks,
         };
         let (ring, output) = (&mut self.tables.ring, &mut self.tables.output);
-        all_layers(mesh, black_box(&self.heights), tables, ring, output)
+        all_layers(mesh, black_box(&self.calls[call]), tables, ring, output)
             .expect("the mesh is closed")
     }
-}
 
-impl Subject for Swept {
-    type Outcome = (usize, Tables);
-
-    fn size(&self) -> usize {
-        self.mesh.triangle_count()
-    }
-
-    fn calls(&self) -> usize {
-        1
-    }
-
-    fn time(&mut self, version: Version, _call: usize) -> Duration {
-        self.tables.refill();
-        let start = Instant::now();
-        black_box(self.sweep(version));
-        start.elapsed()
-    }
-
-    fn outcome(&mut self, version: Version, _call: usize) -> Self::Outcome {
-        self.tables.refill();
-        let length = self.sweep(version);
-        (length, self.tables.clone())
+    /// The output: what becomes of the work tables is tested with the unproved versions.
+    fn left(&self) -> Vec<u8> {
+        self.tables.output.clone()
     }
 }

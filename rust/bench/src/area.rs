@@ -1,20 +1,18 @@
+use crate::comparison::{Bench, Comparison, Kind};
 use crate::unproved;
-use crate::versions::{compare, Kind, Subject, Version};
+use crate::versions::{Subject, Version};
 use meshes::{Random, MAX_COORDINATE};
 use std::hint::black_box;
-use std::time::{Duration, Instant};
 use wadroles::MAX_POINTS;
 
 const TIMES_OVER: usize = 20;
 
-/// Times area.
-pub fn run() {
+/// Area.
+pub fn benches() -> Vec<Box<dyn Bench>> {
     let heading = format!("area, {TIMES_OVER} times over");
-    let kinds = vec![Kind {
-        name: "long contour",
-        sizes: [MAX_POINTS / 4, MAX_POINTS / 2, MAX_POINTS].map(Contour::new),
-    }];
-    compare(&heading, "points", kinds);
+    let sizes = [MAX_POINTS / 4, MAX_POINTS / 2, MAX_POINTS];
+    let kinds = vec![Kind::new("long contour", sizes, Contour::new)];
+    vec![Box::new(Comparison::new(heading, "points", kinds))]
 }
 
 /// A run of points.
@@ -35,16 +33,9 @@ impl Contour {
     }
 }
 
-fn area(version: Version, points: &[i32]) -> i64 {
-    let area = black_box(match version {
-        Version::Library => wadroles::area,
-        Version::Unproved => unproved::area,
-    });
-    area(black_box(points)).expect("the points are in range")
-}
-
 impl Subject for Contour {
-    type Outcome = i64;
+    type Answer = i64;
+    type Left = ();
 
     fn size(&self) -> usize {
         self.points.len() / 2
@@ -54,13 +45,15 @@ impl Subject for Contour {
         TIMES_OVER
     }
 
-    fn time(&mut self, version: Version, _call: usize) -> Duration {
-        let start = Instant::now();
-        black_box(area(version, &self.points));
-        start.elapsed()
+    fn refill(&mut self) {}
+
+    fn call(&mut self, version: Version, _call: usize) -> i64 {
+        let area = black_box(match version {
+            Version::Library => wadroles::area,
+            Version::Unproved => unproved::area,
+        });
+        area(black_box(&self.points)).expect("the points are in range")
     }
 
-    fn outcome(&mut self, version: Version, _call: usize) -> Self::Outcome {
-        area(version, &self.points)
-    }
+    fn left(&self) {}
 }

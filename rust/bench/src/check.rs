@@ -1,15 +1,16 @@
+use crate::comparison::{Bench, Comparison};
 use crate::inputs::kinds;
 use crate::unproved;
-use crate::versions::{compare, Subject, Version};
+use crate::versions::{Subject, Version};
 use meshes::Mesh;
 use std::hint::black_box;
-use std::time::{Duration, Instant};
 
 const JUNK: u32 = 0xDEAD_BEEF;
 
-/// Times check.
-pub fn run() {
-    compare("check", "triangles", kinds(Checked::new));
+/// Check.
+pub fn benches() -> Vec<Box<dyn Bench>> {
+    let table = Comparison::new("check", "triangles", kinds(Checked::new));
+    vec![Box::new(table)]
 }
 
 /// A mesh, with the tables lent to check.
@@ -30,7 +31,8 @@ impl Checked {
 }
 
 impl Subject for Checked {
-    type Outcome = (Vec<u32>, Vec<u32>);
+    type Answer = ();
+    type Left = (Vec<u32>, Vec<u32>);
 
     fn size(&self) -> usize {
         self.mesh.triangle_count()
@@ -40,28 +42,26 @@ impl Subject for Checked {
         1
     }
 
-    fn time(&mut self, version: Version, _call: usize) -> Duration {
+    fn refill(&mut self) {
+        self.pairing.fill(JUNK);
+        self.order.fill(JUNK);
+    }
+
+    fn call(&mut self, version: Version, _call: usize) -> Self::Answer {
         let check = black_box(match version {
             Version::Library => wadroles::check,
             Version::Unproved => unproved::check,
         });
-        self.pairing.fill(JUNK);
-        self.order.fill(JUNK);
-        let start = Instant::now();
-        let answer = check(
+        check(
             black_box(&self.mesh.coords),
             black_box(&self.mesh.corners),
             &mut self.pairing,
             &mut self.order,
-        );
-        let time = start.elapsed();
-        assert_eq!(answer, Ok(()), "the mesh is closed");
-        black_box((&self.pairing, &self.order));
-        time
+        )
+        .expect("the mesh is closed");
     }
 
-    fn outcome(&mut self, version: Version, call: usize) -> Self::Outcome {
-        self.time(version, call);
+    fn left(&self) -> Self::Left {
         (self.pairing.clone(), self.order.clone())
     }
 }

@@ -1,18 +1,19 @@
+use crate::comparison::{Bench, Comparison};
 use crate::inputs::{heights, kinds};
 use crate::unproved;
-use crate::versions::{compare, Subject, Version};
+use crate::versions::{Subject, Version};
 use meshes::{random_pairing, Mesh, Random};
 use std::hint::black_box;
-use std::time::{Duration, Instant};
 use wadroles::{Layer, LayerTables};
 
 const HEIGHTS: i32 = 20;
 const JUNK: u32 = 0xDEAD_BEEF;
 
-/// Times cut.
-pub fn run() {
+/// Cut.
+pub fn benches() -> Vec<Box<dyn Bench>> {
     let heading = format!("cut at {HEIGHTS} heights");
-    compare(&heading, "triangles", kinds(Cuts::new));
+    let table = Comparison::new(heading, "triangles", kinds(Cuts::new));
+    vec![Box::new(table)]
 }
 
 /// A mesh with its pairing, heights to cut it at, and the tables lent to cut.
@@ -58,8 +59,25 @@ impl Cuts {
             mesh,
         }
     }
+}
 
-    fn cut(&mut self, version: Version, height: i32) -> Layer {
+impl Subject for Cuts {
+    type Answer = Layer;
+    type Left = Tables;
+
+    fn size(&self) -> usize {
+        self.mesh.triangle_count()
+    }
+
+    fn calls(&self) -> usize {
+        self.heights.len()
+    }
+
+    fn refill(&mut self) {
+        self.tables.refill();
+    }
+
+    fn call(&mut self, version: Version, call: usize) -> Layer {
         let cut = black_box(match version {
             Version::Library => wadroles::cut,
             Version::Unproved => unproved::cut,
@@ -74,34 +92,13 @@ impl Cuts {
             black_box(&self.mesh.coords),
             black_box(&self.mesh.corners),
             black_box(&self.pairing),
-            height,
+            self.heights[call],
             tables,
         )
         .expect("the mesh is closed")
     }
-}
 
-impl Subject for Cuts {
-    type Outcome = (Layer, Tables);
-
-    fn size(&self) -> usize {
-        self.mesh.triangle_count()
-    }
-
-    fn calls(&self) -> usize {
-        self.heights.len()
-    }
-
-    fn time(&mut self, version: Version, call: usize) -> Duration {
-        self.tables.refill();
-        let start = Instant::now();
-        black_box(self.cut(version, self.heights[call]));
-        start.elapsed()
-    }
-
-    fn outcome(&mut self, version: Version, call: usize) -> Self::Outcome {
-        self.tables.refill();
-        let layer = self.cut(version, self.heights[call]);
-        (layer, self.tables.clone())
+    fn left(&self) -> Tables {
+        self.tables.clone()
     }
 }

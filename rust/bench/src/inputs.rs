@@ -1,42 +1,45 @@
 //! The meshes that check, cut and the sweep are timed on, and the heights.
 
-use crate::versions::Kind;
+use crate::comparison::Kind;
 use meshes::shapes::{bipyramid, torus};
 use meshes::{Mesh, Random};
 
 /// Meshes of 16,384, 32,768 and 65,536 triangles, or nearly so.
-pub fn kinds<S>(subject: fn(Mesh) -> S) -> Vec<Kind<S>> {
-    let cones = [8_192, 16_383, 32_766].map(|n| bipyramid(n, 1_000_000, 1_000_000));
+pub fn kinds<S: 'static>(subject: fn(Mesh) -> S) -> Vec<Kind<S>> {
+    let cones = [8_192, 16_383, 32_766].map(double_cone);
     let mut kinds = torus_kinds(subject);
     kinds.extend([
-        Kind {
-            name: "double cone",
-            sizes: cones.clone().map(subject),
-        },
-        Kind {
-            name: "double cone, shuffled",
-            sizes: cones.map(shuffled).map(subject),
-        },
+        Kind::new("double cone", cones.clone(), subject),
+        Kind::new("double cone, shuffled", cones.map(shuffled), subject),
     ]);
     kinds
 }
 
 /// Tori of 16,384, 32,768 and 65,536 triangles.
-pub fn torus_kinds<S>(subject: fn(Mesh) -> S) -> Vec<Kind<S>> {
+pub fn torus_kinds<S: 'static>(subject: fn(Mesh) -> S) -> Vec<Kind<S>> {
     vec![
-        Kind {
-            name: "torus",
-            sizes: tori().map(subject),
-        },
-        Kind {
-            name: "torus, shuffled",
-            sizes: tori().map(shuffled).map(subject),
-        },
+        Kind::new("torus", tori(), subject),
+        Kind::new("torus, shuffled", tori().map(shuffled), subject),
     ]
 }
 
 pub fn tori() -> [Mesh; 3] {
     [64, 128, 256].map(|q| torus(128, q, 700_000, 300_000))
+}
+
+/// A torus of 65,536 triangles.
+pub fn largest_torus() -> Mesh {
+    let [_, _, largest] = tori();
+    largest
+}
+
+/// A double cone of 65,532 triangles, of which each height between its apexes crosses half.
+pub fn largest_cone() -> Mesh {
+    double_cone(32_766)
+}
+
+fn double_cone(around: u32) -> Mesh {
+    bipyramid(around, 1_000_000, 1_000_000)
 }
 
 /// So many heights at equal distances, from next to the bottom to next to the top.
@@ -47,6 +50,14 @@ pub fn heights(mesh: &Mesh, count: i32) -> Vec<i32> {
     (0..count)
         .map(|i| low + distance / 2 + i * distance)
         .collect()
+}
+
+/// The points of the layers at rising heights.
+pub fn point_count(mesh: &Mesh, heights: &[i32]) -> usize {
+    let up_to = |vertex| heights.partition_point(|&h| h <= mesh.point(vertex)[2]);
+    mesh.edges()
+        .map(|(from, to)| up_to(to).saturating_sub(up_to(from)))
+        .sum()
 }
 
 fn shuffled(mut mesh: Mesh) -> Mesh {

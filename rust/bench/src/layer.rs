@@ -1,18 +1,19 @@
+use crate::comparison::{Bench, Comparison};
 use crate::inputs::{heights, torus_kinds};
 use crate::unproved;
-use crate::versions::{compare, Subject, Version};
+use crate::versions::{Subject, Version};
 use meshes::{random_pairing, vertex_order, Mesh, Random};
 use std::hint::black_box;
-use std::time::{Duration, Instant};
 use wadroles::{start, LayerTables, MeshTables, Rise, State};
 
 const HEIGHTS: i32 = 100;
 const JUNK: u32 = 0xDEAD_BEEF;
 
-/// Times layer.
-pub fn run() {
+/// Layer.
+pub fn benches() -> Vec<Box<dyn Bench>> {
     let heading = format!("layer, a sweep over {HEIGHTS} heights");
-    compare(&heading, "triangles", torus_kinds(Sweep::new));
+    let table = Comparison::new(heading, "triangles", torus_kinds(Sweep::new));
+    vec![Box::new(table)]
 }
 
 /// A mesh with its pairing and order, heights to rise to, and the tables lent to layer.
@@ -21,6 +22,7 @@ struct Sweep {
     pairing: Vec<u32>,
     order: Vec<u32>,
     heights: Vec<i32>,
+    state: State,
     tables: Tables,
 }
 
@@ -51,20 +53,34 @@ impl Sweep {
             pairing: random_pairing(&mesh, &mut Random::new(1)),
             order: vertex_order(&mesh),
             heights: heights(&mesh, HEIGHTS),
+            state: State { passed: 0 },
             tables: Tables::new(mesh.corners.len()),
             mesh,
         }
     }
+}
 
-    /// Starts a sweep with fresh tables, outside the time measured.
-    fn start(&mut self) -> State {
+impl Subject for Sweep {
+    type Answer = Vec<Rise>;
+    type Left = Tables;
+
+    fn size(&self) -> usize {
+        self.mesh.triangle_count()
+    }
+
+    fn calls(&self) -> usize {
+        1
+    }
+
+    /// Starts a sweep with fresh tables.
+    fn refill(&mut self) {
         self.tables = Tables::new(self.mesh.corners.len());
-        start(&self.mesh.coords, &self.mesh.corners, &mut self.tables.ring)
-            .expect("the tables are long enough")
+        self.state = start(&self.mesh.coords, &self.mesh.corners, &mut self.tables.ring)
+            .expect("the tables are long enough");
     }
 
     /// Rises over all heights.
-    fn rise(&mut self, version: Version, mut state: State) -> Vec<Rise> {
+    fn call(&mut self, version: Version, _call: usize) -> Vec<Rise> {
         let layer = black_box(match version {
             Version::Library => wadroles::layer,
             Version::Unproved => unproved::layer,
@@ -75,6 +91,7 @@ impl Sweep {
             pairing: &self.pairing,
             order: &self.order,
         });
+        let mut state = self.state;
         let mut rises = Vec::with_capacity(self.heights.len());
         for &h in &self.heights {
             let tables = LayerTables {
@@ -90,29 +107,8 @@ impl Sweep {
         }
         rises
     }
-}
 
-impl Subject for Sweep {
-    type Outcome = (Vec<Rise>, Tables);
-
-    fn size(&self) -> usize {
-        self.mesh.triangle_count()
-    }
-
-    fn calls(&self) -> usize {
-        1
-    }
-
-    fn time(&mut self, version: Version, _call: usize) -> Duration {
-        let state = self.start();
-        let start = Instant::now();
-        black_box(self.rise(version, state));
-        start.elapsed()
-    }
-
-    fn outcome(&mut self, version: Version, _call: usize) -> Self::Outcome {
-        let state = self.start();
-        let rises = self.rise(version, state);
-        (rises, self.tables.clone())
+    fn left(&self) -> Tables {
+        self.tables.clone()
     }
 }

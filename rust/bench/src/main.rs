@@ -5,13 +5,15 @@
 //! into its caller.
 //!
 //! Arguments choose among `check`, `cut`, `area`, `layer`, `all_layers`, `read_layer` and
-//! `read_part`; without any, all are timed.
+//! `read_part`; without any, all are timed. For `tools/instructions`, which counts what a call takes,
+//! `inputs` lists operations and inputs, and `once OPERATION INPUT VERSION` makes a single call.
 
 #![forbid(unsafe_code)]
 
 mod all_layers;
 mod area;
 mod check;
+mod comparison;
 mod cut;
 mod inputs;
 mod layer;
@@ -20,20 +22,55 @@ mod read_part;
 mod unproved;
 mod versions;
 
+use comparison::Bench;
+use versions::VERSIONS;
+
+type Benches = fn() -> Vec<Box<dyn Bench>>;
+
+const OPERATIONS: [(&str, Benches); 7] = [
+    ("check", check::benches),
+    ("cut", cut::benches),
+    ("area", area::benches),
+    ("layer", layer::benches),
+    ("all_layers", all_layers::benches),
+    ("read_layer", read_layer::benches),
+    ("read_part", read_part::benches),
+];
+
 fn main() {
-    let chosen: Vec<String> = std::env::args().skip(1).collect();
-    let benches = [
-        ("check", check::run as fn()),
-        ("cut", cut::run),
-        ("area", area::run),
-        ("layer", layer::run),
-        ("all_layers", all_layers::run),
-        ("read_layer", read_layer::run),
-        ("read_part", read_part::run),
-    ];
-    for (name, run) in benches {
-        if chosen.is_empty() || chosen.iter().any(|choice| choice == name) {
-            run();
+    let arguments: Vec<String> = std::env::args().skip(1).collect();
+    let arguments: Vec<&str> = arguments.iter().map(String::as_str).collect();
+    match arguments[..] {
+        ["inputs"] => list_inputs(),
+        ["once", operation, input, version] => call_once(operation, input, version),
+        _ => run(&arguments),
+    }
+}
+
+fn run(chosen: &[&str]) {
+    for (operation, benches) in OPERATIONS {
+        if chosen.is_empty() || chosen.contains(&operation) {
+            benches().into_iter().for_each(Bench::run);
         }
     }
+}
+
+/// Prints an operation and an input a line, with a tab between them.
+fn list_inputs() {
+    for (operation, benches) in OPERATIONS {
+        for input in benches().iter().flat_map(|bench| bench.inputs()) {
+            println!("{operation}\t{input}");
+        }
+    }
+}
+
+/// Makes a call and prints the size of the input.
+fn call_once(operation: &str, input: &str, version: &str) {
+    let benches = OPERATIONS.iter().find(|(name, _)| *name == operation);
+    let version = VERSIONS.into_iter().find(|known| known.name() == version);
+    let size = benches.zip(version).and_then(|((_, benches), version)| {
+        let mut benches = benches().into_iter();
+        benches.find_map(|bench| bench.call_once(input, version))
+    });
+    println!("{}", size.expect("an operation, an input and a version"));
 }

@@ -1,27 +1,29 @@
+use crate::comparison::{Bench, Comparison, Kind};
 use crate::unproved;
-use crate::versions::{compare, Kind, Subject, Version};
+use crate::versions::{Subject, Version};
 use meshes::shapes::torus;
 use meshes::{Mesh, Random};
 use oracle::encode_part;
 use std::hint::black_box;
-use std::time::{Duration, Instant};
 use wadroles::Part;
 
 const HEIGHTS: i32 = 1000;
 const JUNK: u32 = 0xDEAD_BEEF;
 
-/// Times Read part.
-pub fn run() {
+/// Read part.
+pub fn benches() -> Vec<Box<dyn Bench>> {
     let tori = [100, 200, 400].map(|q| torus(256, q, 700_000, 300_000));
     let shuffled = tori.clone().map(|mut mesh| {
         mesh.shuffle(&mut Random::new(1));
         mesh
     });
-    let kinds = [("torus", tori), ("torus, shuffled", shuffled)].map(|(name, meshes)| Kind {
-        name,
-        sizes: meshes.map(PartFile::new),
-    });
-    compare("read part", "bytes", kinds.into());
+    let kinds = [("torus", tori), ("torus, shuffled", shuffled)]
+        .map(|(name, meshes)| Kind::new(name, meshes, PartFile::new));
+    vec![Box::new(Comparison::new(
+        "read part",
+        "bytes",
+        kinds.into(),
+    ))]
 }
 
 /// A part file, with the tables lent to Read part.
@@ -53,6 +55,19 @@ impl PartFile {
             },
         }
     }
+}
+
+impl Subject for PartFile {
+    type Answer = Part;
+    type Left = Tables;
+
+    fn size(&self) -> usize {
+        self.file.len()
+    }
+
+    fn calls(&self) -> usize {
+        1
+    }
 
     fn refill(&mut self) {
         self.tables.coords.fill(JUNK as i32);
@@ -60,7 +75,7 @@ impl PartFile {
         self.tables.heights.fill(JUNK as i32);
     }
 
-    fn read(&mut self, version: Version) -> Part {
+    fn call(&mut self, version: Version, _call: usize) -> Part {
         let read_part = black_box(match version {
             Version::Library => wadroles::read_part,
             Version::Unproved => unproved::read_part,
@@ -72,29 +87,8 @@ impl PartFile {
         } = &mut self.tables;
         read_part(black_box(&self.file), coords, corners, heights).expect("the file is right")
     }
-}
 
-impl Subject for PartFile {
-    type Outcome = (Part, Tables);
-
-    fn size(&self) -> usize {
-        self.file.len()
-    }
-
-    fn calls(&self) -> usize {
-        1
-    }
-
-    fn time(&mut self, version: Version, _call: usize) -> Duration {
-        self.refill();
-        let start = Instant::now();
-        black_box(self.read(version));
-        start.elapsed()
-    }
-
-    fn outcome(&mut self, version: Version, _call: usize) -> Self::Outcome {
-        self.refill();
-        let part = self.read(version);
-        (part, self.tables.clone())
+    fn left(&self) -> Tables {
+        self.tables.clone()
     }
 }

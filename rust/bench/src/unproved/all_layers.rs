@@ -1,16 +1,20 @@
-//! All layers by a section of the whole mesh at each height, made twice: to find the length of the
-//! file, and to write it.
+//! All layers by a list of the corners that cross the present height, so that a height costs its
+//! points and not the mesh.
 
-use super::cut::{below, mark_successors, outline};
-use super::numbers::{plain_length, sent, Writer};
-use super::tables::{refuse, test_order, test_pairing, test_room, test_sizes, test_values};
-use wadroles::{Layer, LayerTables, MeshTables, Refusal, MAX_LAYERS};
+use super::cut::{below, rising_corner, write_point, NONE};
+use super::layer_file::{clear, layer_length, test, write_layer};
+use super::numbers::{plain_length, Writer};
+use super::tables::{next, refuse};
+use wadroles::{Layer, LayerTables, MeshTables, Refusal};
 
-/// From the lowest z to the first default height.
-const FIRST_HEIGHT: i64 = 50;
+/// The most bytes that x and y of a point take: differences are at most 2^21 from zero.
+const POINT_BYTES: usize = 8;
 
-/// From a default height to the next.
-const NEXT_HEIGHT: usize = 100;
+/// The most bytes that the point count of a contour takes, for each of its points: it has two.
+const COUNT_BYTES: usize = 2;
+
+/// The most bytes that a height and a contour count take.
+const LAYER_BYTES: usize = 8;
 
 /// Does what `wadroles::all_layers` does.
 pub fn all_layers(
@@ -22,150 +26,168 @@ pub fn all_layers(
 ) -> Result<usize, Refusal> {
     let heights = test(mesh, heights, &tables, ring)?;
     let n = mesh.corners.len();
-    let mut tables = LayerTables {
-        names: &mut tables.names[..n],
-        points: &mut tables.points[..2 * n],
-        ends: &mut tables.ends[..n],
-        marks: &mut tables.marks[..n],
+    let mut sweep = Sweep {
+        mesh,
+        heights: &heights,
+        tables: LayerTables {
+            names: &mut tables.names[..n],
+            points: &mut tables.points[..2 * n],
+            ends: &mut tables.ends[..n],
+            marks: &mut tables.marks[..n],
+        },
+        links: &mut ring[..n],
     };
-    let answer = sweep(mesh, &heights, &mut tables, output);
-    clear(&mut tables, &mut ring[..n]);
+    let answer = sweep.write(output);
+    clear(&mut sweep.tables, sweep.links);
     answer
 }
 
-/// Makes the tests, and gives the heights.
-pub(super) fn test(
-    mesh: MeshTables<'_>,
-    heights: &[i32],
-    tables: &LayerTables<'_>,
-    ring: &[u32],
-) -> Result<Vec<i32>, Refusal> {
-    let MeshTables {
-        coords,
-        corners,
-        pairing,
-        order,
-    } = mesh;
-    test_sizes(coords, corners)?;
-    let heights = match heights {
-        [] => default_heights(coords),
-        given => given.to_vec(),
-    };
-    if heights.len() > MAX_LAYERS {
-        return refuse(Refusal::SIZE, 0);
-    }
-    test_room(tables, corners.len())?;
-    if ring.len() < corners.len() {
-        return refuse(Refusal::ROOM, 0);
-    }
-    test_values(coords, corners)?;
-    test_pairing(corners, pairing)?;
-    test_order(coords, order)?;
-    match heights.windows(2).position(|pair| pair[1] <= pair[0]) {
-        Some(before) => refuse(Refusal::HEIGHT, before + 1),
-        None => Ok(heights),
-    }
+/// A sweep over all heights. Corners that rise at the same height for the first time are linked in
+/// ascending sequence, and so are those that cross the present height. The marks have the number of
+/// the last height, from 1, at which each corner was visited.
+struct Sweep<'a> {
+    mesh: MeshTables<'a>,
+    heights: &'a [i32],
+    tables: LayerTables<'a>,
+    links: &'a mut [u32],
 }
 
-/// The default, or one more than there may be.
-fn default_heights(coords: &[i32]) -> Vec<i32> {
-    let z = || coords.iter().skip(2).step_by(3).map(|&z| i64::from(z));
-    let (Some(low), Some(high)) = (z().min(), z().max()) else {
-        return Vec::new();
-    };
-    let heights = (low + FIRST_HEIGHT..=high).step_by(NEXT_HEIGHT);
-    heights.take(MAX_LAYERS + 1).map(|h| h as i32).collect()
-}
-
-fn sweep(
-    mesh: MeshTables<'_>,
-    heights: &[i32],
-    tables: &mut LayerTables<'_>,
-    output: &mut [u8],
-) -> Result<usize, Refusal> {
-    let mut length = plain_length(heights.len() as u32);
-    for &h in heights {
-        let layer = section(mesh, h, tables)?;
-        length += layer_length(h, layer, tables);
+impl Sweep<'_> {
+    /// Writes the file in one pass where the output is long enough for any, else in two.
+    fn write(&mut self, output: &mut [u8]) -> Result<usize, Refusal> {
+        let count = self.heights.len();
+        let (mut heads, points) = self.link_by_height();
+        let most = LAYER_BYTES * (count + 1) + (POINT_BYTES + COUNT_BYTES) * points;
+        if output.len() < most {
+            let mut length = plain_length(count as u32);
+            self.for_each_layer(heads, |h, layer, tables| {
+                length += layer_length(h, layer, tables)
+            })?;
+            if output.len() < length {
+                return refuse(Refusal::OUTPUT, 0);
+            }
+            heads = self.link_by_height().0;
+        }
+        let mut writer = Writer::new(output);
+        writer.plain(count as u32);
+        self.for_each_layer(heads, |h, layer, tables| {
+            write_layer(h, layer, tables, &mut writer)
+        })?;
+        Ok(writer.position())
     }
-    if output.len() < length {
-        return refuse(Refusal::OUTPUT, 0);
+
+    fn z(&self, corner: usize) -> i32 {
+        self.mesh.coords[3 * self.mesh.corners[corner] as usize + 2]
     }
-    let mut writer = Writer::new(output);
-    writer.plain(heights.len() as u32);
-    for &h in heights {
-        let layer = section(mesh, h, tables)?;
-        write_layer(h, layer, tables, &mut writer);
+
+    /// Links the corners by the first height at which each rises, and counts the points of all
+    /// layers.
+    fn link_by_height(&mut self) -> (Vec<u32>, usize) {
+        let mut heads = vec![NONE; self.heights.len()];
+        let mut points = 0;
+        for corner in (0..self.links.len()).rev() {
+            let (start, end) = (self.z(corner), self.z(next(corner)));
+            if start >= end {
+                continue;
+            }
+            let first = self.heights.partition_point(|&h| h <= start);
+            let past = self.heights.partition_point(|&h| h <= end);
+            if first < past {
+                points += past - first;
+                self.links[corner] = heads[first];
+                heads[first] = corner as u32;
+            }
+        }
+        (heads, points)
     }
-    Ok(length)
-}
 
-fn section(mesh: MeshTables<'_>, h: i32, tables: &mut LayerTables<'_>) -> Result<Layer, Refusal> {
-    let MeshTables {
-        coords,
-        corners,
-        pairing,
-        ..
-    } = mesh;
-    mark_successors(corners, pairing, below(coords, h), tables.marks);
-    outline(coords, corners, h, tables)
-}
+    fn for_each_layer(
+        &mut self,
+        heads: Vec<u32>,
+        mut visit: impl FnMut(i32, Layer, &LayerTables<'_>),
+    ) -> Result<(), Refusal> {
+        self.tables.marks.fill(0);
+        let mut active = NONE;
+        for (i, fresh) in heads.into_iter().enumerate() {
+            let h = self.heights[i];
+            active = self.merge(active, fresh, h);
+            let layer = self.section(active, h, i as u32 + 1)?;
+            visit(h, layer, &self.tables);
+        }
+        Ok(())
+    }
 
-/// The points of each contour, x and y of each.
-fn contours<'a>(
-    layer: Layer,
-    tables: &'a LayerTables<'_>,
-) -> impl Iterator<Item = &'a [[i32; 2]]> + 'a {
-    let (points, _) = tables.points.as_chunks::<2>();
-    let mut start = 0;
-    tables.ends[..layer.contours].iter().map(move |&end| {
-        let contour = &points[start..end as usize];
-        start = end as usize;
-        contour
-    })
-}
-
-/// The bytes that a layer takes.
-pub(super) fn layer_length(h: i32, layer: Layer, tables: &LayerTables<'_>) -> usize {
-    let mut length = plain_length(sent(h)) + plain_length(layer.contours as u32);
-    for contour in contours(layer, tables) {
-        length += plain_length(contour.len() as u32);
-        let mut before = [0; 2];
-        for &[x, y] in contour {
-            length += plain_length(sent(x - before[0])) + plain_length(sent(y - before[1]));
-            before = [x, y];
+    /// Takes those out of the list whose end is passed, and merges it with the fresh ones.
+    fn merge(&mut self, mut active: u32, mut fresh: u32, h: i32) -> u32 {
+        let mut head = NONE;
+        let mut last = None;
+        loop {
+            while active != NONE && self.z(next(active as usize)) < h {
+                active = self.links[active as usize];
+            }
+            // The sentinel is above every corner.
+            let least = active.min(fresh);
+            match last {
+                None => head = least,
+                Some(last) => self.links[last] = least,
+            }
+            if least == NONE {
+                return head;
+            }
+            last = Some(least as usize);
+            let after = self.links[least as usize];
+            if least == active {
+                active = after;
+            } else {
+                fresh = after;
+            }
         }
     }
-    length
-}
 
-pub(super) fn write_layer(h: i32, layer: Layer, tables: &LayerTables<'_>, writer: &mut Writer<'_>) {
-    writer.signed(h);
-    writer.plain(layer.contours as u32);
-    for contour in contours(layer, tables) {
-        writer.plain(contour.len() as u32);
-        let mut before = [0; 2];
-        for &[x, y] in contour {
-            writer.signed(x - before[0]);
-            writer.signed(y - before[1]);
-            before = [x, y];
+    /// Writes points and ends of the layer whose crossings the list has.
+    fn section(&mut self, active: u32, h: i32, number: u32) -> Result<Layer, Refusal> {
+        let MeshTables {
+            coords,
+            corners,
+            pairing,
+            ..
+        } = self.mesh;
+        let passed = below(coords, h);
+        let mut layer = Layer::default();
+        let mut least = active;
+        while least != NONE {
+            let start = least as usize;
+            least = self.links[start];
+            if self.tables.marks[start] == number {
+                continue;
+            }
+            let mut corner = start;
+            loop {
+                // It never does: the pairing is right.
+                if self.tables.marks[corner] == number {
+                    return refuse(Refusal::USED, corner);
+                }
+                self.tables.marks[corner] = number;
+                let point = &mut self.tables.points[2 * layer.points..2 * layer.points + 2];
+                write_point(coords, corners, h, corner, point);
+                layer.points += 1;
+                let paired = pairing[corner] as usize / 3;
+                corner = rising_corner(corners, passed, paired).expect("an edge leads out of it");
+                if corner == start {
+                    break;
+                }
+            }
+            self.tables.ends[layer.contours] = layer.points as u32;
+            layer.contours += 1;
         }
+        Ok(layer)
     }
-}
-
-/// Zeroes the work tables, which are as long as they need be.
-pub(super) fn clear(tables: &mut LayerTables<'_>, ring: &mut [u32]) {
-    tables.names.fill(0);
-    tables.points.fill(0);
-    tables.ends.fill(0);
-    tables.marks.fill(0);
-    ring.fill(0);
 }
 
 #[cfg(test)]
 mod tests {
     use super::*;
-    use crate::unproved;
+    use crate::unproved::{all_layers_by_cut, all_layers_by_section, AllLayers};
     use meshes::shapes::torus;
     use meshes::{
         closed_mesh, random_height, random_pairing, rising_heights, shared_edges, vertex_order,
@@ -173,10 +195,7 @@ mod tests {
     };
     use std::collections::BTreeSet;
 
-    type AllLayers =
-        fn(MeshTables, &[i32], LayerTables, &mut [u32], &mut [u8]) -> Result<usize, Refusal>;
-
-    const UNPROVED: [AllLayers; 2] = [all_layers, unproved::all_layers_by_crossings];
+    const UNPROVED: [AllLayers; 2] = [all_layers, all_layers_by_section];
 
     /// What All layers reads, and how long its tables are.
     struct Case {
@@ -264,7 +283,7 @@ mod tests {
     }
 
     #[test]
-    fn both_give_the_same_file_of_a_torus() {
+    fn all_give_the_same_file_of_a_torus() {
         let mut random = Random::new(1);
         let mut mesh = torus(40, 30, 700_000, 300_000);
         for _ in 0..2 {
@@ -272,27 +291,13 @@ mod tests {
             let mut case = Case::new(mesh.clone(), heights, &mut random);
             for output in [1_000_000, 10_000_000] {
                 case.output = output;
-                let [sections, crossings] = UNPROVED.map(|version| case.run(version));
-                assert!(sections.0.is_ok_and(|length| length > 300_000));
-                assert!(sections == crossings);
+                let [active, sections] = UNPROVED.map(|version| case.run(version));
+                assert!(active.0.is_ok_and(|length| length > 300_000));
+                assert!(active == sections);
+                let (answer, _, _, output) = case.run(all_layers_by_cut);
+                assert!((answer, output) == (active.0, active.3));
             }
             mesh.shuffle(&mut random);
-        }
-    }
-
-    #[test]
-    fn lengths_are_those_of_the_bytes_written() {
-        let mut output = [0; 8];
-        for bits in 0..=32 {
-            let power = 1u64 << bits;
-            for number in [power.saturating_sub(1), power, power + 1] {
-                let Ok(number) = u32::try_from(number) else {
-                    continue;
-                };
-                let mut writer = Writer::new(&mut output);
-                writer.plain(number);
-                assert_eq!(writer.position(), plain_length(number), "{number}");
-            }
         }
     }
 }

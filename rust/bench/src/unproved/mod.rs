@@ -1,22 +1,32 @@
 //! The operations as one would write them in Rust without proofs. Each does what the function of
-//! the same name in `wadroles` does.
+//! the same name in `wadroles` does; of All layers there are two more versions, by a section of the
+//! whole mesh at each height, and by the library's Cut at each height.
 
-mod active;
 mod all_layers;
 mod area;
+mod by_cut;
+mod by_section;
 mod check;
 mod cut;
 mod layer;
+mod layer_file;
 mod numbers;
 mod read_layer;
 mod read_part;
 mod tables;
 
-pub use active::all_layers as all_layers_by_crossings;
 pub use all_layers::all_layers;
 pub use area::area;
+pub use by_cut::all_layers as all_layers_by_cut;
+pub use by_section::all_layers as all_layers_by_section;
 pub use check::check;
 pub use cut::cut;
 pub use layer::layer;
 pub use read_layer::read_layer;
 pub use read_part::read_part;
+
+use wadroles::{LayerTables, MeshTables, Refusal};
+
+/// A version of All layers.
+pub type AllLayers =
+    fn(MeshTables, &[i32], LayerTables, &mut [u32], &mut [u8]) -> Result<usize, Refusal>;
