@@ -1,13 +1,15 @@
 -- Internal: how many crossings all heights have together.
 use Prim.Native.Nat.{ℕ, zero, suc, _+_, _*_, _≤_}
-use mathlib.Core.Bool.{not, _&&_}
+use mathlib.Core.Path.{_≡_}
+use mathlib.Core.Bool.{cond, not, _&&_}
 use mathlib.Core.List.{List}
-use lib.ListN.{length}
+use lib.Dec.{ltb}
+use lib.ListN.{length, getD, set}
 use lib.IntN.{ℤ}
 use lib.Signed.{ltZ}
 use Rattle.laws.specs.Count.{count as tally}
 use Rattle.active.specs.Lists.{activeAt}
-use Rattle.active.specs.Levels.{LevelOf}
+use Rattle.active.specs.Levels.{LevelOf, Dealt, Kept}
 
 -- f 0 + .. + f (n - 1)
 unfoldable pub sumTo : ℕ → (ℕ → ℕ) → ℕ
@@ -29,3 +31,17 @@ pub record RiseTotal (coords : List ℤ) (corners : List ℕ) (hs : ℕ → ℤ)
 pub record CrossingTotal (coords : List ℤ) (corners : List ℕ) (hs : ℕ → ℤ) (count r : ℕ) : Type 0 where
   pub most : sumTo count (λ k. tally (length corners) (activeAt coords corners (hs k))) ≤ r
   pub few : r ≤ 196608 * 4096
+
+-- corner c, whose edge leads from z to y, stands in front of the list of its height, if it has one; it rises at r heights
+pub record Placed (hs : ℕ → ℤ) (count c : ℕ) (z y : ℤ) (r : ℕ) (ring heads ring′ heads′ : List ℕ) : Type 0 where
+  pub level : ℕ
+  pub rises : Rises hs count z y level r
+  pub ring-is : ring′ ≡ cond (ltb level count) (set ring c (getD heads level 0)) ring
+  pub heads-are : heads′ ≡ cond (ltb level count) (set heads level c) heads
+
+-- the corners from c up to b are dealt after those from b on, and rise at r heights
+pub record Dealing (coords : List ℤ) (corners : List ℕ) (hs : ℕ → ℤ) (count b c r : ℕ) (ring heads ring′ heads′ : List ℕ) : Type 0 where
+  pub deals : Dealt coords corners hs count b ring heads → Dealt coords corners hs count c ring′ heads′
+  pub totals : (t : ℕ) → RiseTotal coords corners hs count b t → RiseTotal coords corners hs count c (t + r)
+  pub ring-kept : Kept (length corners) ring ring′
+  pub heads-size : length heads′ ≡ length heads
