@@ -59,15 +59,25 @@ fn by_heights() -> Comparison<Swept> {
     table("all layers by heights", "heights", vec![kind])
 }
 
-/// Calls of one height each, against the library's Cut with its layer encoded in Rust: so here both
-/// versions are the library, and the ratio is that of All layers to Cut.
+/// Calls of one height each, against the library's Cut with its layer encoded in Rust, and against
+/// that with the test of the order and the zeros that All layers owes besides: so here both versions
+/// are the library, and the ratio is that of All layers to Cut.
 fn at_one_height() -> Comparison<Swept> {
-    let kind = Kind::new("torus, cut and encode", tori(), |mesh| {
-        Swept::new(mesh, SINGLE_HEIGHTS, unproved::all_layers_by_cut).one_by_one()
+    let rows: [(_, AllLayers); 2] = [
+        ("torus, cut and encode", unproved::all_layers_by_cut),
+        (
+            "with order and zeros",
+            unproved::all_layers_by_cut_and_zeros,
+        ),
+    ];
+    let kinds = rows.map(|(name, unproved)| {
+        Kind::new(name, tori(), move |mesh| {
+            Swept::new(mesh, SINGLE_HEIGHTS, unproved).one_by_one()
+        })
     });
     let heading =
         format!("all layers at one height, {SINGLE_HEIGHTS} times (unproved: cut and encode)");
-    table(&heading, "triangles", vec![kind])
+    table(&heading, "triangles", kinds.into())
 }
 
 /// The largest torus and a double cone whose every layer has half as many points as the mesh has

@@ -187,7 +187,9 @@ impl Sweep<'_> {
 #[cfg(test)]
 mod tests {
     use super::*;
-    use crate::unproved::{all_layers_by_cut, all_layers_by_section, AllLayers};
+    use crate::unproved::{
+        all_layers_by_cut, all_layers_by_cut_and_zeros, all_layers_by_section, AllLayers,
+    };
     use meshes::shapes::torus;
     use meshes::{
         closed_mesh, random_height, random_pairing, rising_heights, shared_edges, vertex_order,
@@ -294,8 +296,10 @@ mod tests {
                 let [active, sections] = UNPROVED.map(|version| case.run(version));
                 assert!(active.0.is_ok_and(|length| length > 300_000));
                 assert!(active == sections);
-                let (answer, _, _, output) = case.run(all_layers_by_cut);
-                assert!((answer, output) == (active.0, active.3));
+                for by_cut in [all_layers_by_cut, all_layers_by_cut_and_zeros] {
+                    let (answer, _, _, output) = case.run(by_cut);
+                    assert!((answer, &output) == (active.0, &active.3));
+                }
             }
             mesh.shuffle(&mut random);
         }

@@ -1,6 +1,6 @@
 //! The operations as one would write them in Rust without proofs. Each does what the function of
-//! the same name in `wadroles` does; of All layers there are two more versions, by a section of the
-//! whole mesh at each height, and by the library's Cut at each height.
+//! the same name in `wadroles` does; of All layers there are more versions, by a section of the whole
+//! mesh at each height, and by the library's Cut at each height.
 
 mod all_layers;
 mod area;
@@ -18,6 +18,7 @@ mod tables;
 pub use all_layers::all_layers;
 pub use area::area;
 pub use by_cut::all_layers as all_layers_by_cut;
+pub use by_cut::all_layers_and_zeros as all_layers_by_cut_and_zeros;
 pub use by_section::all_layers as all_layers_by_section;
 pub use check::check;
 pub use cut::cut;
