@@ -11,7 +11,7 @@ ghost use Rattle.cutter.specs.Outlines.{Long, Outlined, Traces};
 use crate::Sliced;
 use mesh::Refusal;
 use points::internal::put_points;
-use section::internal::link;
+use section::internal::link_at;
 use tracer::Found;
 use tracer::internal::trace;
 
@@ -68,6 +68,6 @@ pub fn slice(
     requires { ⌜ Right (now coords) (now corners) (now pairing) ⌝ ∗ ⌜ Long (length (now corners)) (length (now names)) (length (now points)) (length (now ends)) (length (now marks)) ⌝ }
     ensures { λ r. ⌜ Traces (section (now (coords .entry)) (now (corners .entry)) (now (pairing .entry)) h) (now (coords .entry)) (now (corners .entry)) h (now (names .entry)) (now (points .entry)) (now (ends .entry)) (now (marks .entry)) r (now (names .exit)) (now (points .exit)) (now (ends .exit)) (now (marks .exit)) ⌝ }
 {
-    link(coords, corners, pairing, h, 0, marks);
+    link_at(coords, corners, pairing, h, marks);
     outline(coords, corners, h, names, points, ends, marks)
 }

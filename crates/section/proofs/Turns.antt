@@ -1,13 +1,12 @@
 -- What the code's branches say, in the definitions' terms.
 use Prim.Native.Nat.{ℕ, _+_, _*_, _/_, _%_, _^_, _≤_, _<_}
 use mathlib.Core.Path.{_≡_, refl, sym, ap, _∙_}
-use mathlib.Core.Bool.{Bool, true, false, not, cond, _&&_, _||_, Bool·beq}
+use mathlib.Core.Bool.{Bool, true, false, not, cond, _&&_, Bool·beq}
 use mathlib.Core.List.{List}
 use native.Mathlib.Omega.{arith}
-use borrow.Author.Tests.{ltb-false, lt-ltb, le-ltb}
 use lib.Dec.{ltb}
 use lib.ListN.{length, getD, set}
-use lib.IntN.{ℤ, pos, negsuc}
+use lib.IntN.{ℤ}
 use lib.Signed.{ltZ, mag}
 use mir.Syntax.{w32}
 use mir.Val.{SFits, toZ, ofZ}
@@ -31,28 +30,24 @@ back {h} f = toZ-ofZ w32 h f
 
 -- ---- is_passed
 
-not-below : (a : ℤ) → ltZ a a ≡ false
-not-below (pos a) = le-ltb a a (omega arith)
-not-below (negsuc a) = le-ltb a a (omega arith)
-
-above : (a b : ℤ) → (a ≡ b → ⊥) → ltZ a b ≡ false → ltZ b a ≡ true
-above (pos a) (pos b) ne e = let n : a ≡ b → ⊥ = λ q. ne (ap pos q) in lt-ltb b a (omega (arith, n, ltb-false a b e))
-above (pos a) (negsuc b) ne e = refl
-above (negsuc a) (pos b) ne e = absurd (clash refl e)
-above (negsuc a) (negsuc b) ne e = let n : a ≡ b → ⊥ = λ q. ne (ap negsuc q) in lt-ltb a b (omega (arith, n, ltb-false b a e))
-
 module _ (coords : List ℤ) (h : ℤ) (k v : ℕ) (fz : mag (zOf coords v) < 2 ^ 31) (fh : SFits w32 h) where
-  pub passed-level : ofZ w32 (zOf coords v) ≡ ofZ w32 h → ltb v k ≡ under coords h k v
-  unfolding under
-  passed-level e = let q : h ≡ zOf coords v = sym (sym (same w32 (zOf coords v) fz) ∙ ap (toZ w32) e ∙ back fh) in rw q (simp (not-below (zOf coords v)))
+  z-lt : {b : Bool} → ltZ (held (zOf coords v)) (held h) ≡ b → ltZ (zOf coords v) h ≡ b
+  z-lt e = (λ i. ltZ (sym (same w32 (zOf coords v) fz) i) (sym (back fh) i)) ∙ e
 
-  pub passed-apart : (ofZ w32 (zOf coords v) ≡ ofZ w32 h → ⊥) → ltZ (held (zOf coords v)) (held h) ≡ under coords h k v
+  h-lt : {b : Bool} → ltZ (held h) (held (zOf coords v)) ≡ b → ltZ h (zOf coords v) ≡ b
+  h-lt e = (λ i. ltZ (sym (back fh) i) (sym (same w32 (zOf coords v) fz) i)) ∙ e
+
+  pub passed-low : ltZ (held (zOf coords v)) (held h) ≡ true → true ≡ under coords h k v
   unfolding under
-  passed-apart ne = (λ i. ltZ (same w32 (zOf coords v) fz i) (back fh i)) ∙ by (ltZ (zOf coords v) h) refl
-    where
-      by : (b : Bool) → ltZ (zOf coords v) h ≡ b → ltZ (zOf coords v) h ≡ (ltZ (zOf coords v) h || (not (ltZ h (zOf coords v)) && ltb v k))
-      by true e = simp e
-      by false e = simp (e, above (zOf coords v) h (λ q. ne (ap (ofZ w32) q)) e)
+  passed-low p = simp (z-lt p)
+
+  pub passed-high : ltZ (held (zOf coords v)) (held h) ≡ false → ltZ (held h) (held (zOf coords v)) ≡ true → false ≡ under coords h k v
+  unfolding under
+  passed-high p q = simp (z-lt p, h-lt q)
+
+  pub passed-level : ltZ (held (zOf coords v)) (held h) ≡ false → ltZ (held h) (held (zOf coords v)) ≡ false → ltb v k ≡ under coords h k v
+  unfolding under
+  passed-level p q = simp (z-lt p, h-lt q)
 
 -- ---- leads_up and rises
 
@@ -99,6 +94,11 @@ module _ (passed : VertexSet) (corners pairing : List ℕ) (c : ℕ) where
   pub entry-none : rising passed corners c ≡ false → noCorner ≡ ringEntry passed corners pairing c
   unfolding ringEntry
   entry-none p = simp p
+
+-- ---- link
+
+pub link-more : (f : ℕ → ℕ) (c e : ℕ) (t t₀ : List ℕ) → t ≡ refill c f t₀ → c < length t₀ → e ≡ f c → set t c e ≡ refill (c + 1) f t₀
+link-more f c e t t₀ is h ee = (λ i. set (is i) c (ee i)) ∙ refill-more c f t₀ h
 
 -- ---- is_level
 
@@ -148,7 +148,7 @@ module _ {passed : VertexSet} {corners : List ℕ} {c : ℕ} {p q r : Bool} (s :
 pub three-are : (f : ℕ → ℕ) (c : ℕ) (t : List ℕ) {x y z : ℕ} → x ≡ f c → y ≡ f (c + 1) → z ≡ f (c + 2) → set (set (set t c x) (c + 1) y) (c + 2) z ≡ setThree f c t
 three-are f c t ex ey ez = λ i. set (set (set t c (ex i)) (c + 1) (ey i)) (c + 2) (ez i)
 
--- ---- link
+-- ---- link_at
 
 pub link-three : (f : ℕ → ℕ) (c : ℕ) (t t₀ : List ℕ) → t ≡ refill c f t₀ → c + 2 < length t₀ → setThree f c t ≡ refill (c + 3) f t₀
 link-three f c t t₀ is h =

@@ -18,10 +18,13 @@ pub fn is_passed(coords: &[i32], h: i32, k: usize, v: usize) -> bool
 {
     let i = 3 * v + 2;
     let z = coords[i];
-    if z == h {
-        return v < k;
+    if z < h {
+        return true;
     }
-    z < h
+    if h < z {
+        return false;
+    }
+    v < k
 }
 
 // Whether the start of corner c is passed.
@@ -90,6 +93,20 @@ pub fn entry_of(coords: &[i32], corners: &[u32], pairing: &[u32], h: i32, k: usi
     4294967295
 }
 
+// Writes the ring entry of every corner.
+pub fn link(coords: &[i32], corners: &[u32], pairing: &[u32], h: i32, k: usize, ring: &mut [u32])
+    requires { ⌜ Named (now coords) (now corners) ⌝ ∗ ⌜ Linked (now corners) (now pairing) ⌝ ∗ ⌜ length (now corners) ≤ length (now ring) ⌝ }
+    ensures { λ _. ⌜ now (ring .exit) ≡ refill (length (now (corners .entry))) (ringEntry (under (now (coords .entry)) h k) (now (corners .entry)) (now (pairing .entry))) (now (ring .entry)) ⌝ }
+{
+    let n = corners.len();
+    let mut c: usize = 0;
+    while c < n {
+        let e = entry_of(coords, corners, pairing, h, k, c);
+        ring[c] = e;
+        c += 1;
+    }
+}
+
 // The ring entry of corner c, where `start` and `end` say whether its start and its end are passed.
 fn entry_between(
     coords: &[i32],
@@ -139,37 +156,36 @@ fn link_triangle(
     corners: &[u32],
     pairing: &[u32],
     h: i32,
-    k: usize,
     ring: &mut [u32],
     c: usize,
 )
     requires { ⌜ Named (now coords) (now corners) ⌝ ∗ ⌜ Linked (now corners) (now pairing) ⌝ ∗ ⌜ length (now corners) ≤ length (now ring) ⌝ ∗ ⌜ (c < length (now corners)) × (c % 3 ≡ 0) ⌝ }
-    ensures { λ _. ⌜ now (ring .exit) ≡ setThree (ringEntry (under (now (coords .entry)) h k) (now (corners .entry)) (now (pairing .entry))) c (now (ring .entry)) ⌝ }
+    ensures { λ _. ⌜ now (ring .exit) ≡ setThree (ringEntry (under (now (coords .entry)) h 0) (now (corners .entry)) (now (pairing .entry))) c (now (ring .entry)) ⌝ }
 {
     let d = c + 1;
     let e = c + 2;
-    let p = starts_passed(coords, corners, h, k, c);
-    let q = starts_passed(coords, corners, h, k, d);
-    let r = starts_passed(coords, corners, h, k, e);
+    let p = starts_passed(coords, corners, h, 0, c);
+    let q = starts_passed(coords, corners, h, 0, d);
+    let r = starts_passed(coords, corners, h, 0, e);
     if is_level(p, q, r) {
         put_three(ring, c, 4294967295, 4294967295, 4294967295);
         return;
     }
-    let x = entry_between(coords, corners, pairing, h, k, c, p, q);
-    let y = entry_between(coords, corners, pairing, h, k, d, q, r);
-    let z = entry_between(coords, corners, pairing, h, k, e, r, p);
+    let x = entry_between(coords, corners, pairing, h, 0, c, p, q);
+    let y = entry_between(coords, corners, pairing, h, 0, d, q, r);
+    let z = entry_between(coords, corners, pairing, h, 0, e, r, p);
     put_three(ring, c, x, y, z);
 }
 
-// Writes the ring entry of every corner, triangle by triangle.
-pub fn link(coords: &[i32], corners: &[u32], pairing: &[u32], h: i32, k: usize, ring: &mut [u32])
+// Writes the ring entry of every corner for height h, triangle by triangle.
+pub fn link_at(coords: &[i32], corners: &[u32], pairing: &[u32], h: i32, ring: &mut [u32])
     requires { ⌜ Named (now coords) (now corners) ⌝ ∗ ⌜ Linked (now corners) (now pairing) ⌝ ∗ ⌜ length (now corners) ≤ length (now ring) ⌝ }
-    ensures { λ _. ⌜ now (ring .exit) ≡ refill (length (now (corners .entry))) (ringEntry (under (now (coords .entry)) h k) (now (corners .entry)) (now (pairing .entry))) (now (ring .entry)) ⌝ }
+    ensures { λ _. ⌜ now (ring .exit) ≡ refill (length (now (corners .entry))) (ringEntry (under (now (coords .entry)) h 0) (now (corners .entry)) (now (pairing .entry))) (now (ring .entry)) ⌝ }
 {
     let n = corners.len();
     let mut c: usize = 0;
     while c < n {
-        link_triangle(coords, corners, pairing, h, k, ring, c);
+        link_triangle(coords, corners, pairing, h, ring, c);
         c += 3;
     }
 }

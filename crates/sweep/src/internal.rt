@@ -21,6 +21,7 @@ use mesh::Verdict;
 use mesh::internal::wide;
 use section::internal::entry_of;
 use section::internal::link;
+use section::internal::link_at;
 
 // Whether triangle t touches vertex v.
 fn touched(corners: &[u32], t: usize, v: usize) -> bool
@@ -215,7 +216,7 @@ pub fn raise(
     ensures { λ r. ⌜ Lifts (now (coords .entry)) (now (corners .entry)) (now (pairing .entry)) (now (order .entry)) (now (ring .entry)) n h (now (names .entry)) (now (points .entry)) (now (ends .entry)) (now (marks .entry)) r (now (ring .exit)) (now (names .exit)) (now (points .exit)) (now (ends .exit)) (now (marks .exit)) ⌝ }
 {
     let p = risen_to(coords, order, n, h);
-    link(coords, corners, pairing, h, 0, ring);
+    link_at(coords, corners, pairing, h, ring);
     copy_front(ring, marks, corners.len());
     let s = outline(coords, corners, h, names, points, ends, marks);
     match s {

@@ -1,6 +1,6 @@
 -- `internal::is_passed` meets its contract.
+use Rattle.section.proofs.Turns.{passed-low, passed-high, passed-level}
 use denote.Ref.{now}
-use Rattle.section.proofs.Turns.{passed-level, passed-apart}
 use borrow.Author.Needs.{needs}
 use Rattle.section.proofs.internal.is_passed.Statement.{statement}
 use Rattle.section.proofs.internal.is_passed.Tie as tie
@@ -18,10 +18,14 @@ shared-slice-copy-out-z : tie.Need-shared-slice-copy-out-z
 shared-slice-copy-out-z c = search needs
 
 returns : tie.Need-returns
-returns c = let a = c .before .before .args in passed-level (now (a .coords)) (a .h) (a .k) (a .v) (c .before .z .given) (c .before .before .fits .h) (c .if1 .taken)
+returns c = let a = c .before .before .args in passed-low (now (a .coords)) (a .h) (a .k) (a .v) (c .before .z .given) (c .before .before .fits .h) (c .if1 .taken)
 
 returns-2 : tie.Need-returns-2
-returns-2 c = let a = c .before .before .args in passed-apart (now (a .coords)) (a .h) (a .k) (a .v) (c .before .z .given) (c .before .before .fits .h) (c .if1 .left)
+returns-2 c = let a = c .before .before .before .args in passed-high (now (a .coords)) (a .h) (a .k) (a .v) (c .before .before .z .given) (c .before .before .before .fits .h) (c .before .if1 .left) (c .if2 .taken)
+
+returns-3 : tie.Need-returns-3
+returns-3 c = let a = c .before .before .before .args in passed-level (now (a .coords)) (a .h) (a .k) (a .v) (c .before .before .z .given) (c .before .before .before .fits .h) (c .before .if1 .left) (c .if2 .left)
 
 pub is-passed-spec : {M : Type 1} → statement M
-is-passed-spec = tie.close (tie.spec mul-i add-i mul-z shared-slice-copy-out-z returns returns-2)
+is-passed-spec =
+    tie.close (tie.spec mul-i add-i mul-z shared-slice-copy-out-z returns returns-2 returns-3)

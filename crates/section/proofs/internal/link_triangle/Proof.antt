@@ -13,12 +13,12 @@ use Rattle.section.proofs.internal.link_triangle.Tie as tie
 
 -- the ring entries of height z
 abbrev entry : tie.Start → ℤ → ℕ → ℕ
-entry s z = ringEntry (under (now (s .args .coords)) z (s .args .k)) (now (s .args .corners)) (now (s .args .pairing))
+entry s z = ringEntry (under (now (s .args .coords)) z 0) (now (s .args .corners)) (now (s .args .pairing))
 
 -- the three vertices, as they were read
 seen : (c : tie.After-starts-passed3)
     → let s = c .before .before .before .before .before .before .args in
-    Seen (under (now (s .coords)) (held (s .h)) (s .k)) (now (s .corners)) (s .c) (c .before .before .starts-passed .result) (c .before .starts-passed2 .result) (c .starts-passed3 .result)
+    Seen (under (now (s .coords)) (held (s .h)) 0) (now (s .corners)) (s .c) (c .before .before .starts-passed .result) (c .before .starts-passed2 .result) (c .starts-passed3 .result)
 seen c =
     let s = c .before .before .before .before .before .before in
     record {
