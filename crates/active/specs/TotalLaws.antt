@@ -13,6 +13,7 @@ use Rattle.laws.specs.Booleans.{clash, and-parts, split-lt}
 use Rattle.laws.specs.Integers.{le-in, lt-in}
 use Rattle.laws.specs.Count.{count as tally}
 use Rattle.formats.specs.Numbers.{Word}
+use Rattle.formats.specs.LayerFile.{mostLayers}
 use Rattle.mesh.specs.Corners.{startOf, endOf, zOf}
 use Rattle.section.specs.Section.{below, rising}
 use Rattle.section.specs.Layers.{Distinct}
@@ -90,7 +91,7 @@ tally-range (suc m) a b t h = by (t m) (h m (omega arith)) (tally-range m a b t 
     by true f g = let q = f refl in omega (arith, q .0, q .1)
     by false f g = omega arith
 
-module _ (hs : ℕ → ℤ) (count : ℕ) (few : count ≤ 4096) (rises : (i j : ℕ) → i < j → j < count → hs i <ℤ hs j) (z y : ℤ) where
+module _ (hs : ℕ → ℤ) (count : ℕ) (few : count ≤ mostLayers) (rises : (i j : ℕ) → i < j → j < count → hs i <ℤ hs j) (z y : ℤ) where
   pub rises-flat : ltZ z y ≡ false → Rises hs count z y count 0
   rises-flat e =
       record {

@@ -7,6 +7,7 @@ use lib.Dec.{ltb}
 use lib.ListN.{length, getD, set}
 use lib.IntN.{ℤ}
 use lib.Signed.{ltZ}
+use Rattle.formats.specs.LayerFile.{mostLayers}
 use Rattle.laws.specs.Count.{count as tally}
 use Rattle.active.specs.Lists.{activeAt}
 use Rattle.active.specs.Levels.{LevelOf, Dealt, Kept}
@@ -20,17 +21,17 @@ sumTo (suc n) f = f n + sumTo n f
 pub record Rises (hs : ℕ → ℤ) (count : ℕ) (z y : ℤ) (level r : ℕ) : Type 0 where
   pub begins : LevelOf hs count z y level
   pub most : tally count (λ k. ltZ z (hs k) && not (ltZ y (hs k))) ≤ r
-  pub few : r ≤ 4096
+  pub few : r ≤ mostLayers
 
 -- the corners from c on rise at r heights at most, each counted by itself
 pub record RiseTotal (coords : List ℤ) (corners : List ℕ) (hs : ℕ → ℤ) (count c r : ℕ) : Type 0 where
   pub most : sumTo (length corners) (λ d. tally count (λ k. activeAt coords corners (hs k) d)) ≤ r + sumTo c (λ d. tally count (λ k. activeAt coords corners (hs k) d))
-  pub few : r + c * 4096 ≤ length corners * 4096
+  pub few : r + c * mostLayers ≤ length corners * mostLayers
 
 -- all heights have at most r crossings together
 pub record CrossingTotal (coords : List ℤ) (corners : List ℕ) (hs : ℕ → ℤ) (count r : ℕ) : Type 0 where
   pub most : sumTo count (λ k. tally (length corners) (activeAt coords corners (hs k))) ≤ r
-  pub few : r ≤ 196608 * 4096
+  pub few : r ≤ 196608 * mostLayers
 
 -- corner c, whose edge leads from z to y, stands in front of the list of its height, if it has one; it rises at r heights
 pub record Placed (hs : ℕ → ℤ) (count c : ℕ) (z y : ℤ) (r : ℕ) (ring heads ring′ heads′ : List ℕ) : Type 0 where

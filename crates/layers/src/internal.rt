@@ -14,6 +14,7 @@ ghost use Rattle.cutter.specs.Outlines.{Long};
 ghost use Rattle.active.specs.Levels.{Climbing};
 ghost use Rattle.active.specs.Totals.{CrossingTotal};
 ghost use Rattle.formats.specs.Numbers.{encodeNumber, zigzag};
+ghost use Rattle.formats.specs.LayerFile.{mostLayers};
 ghost use Rattle.heights.specs.Taking.{heightAt};
 ghost use Rattle.heights.specs.Heights.{heightsTaken, fallingHeight};
 ghost use Rattle.layers.specs.AllLayers.{fileOf};
@@ -182,7 +183,7 @@ fn height_length(h: i32) -> usize
 
 // How many bytes the layer file takes at most, by how many crossings all heights have.
 fn longest(low: i32, heights: &[i32], count: usize, crossings: usize) -> usize
-    requires { ⌜ Climbing low (now heights) count ⌝ ∗ ⌜ crossings ≤ 196608 * 4096 ⌝ }
+    requires { ⌜ Climbing low (now heights) count ⌝ ∗ ⌜ crossings ≤ 196608 * mostLayers ⌝ }
     ensures { λ r. ⌜ r ≡ longestFile (heightAt low (now (heights .entry))) count crossings ⌝ }
 {
     let mut total = number_length(count as u64) + 10 * crossings;

@@ -1,6 +1,6 @@
 // Internal: leaves whose `requires` say what the tests before them establish.
 ghost use mathlib.Core.Path.{_≡_};
-ghost use Prim.Native.Nat.{_<_, _≤_};
+ghost use Prim.Native.Nat.{_<_, _≤_, min};
 ghost use lib.ListN.{length, replicate};
 ghost use Rattle.laws.specs.Tables.{overwrite};
 ghost use Rattle.mesh.specs.Corners.{nextCorner, vertexCount};
@@ -21,6 +21,27 @@ pub fn next_corner(c: usize) -> usize
         return c - 2;
     }
     c + 1
+}
+
+// The corner before c in its triangle.
+pub fn previous_corner(c: usize) -> usize
+    requires { ⌜ c < 196608 ⌝ }
+    ensures { λ r. ⌜ r ≡ nextCorner (nextCorner c) ⌝ }
+{
+    if (c as u32) % 3 == 0 {
+        return c + 2;
+    }
+    c - 1
+}
+
+// The lesser of two numbers.
+pub fn lesser(a: usize, b: usize) -> usize
+    ensures { λ r. ⌜ r ≡ min a b ⌝ }
+{
+    if b < a {
+        return b;
+    }
+    a
 }
 
 // Whether vertex u stands before vertex v: by z, and then by number.

@@ -1,25 +1,13 @@
 // Internal: contours followed by pairing and height, for a right mesh.
 ghost use mathlib.Core.Path.{_≡_};
-ghost use Prim.Native.Nat.{_<_};
 ghost use lib.ListN.{length};
-ghost use Rattle.mesh.specs.Corners.{nextCorner};
 ghost use Rattle.section.specs.Section.{below, successor, Crossing, Right};
 ghost use Rattle.rounds.specs.Rounds.{Roundable, Rounded, Outlinable, Outlined, Marked};
 use crate::Counts;
 use active::internal::is_below;
 use mesh::internal::next_corner;
+use mesh::internal::previous_corner;
 use mesh::internal::wide;
-
-// The corner before corner c in its triangle.
-fn previous_corner(c: usize) -> usize
-    requires { ⌜ c < 196608 ⌝ }
-    ensures { λ r. ⌜ r ≡ nextCorner (nextCorner c) ⌝ }
-{
-    if c % 3 == 0 {
-        return c + 2;
-    }
-    c - 1
-}
 
 // The successor of crossing c: its paired corner falls, so that one of the two other corners of that triangle rises, by the third vertex.
 fn successor(coords: &[i32], corners: &[u32], pairing: &[u32], h: i32, c: usize) -> usize

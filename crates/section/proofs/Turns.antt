@@ -63,13 +63,13 @@ rises-is passed corners c n u v r en eu ev er = er ∙ (λ i. passed (eu i) && n
 
 -- ---- rising_beside
 
-module _ (passed : VertexSet) (corners : List ℕ) (d e f w : ℕ) (r : Bool) (falls : falling passed corners d ≡ true) (is-e : e ≡ nextCorner d) (is-f : f ≡ nextCorner e)
+module _ (passed : VertexSet) (corners : List ℕ) (d e f w : ℕ) (r : Bool) (falls : falling passed corners d ≡ true) (is-e : e ≡ nextCorner d) (is-f : f ≡ nextCorner (nextCorner d))
     (is-w : w ≡ getD corners f 0) (is-r : r ≡ passed w) where
   third : passed (startOf corners (nextCorner (nextCorner d))) ≡ r
-  third = sym (is-r ∙ ap passed (is-w ∙ ap (λ (i : ℕ). getD corners i 0) (is-f ∙ ap nextCorner is-e)))
+  third = sym (is-r ∙ ap passed (is-w ∙ ap (λ (i : ℕ). getD corners i 0) is-f))
 
   pub second-rises : r ≡ true → f ≡ risingIn passed corners (triangleOf d)
-  second-rises t = is-f ∙ ap nextCorner is-e ∙ beside-passed passed corners d falls (third ∙ t)
+  second-rises t = is-f ∙ beside-passed passed corners d falls (third ∙ t)
 
   pub first-rises : r ≡ false → e ≡ risingIn passed corners (triangleOf d)
   first-rises t = is-e ∙ beside-not passed corners d falls (third ∙ t)

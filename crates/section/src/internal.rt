@@ -9,6 +9,7 @@ ghost use Rattle.mesh.specs.Corners.{vertexCount, triangleOf, startOf};
 ghost use Rattle.section.specs.Section.{under, rising, falling, risingIn, ringEntry, Crossing, Named, Linked};
 ghost use Rattle.section.specs.Triangles.{Between, setThree};
 use mesh::internal::next_corner;
+use mesh::internal::previous_corner;
 use mesh::internal::wide;
 
 // Whether vertex v is passed.
@@ -64,7 +65,7 @@ pub fn rising_beside(coords: &[i32], corners: &[u32], h: i32, k: usize, d: usize
     ensures { λ r. ⌜ r ≡ risingIn (under (now (coords .entry)) h k) (now (corners .entry)) (triangleOf d) ⌝ }
 {
     let e = next_corner(d);
-    let f = next_corner(e);
+    let f = previous_corner(d);
     let w = wide(corners[f]);
     if is_passed(coords, h, k, w) {
         return f;

@@ -14,14 +14,14 @@ use Rattle.section.proofs.internal.rising_beside.Tie as tie
 next-corner-requires : tie.Need-next-corner-requires
 next-corner-requires c κs = search needs
 
-next-corner-requires-2 : tie.Need-next-corner-requires-2
-next-corner-requires-2 c κs = search needs
+previous-corner-requires : tie.Need-previous-corner-requires
+previous-corner-requires c κs = search needs
 
 mul-wide : tie.Need-mul-wide
 mul-wide c = search needs
 
 shared-slice-read-wide : tie.Need-shared-slice-read-wide
-shared-slice-read-wide c = let s = c .before .before .before .before in rw (c .before .next-corner2 .ensures, c .before .before .next-corner .ensures) (next-below _ _ (s .pre .0 .whole .threes) (next-below _ (s .args .d) (s .pre .0 .whole .threes) (s .pre .1 .0)))
+shared-slice-read-wide c = let s = c .before .before .before .before in rw (c .before .previous-corner .ensures) (next-below _ _ (s .pre .0 .whole .threes) (next-below _ (s .args .d) (s .pre .0 .whole .threes) (s .pre .1 .0)))
 
 wide-requires : tie.Need-wide-requires
 wide-requires c κs = search needs
@@ -29,21 +29,21 @@ wide-requires c κs = search needs
 is-passed-requires : tie.Need-is-passed-requires
 is-passed-requires c κs =
     let s = c .before .before .before .before .before in
-    let f : c .before .before .next-corner2 .result < length (now (s .args .corners)) = rw (c .before .before .next-corner2 .ensures, c .before .before .before .next-corner .ensures) (next-below _ _ (s .pre .0 .whole .threes) (next-below _ (s .args .d) (s .pre .0 .whole .threes) (s .pre .1 .0))) in
-    rw (c .wide .ensures) (s .pre .0 .vertices (c .before .before .next-corner2 .result) f)
+    let f : c .before .before .previous-corner .result < length (now (s .args .corners)) = rw (c .before .before .previous-corner .ensures) (next-below _ _ (s .pre .0 .whole .threes) (next-below _ (s .args .d) (s .pre .0 .whole .threes) (s .pre .1 .0))) in
+    rw (c .wide .ensures) (s .pre .0 .vertices (c .before .before .previous-corner .result) f)
 
 returns : tie.Need-returns
-returns c = let s = c .before .before .before .before .before .before .before in second-rises (under (now (s .args .coords)) (s .args .h) (s .args .k)) (now (s .args .corners)) (s .args .d) _ _ _ _ (s .pre .1 .1) (c .before .before .before .before .before .next-corner .ensures) (c .before .before .before .before .next-corner2 .ensures) (c .before .before .wide .ensures) (c .before .is-passed .ensures ∙ ap (λ (z : ℤ). under (now (s .args .coords)) z (s .args .k) (c .before .before .wide .result)) (back (s .fits .h))) (c .if1 .taken)
+returns c = let s = c .before .before .before .before .before .before .before in second-rises (under (now (s .args .coords)) (s .args .h) (s .args .k)) (now (s .args .corners)) (s .args .d) _ _ _ _ (s .pre .1 .1) (c .before .before .before .before .before .next-corner .ensures) (c .before .before .before .before .previous-corner .ensures) (c .before .before .wide .ensures) (c .before .is-passed .ensures ∙ ap (λ (z : ℤ). under (now (s .args .coords)) z (s .args .k) (c .before .before .wide .result)) (back (s .fits .h))) (c .if1 .taken)
 
 returns-2 : tie.Need-returns-2
-returns-2 c = let s = c .before .before .before .before .before .before .before in first-rises (under (now (s .args .coords)) (s .args .h) (s .args .k)) (now (s .args .corners)) (s .args .d) _ _ _ _ (s .pre .1 .1) (c .before .before .before .before .before .next-corner .ensures) (c .before .before .before .before .next-corner2 .ensures) (c .before .before .wide .ensures) (c .before .is-passed .ensures ∙ ap (λ (z : ℤ). under (now (s .args .coords)) z (s .args .k) (c .before .before .wide .result)) (back (s .fits .h))) (c .if1 .left)
+returns-2 c = let s = c .before .before .before .before .before .before .before in first-rises (under (now (s .args .coords)) (s .args .h) (s .args .k)) (now (s .args .corners)) (s .args .d) _ _ _ _ (s .pre .1 .1) (c .before .before .before .before .before .next-corner .ensures) (c .before .before .before .before .previous-corner .ensures) (c .before .before .wide .ensures) (c .before .is-passed .ensures ∙ ap (λ (z : ℤ). under (now (s .args .coords)) z (s .args .k) (c .before .before .wide .result)) (back (s .fits .h))) (c .if1 .left)
 
 pub rising-beside-spec : {M : Type 1} → statement M
 rising-beside-spec =
     tie.close
     (tie.spec
     next-corner-requires
-    next-corner-requires-2
+    previous-corner-requires
     mul-wide
     shared-slice-read-wide
     wide-requires
