@@ -20,7 +20,7 @@ use Rattle.section.specs.Layers.{Distinct}
 use Rattle.section.specs.RingLaws.{pigeonhole}
 use Rattle.active.specs.Lists.{CornerSet, activeAt}
 use Rattle.active.specs.Levels.{FirstAbove, LevelOf}
-use Rattle.active.specs.LevelLaws.{lt-yes, lt-no, above-later, level-flat, level-none, level-high, level-here}
+use Rattle.active.specs.LevelLaws.{lt-yes, lt-no, above-later, level-none, level-high, level-here}
 use Rattle.active.specs.Totals.{sumTo, Rises, RiseTotal, CrossingTotal}
 
 -- ---- sums
@@ -92,18 +92,25 @@ tally-range (suc m) a b t h = by (t m) (h m (omega arith)) (tally-range m a b t 
     by false f g = omega arith
 
 module _ (hs : ℕ → ℤ) (count : ℕ) (few : count ≤ mostLayers) (rises : (i j : ℕ) → i < j → j < count → hs i <ℤ hs j) (z y : ℤ) where
-  pub rises-flat : ltZ z y ≡ false → Rises hs count z y count 0
-  rises-flat e =
+  -- an edge that is at no height both below it at its start and not at its end
+  rises-never : ((k : ℕ) → k < count → ltZ z (hs k) ≡ true → ltZ y (hs k) ≡ false → ⊥) → Rises hs count z y count 0
+  rises-never none =
       record {
-        begins = level-flat hs count rises z y e;
-        most = omega (arith, tally-range count 0 0 (λ k. ltZ z (hs k) && not (ltZ y (hs k))) (λ k l t. absurd (none k t)));
+        begins = record { upto = omega arith; there = λ h. absurd (omega arith); only = λ j l m. absurd (none j l (m .start-below) (m .end-not)) };
+        most = omega (arith, tally-range count 0 0 (λ k. ltZ z (hs k) && not (ltZ y (hs k))) (λ k l t. let p = and-parts (ltZ z (hs k)) (not (ltZ y (hs k))) t in absurd (none k l (p .0) (not-true _ (p .1)))));
         few = omega arith;
       }
-    where
-      none : (k : ℕ) → (ltZ z (hs k) && not (ltZ y (hs k))) ≡ true → ⊥
-      none k t =
-          let p = and-parts (ltZ z (hs k)) (not (ltZ y (hs k))) t in
-          omega (arith, le-in (lt-no z y e), lt-in (lt-yes z (hs k) (p .0)), le-in (lt-no y (hs k) (not-true _ (p .1))))
+
+  pub rises-flat : ltZ z y ≡ false → Rises hs count z y count 0
+  rises-flat e = rises-never (λ k l a b. omega (arith, le-in (lt-no z y e), lt-in (lt-yes z (hs k) a), le-in (lt-no y (hs k) b)))
+
+  -- it ends below the first height
+  pub rises-below : ltZ y (hs 0) ≡ true → Rises hs count z y count 0
+  rises-below e = rises-never (λ k l a b. clash e (above-later hs count rises y 0 k (omega arith) l b))
+
+  -- it starts at the last one or above it
+  pub rises-above : ltZ z (hs (count - 1)) ≡ false → Rises hs count z y count 0
+  rises-above e = rises-never (λ k l a b. clash a (above-later hs count rises z k (count - 1) (omega arith) (omega arith) e))
 
   module _ {a b : ℕ} (f : FirstAbove hs count 0 z a) (g : FirstAbove hs count a y b) where
     between : (k : ℕ) → k < count → (ltZ z (hs k) && not (ltZ y (hs k))) ≡ true → (a ≤ k) × (k < b)

@@ -1,5 +1,5 @@
 -- Internal: how many crossings all heights have together.
-use Prim.Native.Nat.{ℕ, zero, suc, _+_, _*_, _≤_}
+use Prim.Native.Nat.{ℕ, zero, suc, _+_, _-_, _*_, _≤_, _<_}
 use mathlib.Core.Path.{_≡_}
 use mathlib.Core.Bool.{cond, not, _&&_}
 use mathlib.Core.List.{List}
@@ -39,6 +39,26 @@ pub record Placed (hs : ℕ → ℤ) (count c : ℕ) (z y : ℤ) (r : ℕ) (ring
   pub rises : Rises hs count z y level r
   pub ring-is : ring′ ≡ cond (ltb level count) (set ring c (getD heads level 0)) ring
   pub heads-are : heads′ ≡ cond (ltb level count) (set heads level c) heads
+
+-- so do the corners c, c + 1 and c + 2 of a triangle, which start at x, y and z, from the last
+pub record Thrice (hs : ℕ → ℤ) (count c : ℕ) (x y z : ℤ) (r : ℕ) (ring heads ring′ heads′ : List ℕ) : Type 0 where
+  pub third : ℕ
+  pub second : ℕ
+  pub first : ℕ
+  pub ring₁ : List ℕ
+  pub heads₁ : List ℕ
+  pub ring₂ : List ℕ
+  pub heads₂ : List ℕ
+  pub third-placed : Placed hs count (c + 2) z x third ring heads ring₁ heads₁
+  pub second-placed : Placed hs count (c + 1) y z second ring₁ heads₁ ring₂ heads₂
+  pub first-placed : Placed hs count c x y first ring₂ heads₂ ring′ heads′
+  pub is : r ≡ third + second + first
+
+-- the first and the last of the heights
+pub record Outermost (hs : ℕ → ℤ) (count : ℕ) (first last : ℤ) : Type 0 where
+  pub some : 0 < count
+  pub first-is : first ≡ hs 0
+  pub last-is : last ≡ hs (count - 1)
 
 -- the corners from c up to b are dealt after those from b on, and rise at r heights
 pub record Dealing (coords : List ℤ) (corners : List ℕ) (hs : ℕ → ℤ) (count b c r : ℕ) (ring heads ring′ heads′ : List ℕ) : Type 0 where
