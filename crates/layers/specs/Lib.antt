@@ -2,8 +2,9 @@
 pub mod AllLayers
 pub mod Works
 pub mod Sweeps
-pub mod Bounds
 pub mod LayerAtLaws
 pub mod SweepLaws
+pub mod PassLaws
+pub mod StepLaws
 pub mod LayersLaws
 pub mod Worked

@@ -42,7 +42,7 @@ fn file_heights(heights: &[i32]) {
     let mut marks = [0u32; 1];
     let mut ring = [0u32; 1];
     let mut output = [0u8; 16384];
-    let a = layers::all_layers(
+    let a = filing::all_layers(
         &coords[..0],
         &corners[..0],
         &pairing[..0],

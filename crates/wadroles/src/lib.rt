@@ -194,7 +194,7 @@ pub extern "C" fn wadroles_all_layers(
 ) -> u32
     ensures { λ r. ⌜ AllLayersC (now (coords .entry)) (now (corners .entry)) (now (pairing .entry)) (now (order .entry)) (now (heights .entry)) (now (names .entry)) (now (points .entry)) (now (ends .entry)) (now (marks .entry)) (now (ring .entry)) (now (output .entry)) (now (out .entry)) r (now (names .exit)) (now (points .exit)) (now (ends .exit)) (now (marks .exit)) (now (ring .exit)) (now (output .exit)) (now (out .exit)) ⌝ }
 {
-    let a = layers::all_layers(
+    let a = filing::all_layers(
         coords,
         corners,
         pairing,

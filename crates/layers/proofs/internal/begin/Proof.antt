@@ -1,5 +1,5 @@
 -- `internal::begin` meets its contract.
-use Rattle.layers.proofs.Levelling.{begun-sweep, begun-spent, crossings-held}
+use Rattle.layers.specs.StepLaws.{begun-sweep, begun-spent, crossings-held}
 use denote.Ref.{now}
 use mir.Syntax.{w32}
 use mir.ValLaws.{toZ-ofZ}

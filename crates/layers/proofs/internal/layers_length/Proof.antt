@@ -10,8 +10,8 @@ use Rattle.heights.specs.Taking.{heightAt}
 use Rattle.layers.specs.Works.{Works}
 use Rattle.layers.specs.Sweeps.{Sweeping}
 use Rattle.layers.specs.SweepLaws.{climbing}
-use Rattle.layers.proofs.Passes.{Measured, measured-start, measured-fits, measured-next, measured-end, works-none, works-more, works-long, held-is, held-word, held-listed}
-use Rattle.layers.proofs.Levelling.{sweeping-held, holds-held}
+use Rattle.layers.specs.PassLaws.{Measured, measured-start, measured-fits, measured-next, measured-end, works-none, works-more, works-long, held-is, held-word, held-listed}
+use Rattle.layers.specs.StepLaws.{sweeping-held, holds-held}
 use Rattle.layers.proofs.internal.layers_length.Statement.{statement}
 use Rattle.layers.proofs.internal.layers_length.Tie as tie
 

@@ -4,9 +4,9 @@ use denote.Ref.{now}
 use mir.Syntax.{w32}
 use mir.ValLaws.{toZ-ofZ}
 use Rattle.layers.specs.SweepLaws.{advancing, outlinable}
-use Rattle.layers.proofs.Passes.{held-word}
+use Rattle.layers.specs.PassLaws.{held-word}
 use Rattle.active.specs.LevelLaws.{climbing-held}
-use Rattle.layers.proofs.Levelling.{height-held, points-asked, points-climb, level-holds, level-works, level-sweeps}
+use Rattle.layers.specs.StepLaws.{height-held, points-asked, points-climb, level-holds, level-works, level-sweeps}
 use borrow.Author.Needs.{needs}
 use Rattle.layers.proofs.internal.next_layer.Statement.{statement}
 use Rattle.layers.proofs.internal.next_layer.Tie as tie

@@ -10,8 +10,8 @@ use Rattle.heights.specs.Taking.{heightAt}
 use Rattle.layers.specs.Works.{Works}
 use Rattle.layers.specs.Sweeps.{Sweeping}
 use Rattle.layers.specs.SweepLaws.{climbing}
-use Rattle.layers.proofs.Passes.{Wrote, number-room, wrote-start, wrote-room, wrote-next, wrote-end, wrote-size, works-none, works-more, works-long, held-is, held-listed}
-use Rattle.layers.proofs.Levelling.{sweeping-held, holds-held}
+use Rattle.layers.specs.PassLaws.{Wrote, number-room, wrote-start, wrote-room, wrote-next, wrote-end, wrote-size, works-none, works-more, works-long, held-is, held-listed}
+use Rattle.layers.specs.StepLaws.{sweeping-held, holds-held}
 use Rattle.layers.proofs.internal.write_layers.Statement.{statement}
 use Rattle.layers.proofs.internal.write_layers.Tie as tie
 

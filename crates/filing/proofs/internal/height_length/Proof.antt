@@ -3,10 +3,10 @@ use mathlib.Core.Path.{ap, _∙_}
 use mir.Syntax.{w64}
 use Rattle.laws.specs.Machine.{fit, cast, cast-ok}
 use Rattle.formats.specs.Numbers.{zigzag}
-use Rattle.layers.proofs.Bounding.{height-measured}
+use Rattle.filing.proofs.Bounding.{height-measured}
 use borrow.Author.Needs.{needs}
-use Rattle.layers.proofs.internal.height_length.Statement.{statement}
-use Rattle.layers.proofs.internal.height_length.Tie as tie
+use Rattle.filing.proofs.internal.height_length.Statement.{statement}
+use Rattle.filing.proofs.internal.height_length.Tie as tie
 
 cast-unsigned-of : tie.Need-cast-unsigned-of
 cast-unsigned-of c = cast-ok (fit (c .fits .h)) tt

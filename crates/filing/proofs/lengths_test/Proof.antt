@@ -4,8 +4,8 @@ use borrow.Author.Tests.{lt-ltb, le-ltb}
 use Rattle.mesh.specs.declared.Refusal.the-variants.{Room}
 use Rattle.mesh.specs.RefusalLaws.{verdict-stop, verdict-next, verdict-one, whole-refused, whole-fine}
 use borrow.Author.Needs.{needs}
-use Rattle.layers.proofs.lengths_test.Statement.{statement}
-use Rattle.layers.proofs.lengths_test.Tie as tie
+use Rattle.filing.proofs.lengths_test.Statement.{statement}
+use Rattle.filing.proofs.lengths_test.Tie as tie
 
 size-test-requires : tie.Need-size-test-requires
 size-test-requires c κs = search needs

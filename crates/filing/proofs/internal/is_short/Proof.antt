@@ -5,13 +5,13 @@ use denote.Ref.{now}
 use mir.Syntax.{w32}
 use mir.ValLaws.{toZ-ofZ}
 use Rattle.laws.specs.Booleans.{clash}
 use Rattle.layers.specs.SweepLaws.{climbing}
-use Rattle.layers.proofs.Passes.{works-none, works-begun, works-more, held-listed}
-use Rattle.layers.proofs.Bounding.{room-bound, room-short, room-left}
-use Rattle.layers.proofs.Levelling.{right-ranged, ready-held, sweeping-held}
+use Rattle.layers.specs.PassLaws.{works-none, works-begun, works-more, held-listed}
+use Rattle.filing.proofs.Bounding.{room-bound, room-short, room-left}
+use Rattle.layers.specs.StepLaws.{right-ranged, ready-held, sweeping-held}
 use borrow.Author.Needs.{needs}
-use Rattle.layers.proofs.internal.is_short.Statement.{statement}
-use Rattle.layers.proofs.internal.is_short.Tie as tie
+use Rattle.filing.proofs.internal.is_short.Statement.{statement}
+use Rattle.filing.proofs.internal.is_short.Tie as tie
 
 returns : tie.Need-returns
 returns c = let s = c .before .before .before .before .before .before .before .before in ((room-bound (s .pre .1 .1) (c .if1 .taken), works-none), (λ e. s .pre .1 .0))

@@ -3,14 +3,14 @@ use mathlib.Core.Path.{sym, _∙_}
 use borrow.Author.Tests.{ltb-false}
 use mir.Syntax.{w32}
 use mir.ValLaws.{toZ-ofZ}
 use Rattle.layers.specs.SweepLaws.{climbing}
-use Rattle.layers.proofs.Passes.{works-begun, works-more, held-listed}
-use Rattle.layers.proofs.Bounding.{file-bound}
-use Rattle.layers.proofs.Levelling.{right-ranged, ready-held, ready-more}
-use Rattle.layers.proofs.Filing.{puts-short, puts-whole}
+use Rattle.layers.specs.PassLaws.{works-begun, works-more, held-listed}
+use Rattle.filing.proofs.Bounding.{file-bound}
+use Rattle.layers.specs.StepLaws.{right-ranged, ready-held, ready-more}
+use Rattle.filing.proofs.Filing.{puts-short, puts-whole}
 use borrow.Author.Needs.{needs}
-use Rattle.layers.proofs.internal.put_layers.Statement.{statement}
-use Rattle.layers.proofs.internal.put_layers.Tie as tie
+use Rattle.filing.proofs.internal.put_layers.Statement.{statement}
+use Rattle.filing.proofs.internal.put_layers.Tie as tie
 
 begin-requires : tie.Need-begin-requires
 begin-requires c κs = let s = c .before .before .before .before .before .before .before .before .before .before .before in (right-ranged (s .pre .0 .right), (climbing (held-listed (s .pre .0 .listed) (toZ-ofZ w32 (s .args .low) (s .fits .low))), (s .pre .0 .long .marks-long, s .pre .0 .ring-long, s .pre .1)))

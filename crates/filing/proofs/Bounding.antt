@@ -18,11 +18,11 @@ use Rattle.heights.specs.Taking.{heightAt}
 use Rattle.writer.specs.Written.{layerBytes, totalOf}
 use Rattle.active.specs.Lists.{activeAt}
 use Rattle.active.specs.Totals.{sumTo, CrossingTotal}
 use Rattle.layers.specs.AllLayers.{layerAt, fileOf}
 use Rattle.layers.specs.Works.{Listed}
-use Rattle.layers.specs.Bounds.{longestFile}
+use Rattle.filing.specs.Bounds.{longestFile}
 use Rattle.layers.specs.LayerAtLaws.{layer-bound}
-use Rattle.layers.proofs.Passes.{total-next, total-all}
+use Rattle.layers.specs.PassLaws.{total-next, total-all}
 
 -- ---- added up
 

@@ -8,10 +8,10 @@ use mir.ValLaws.{toZ-ofZ}
 use Rattle.heights.specs.Taking.{heightAt}
 use Rattle.active.specs.LevelLaws.{climbing-held}
 use Rattle.formats.specs.NumberLaws.{number-bytes}
-use Rattle.layers.proofs.Passes.{held-is}
-use Rattle.layers.proofs.Bounding.{Bounding, bounding-start, bounding-next, bounding-end}
-use Rattle.layers.proofs.internal.longest.Statement.{statement}
-use Rattle.layers.proofs.internal.longest.Tie as tie
+use Rattle.layers.specs.PassLaws.{held-is}
+use Rattle.filing.proofs.Bounding.{Bounding, bounding-start, bounding-next, bounding-end}
+use Rattle.filing.proofs.internal.longest.Statement.{statement}
+use Rattle.filing.proofs.internal.longest.Tie as tie
 
 abbrev Inv-loop : tie.InvT-loop
 Inv-loop low heights count crossings total₀ k₀ total k = Bounding (heightAt (toZ w32 low) heights) count crossings k total

@@ -1,9 +1,9 @@
 -- `internal::clear_work` meets its contract.
 use native.Mathlib.Omega.{arith}
-use Rattle.layers.proofs.Filing.{zeroed}
+use Rattle.filing.proofs.Filing.{zeroed}
 use borrow.Author.Needs.{needs}
-use Rattle.layers.proofs.internal.clear_work.Statement.{statement}
-use Rattle.layers.proofs.internal.clear_work.Tie as tie
+use Rattle.filing.proofs.internal.clear_work.Statement.{statement}
+use Rattle.filing.proofs.internal.clear_work.Tie as tie
 
 fill-requires : tie.Need-fill-requires
 fill-requires c κs = c .before .before .before .before .before .pre .0 .names-long

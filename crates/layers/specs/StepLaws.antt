@@ -23,7 +23,7 @@ use Rattle.rounds.specs.Rounds.{Outlined, Marked}
 use Rattle.layers.specs.Works.{Spent, Works, Holds}
 use Rattle.layers.specs.Sweeps.{Ranged, Ready, Sweeping}
 use Rattle.layers.specs.LayerAtLaws.{spent-front, spent-kept, k-names, k-points, names-climb, names-spent, ends-spent, points-spent, outlined-holds}
-use Rattle.layers.proofs.Passes.{works-long}
+use Rattle.layers.specs.PassLaws.{works-long}
 use Rattle.layers.specs.SweepLaws.{sweeping-start, ring-kept, sweeping-next}
 
 pub sweeping-held : (heights : List ℤ) {coords : List ℤ} {corners : List ℕ} {low low′ : ℤ} {count k : ℕ} {ring heads marks : List ℕ} {active : ℕ} → low′ ≡ low

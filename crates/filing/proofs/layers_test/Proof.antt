@@ -1,9 +1,9 @@
 -- `layers_test` meets its contract.
 use denote.Ref.{now}
-use Rattle.layers.proofs.Filing.{lengths-refused, lengths-whole, lengths-passed}
+use Rattle.filing.proofs.Filing.{lengths-refused, lengths-whole, lengths-passed}
 use borrow.Author.Needs.{needs}
-use Rattle.layers.proofs.layers_test.Statement.{statement}
-use Rattle.layers.proofs.layers_test.Tie as tie
+use Rattle.filing.proofs.layers_test.Statement.{statement}
+use Rattle.filing.proofs.layers_test.Tie as tie
 
 lengths-test-requires : tie.Need-lengths-test-requires
 lengths-test-requires c κs = search needs

@@ -1,9 +1,9 @@
 -- `internal::content_test` meets its contract.
 use denote.Ref.{now}
-use Rattle.layers.proofs.Filing.{mesh-refused, pairs-refused, order-refused, heights-tested}
+use Rattle.filing.proofs.Filing.{mesh-refused, pairs-refused, order-refused, heights-tested}
 use borrow.Author.Needs.{needs}
-use Rattle.layers.proofs.internal.content_test.Statement.{statement}
-use Rattle.layers.proofs.internal.content_test.Tie as tie
+use Rattle.filing.proofs.internal.content_test.Statement.{statement}
+use Rattle.filing.proofs.internal.content_test.Tie as tie
 
 mesh-test-requires : tie.Need-mesh-test-requires
 mesh-test-requires c κs = search needs

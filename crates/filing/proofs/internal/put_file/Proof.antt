@@ -1,10 +1,10 @@
 -- `internal::put_file` meets its contract.
 use mir.Syntax.{w32}
 use mir.ValLaws.{toZ-ofZ}
-use Rattle.layers.proofs.Levelling.{ready-held}
+use Rattle.layers.specs.StepLaws.{ready-held}
 use borrow.Author.Needs.{needs}
-use Rattle.layers.proofs.internal.put_file.Statement.{statement}
-use Rattle.layers.proofs.internal.put_file.Tie as tie
+use Rattle.filing.proofs.internal.put_file.Statement.{statement}
+use Rattle.filing.proofs.internal.put_file.Tie as tie
 
 slice-aggregate-put-layers : tie.Need-slice-aggregate-put-layers
 slice-aggregate-put-layers c = search needs

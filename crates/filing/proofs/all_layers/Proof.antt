@@ -1,11 +1,11 @@
 -- `all_layers` meets its contract.
 use native.Mathlib.Omega.{arith}
 use denote.Ref.{now}
-use Rattle.layers.proofs.Passes.{works-long, held-is}
-use Rattle.layers.proofs.Filing.{passed, listed, files-refused, files-put}
+use Rattle.layers.specs.PassLaws.{works-long, held-is}
+use Rattle.filing.proofs.Filing.{passed, listed, files-refused, files-put}
 use borrow.Author.Needs.{needs}
-use Rattle.layers.proofs.all_layers.Statement.{statement}
-use Rattle.layers.proofs.all_layers.Tie as tie
+use Rattle.filing.proofs.all_layers.Statement.{statement}
+use Rattle.filing.proofs.all_layers.Tie as tie
 
 layers-test-requires : tie.Need-layers-test-requires
 layers-test-requires c κs = search needs

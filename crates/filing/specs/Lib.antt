@@ -1,0 +1,2 @@
+-- Internal: the bound of a file.
+pub mod Bounds
