@@ -2,3 +2,4 @@
 pub mod Merging
 pub mod Going
 pub mod Dealing
+pub mod Skipping

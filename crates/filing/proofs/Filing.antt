@@ -27,9 +27,9 @@ use Rattle.cutter.specs.Outlines.{Long}
 use Rattle.cutter.specs.OutlineLaws.{room-long}
 use Rattle.formats.specs.LayerFile.{mostLayers}
 use Rattle.sweep.specs.Operations.{ringRoom}
-use Rattle.heights.specs.Heights.{lowestZ, heightsTaken, tooManyHeights, fallingHeight}
+use Rattle.heights.specs.Heights.{heightsTaken, tooManyHeights, fallingHeight}
 use Rattle.heights.specs.HeightLaws.{Rising, falling-taken, nowhere-rising}
-use Rattle.heights.specs.Taking.{Takable}
+use Rattle.heights.specs.Taking.{baseZ, Takable}
 use Rattle.heights.specs.TakingLaws.{takable}
 use Rattle.layers.specs.declared.Filed.{Filed}
 use Rattle.layers.specs.declared.Filed.the-variants.{Length, Refused as Unfiled}
@@ -151,7 +151,7 @@ module _ (coords : List ℤ) (corners pairing order : List ℕ) (heights : List 
           }
 
   -- each height taken can be had by its number
-  pub listed : v ≡ Fine → {low : ℤ} {count : ℕ} → low ≡ lowestZ coords → count ≡ length (heightsTaken coords heights) → Listed coords heights low count
+  pub listed : v ≡ Fine → {low : ℤ} {count : ℕ} → low ≡ baseZ coords heights → count ≡ length (heightsTaken coords heights) → Listed coords heights low count
   listed e {low} {count} a b =
       let t = passed e in
       record {

@@ -12,8 +12,8 @@ use crate::internal::clear_work;
 use crate::internal::content_test;
 use crate::internal::put_file;
 use cutter::room_test;
+use heights::base_z;
 use heights::count_test;
-use heights::lowest_z;
 use heights::taken_count;
 use layers::Filed;
 use mesh::Refusal;
@@ -106,7 +106,7 @@ pub fn all_layers(
     if let Verdict::Refused(r) = v {
         return Filed::Refused(r);
     }
-    let low = lowest_z(coords);
+    let low = base_z(coords, heights);
     let count = taken_count(coords, heights);
     let f = put_file(
         coords,

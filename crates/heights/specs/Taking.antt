@@ -1,11 +1,16 @@
--- Internal: one height taken, by its number, from the lowest z and the heights given, for functions that are not handed the coordinates.
+-- Internal: one height taken, by its number, from the lowest z or the heights given, for functions that are not handed the coordinates.
 use Prim.Native.Nat.{ℕ, _+_, _*_, _<_}
 use mathlib.Core.Path.{_≡_}
 use mathlib.Core.List.{List, [], _∷_}
 use lib.ListN.{length, getD}
 use lib.IntN.{ℤ, pos, _+ℤ_}
 use Rattle.formats.specs.Numbers.{Word}
-use Rattle.heights.specs.Heights.{firstAbove, spacing}
+use Rattle.heights.specs.Heights.{firstAbove, spacing, lowestZ}
+
+-- the lowest z where the heights are the default ones
+unfoldable pub baseZ : List ℤ → List ℤ → ℤ
+baseZ coords [] = lowestZ coords
+baseZ coords (h ∷ hs) = pos 0
 
 unfoldable pub heightAt : ℤ → List ℤ → ℕ → ℤ
 heightAt low [] k = low +ℤ pos (firstAbove + spacing * k)

@@ -4,6 +4,7 @@ ghost use Prim.Native.Nat.{_<_};
 ghost use lib.ListN.{length};
 ghost use Rattle.laws.specs.Least.{least};
 ghost use Rattle.mesh.specs.Refusals.{test};
+ghost use Rattle.heights.specs.Taking.{baseZ};
 ghost use Rattle.heights.specs.Heights.{lower, higher, lowestZ, highestZ, defaultCount, heightsTaken, tooManyHeights, notAboveLast, fallingHeight};
 use formats::MOST_LAYERS;
 use mesh::Refusal;
@@ -61,10 +62,13 @@ pub fn z_span(coords: &[i32]) -> Span
     Span { low, high }
 }
 
-// The lowest z, 0 where there are no vertices.
-pub fn lowest_z(coords: &[i32]) -> i32
-    ensures { λ r. ⌜ r ≡ lowestZ (now (coords .entry)) ⌝ }
+// The z above which the default heights lie; where heights are given, none of it is needed, and no vertex is looked at.
+pub fn base_z(coords: &[i32], heights: &[i32]) -> i32
+    ensures { λ r. ⌜ r ≡ baseZ (now (coords .entry)) (now (heights .entry)) ⌝ }
 {
+    if 0 < heights.len() {
+        return 0;
+    }
     z_span(coords).low
 }
 

@@ -3,7 +3,7 @@ use Prim.Native.Nat.{ℕ, _+_, _*_, _≤_, _<_}
 use mathlib.Core.Path.{_≡_, refl, sym, ap, _∙_, subst}
 use mathlib.Core.List.{List}
 use native.Mathlib.Omega.{arith}
-use lib.ListN.{length, getD, take, replicate, length-replicate}
+use lib.ListN.{length, getD, take}
 use lib.IntN.{ℤ}
 use mir.Syntax.{w32}
 use mir.Val.{toZ, ofZ}
@@ -22,7 +22,7 @@ use Rattle.active.specs.Totals.{CrossingTotal}
 use Rattle.rounds.specs.Rounds.{Outlined, Marked}
 use Rattle.layers.specs.Works.{Spent, Works, Holds}
 use Rattle.layers.specs.Sweeps.{Ranged, Ready, Sweeping}
-use Rattle.layers.specs.LayerAtLaws.{spent-front, spent-kept, k-names, k-points, names-climb, names-spent, ends-spent, points-spent, outlined-holds}
+use Rattle.layers.specs.LayerAtLaws.{spent-kept, k-names, k-points, names-climb, names-spent, ends-spent, points-spent, outlined-holds}
 use Rattle.layers.specs.PassLaws.{works-long}
 use Rattle.layers.specs.SweepLaws.{sweeping-start, ring-kept, sweeping-next}
 
@@ -52,18 +52,16 @@ right-ranged r = record { named = r .named; inside = r .inside }
 
 -- ---- begin
 
-module _ {coords : List ℤ} {corners : List ℕ} (ranged : Ranged coords corners) {low low′ : ℤ} (heights : List ℤ) {count : ℕ} (el : low′ ≡ low) (marks heads : List ℕ) {marks₁ ring ring₁ heads₁ : List ℕ}
-    (marks-long : length corners ≤ length marks) (ring-long : length corners ≤ length ring) (heads-long : count ≤ length heads) (em : marks₁ ≡ overwrite (replicate (length corners) 0) marks)
-    (d : Dealt coords corners (heightAt low′ heights) count 0 ring₁ heads₁ × Kept (length corners) ring ring₁) (eh : length heads₁ ≡ length heads) where
+module _ {coords : List ℤ} {corners : List ℕ} (ranged : Ranged coords corners) {low low′ : ℤ} (heights : List ℤ) {count : ℕ} (el : low′ ≡ low) (heads : List ℕ) {marks marks₁ ring ring₁ heads₁ : List ℕ}
+    (ring-long : length corners ≤ length ring) (heads-long : count ≤ length heads)
+    (d : Dealt coords corners (heightAt low′ heights) count 0 ring₁ heads₁ marks₁ × Kept (length corners) ring ring₁ × Kept (length corners) marks marks₁) (eh : length heads₁ ≡ length heads) where
   pub begun-sweep : Sweeping coords corners (heightAt low heights) count 0 ring₁ heads₁ marks₁ (length corners)
   begun-sweep =
       sweeping-held heights (sym el)
-      (sweeping-start ranged marks (d .0) (omega (arith, d .1 .size)) (omega arith) marks-long em)
+      (sweeping-start ranged (d .0) (omega (arith, d .1 .size)) (omega arith))
 
   pub begun-spent : Spent (length corners) marks marks₁ × Spent (length corners) ring ring₁
-  begun-spent =
-      let z : length {A = ℕ} (replicate (length corners) 0) ≡ length corners = length-replicate {A = ℕ} (length corners) 0 in
-      (subst (Spent (length corners) marks) (sym em) (spent-front (length corners) (replicate (length corners) 0) marks (omega arith) marks-long), spent-kept (d .1))
+  begun-spent = (spent-kept (d .2), spent-kept (d .1))
 
 pub crossings-held : (heights : List ℤ) {coords : List ℤ} {corners : List ℕ} {low low′ : ℤ} {count crossings : ℕ} → low′ ≡ low → CrossingTotal coords corners (heightAt low′ heights) count crossings
     → CrossingTotal coords corners (heightAt low heights) count crossings
@@ -82,7 +80,7 @@ module _ {coords : List ℤ} {corners pairing : List ℕ} (right : Right coords 
   points-climb = names-climb coords corners pairing right h o (long .names-long) (long .ends-long)
 
   module _ {points₁ : List ℤ} (ep : points₁ ≡ overwrite (pointsOf coords corners h (take m names₁)) points) {ring₁ marks₁ : List ℕ} {a : ℕ} (r : Relinked (activeAt coords corners h) (length corners) ring ring₁ a)
-      (w : Marked (length corners) (k + 1) marks marks₁) where
+      (w : Marked (activeAt coords corners h) (length corners) (k + 1) marks marks₁) where
     pub level-holds : Holds coords corners pairing (heightAt low heights k) points₁ ends₁ j
     level-holds =
         subst (λ (z : ℤ). Holds coords corners pairing z points₁ ends₁ j) eh

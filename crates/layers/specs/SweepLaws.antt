@@ -5,13 +5,11 @@ use mathlib.Core.Bool.{false}
 use mathlib.Core.List.{List}
 use mathlib.Core.Logic.{⊎-elim}
 use native.Mathlib.Omega.{arith}
-use lib.ListN.{length, getD, replicate, length-replicate, getD-replicate}
+use lib.ListN.{length, getD}
 use lib.IntN.{ℤ, pos, negsuc}
 use lib.Signed.{_<ℤ_}
 use Rattle.laws.specs.Booleans.{clash, is-false, split-lt}
 use Rattle.laws.specs.Integers.{mag-le, lt-in, lt-out}
-use Rattle.laws.specs.Tables.{overwrite}
-use Rattle.laws.specs.TableLaws.{overwrite-at}
 use Rattle.mesh.specs.Corners.{startOf, zOf}
 use Rattle.section.specs.Section.{below, Right}
 use Rattle.section.specs.SectionLaws.{rising-parts}
@@ -22,6 +20,7 @@ use Rattle.heights.specs.Taking.{heightAt}
 use Rattle.heights.specs.TakingLaws.{height-at}
 use Rattle.active.specs.Lists.{Stands, activeAt}
 use Rattle.active.specs.ListLaws.{next-none}
+use Rattle.active.specs.SetLaws.{active-made}
 use Rattle.active.specs.Advances.{Advancing, Relinked}
 use Rattle.active.specs.Levels.{sinceAt, Climbing, Dealt, Kept}
 use Rattle.active.specs.LevelLaws.{le-is, lowest-le, since-upto, since-next, bucket-later, dealt-stands}
@@ -62,17 +61,16 @@ module _ {coords : List ℤ} {corners : List ℕ} (right : Ranged coords corners
       (le-is (zOf coords (startOf corners c)) (negsuc 2147483647)
       (lowest-le (zOf coords (startOf corners c)) (omega (arith, mag-le (zOf coords (startOf corners c)), right .inside (3 * startOf corners c + 2) (omega (arith, right .named .vertices c l)))))))
 
-  pub sweeping-start : {hs : ℕ → ℤ} {count : ℕ} {ring heads marks : List ℕ} (marks₀ : List ℕ) → Dealt coords corners hs count 0 ring heads → length corners ≤ length ring → count ≤ length heads
-      → length corners ≤ length marks₀ → marks ≡ overwrite (replicate (length corners) 0) marks₀ → Sweeping coords corners hs count 0 ring heads marks (length corners)
-  sweeping-start {hs} {count} {ring} {heads} {marks} marks₀ d room wide long e =
-      let z : length {A = ℕ} (replicate (length corners) 0) ≡ length corners = length-replicate {A = ℕ} (length corners) 0 in
+  pub sweeping-start : {hs : ℕ → ℤ} {count : ℕ} {ring heads marks : List ℕ} → Dealt coords corners hs count 0 ring heads marks → length corners ≤ length ring → count ≤ length heads → Sweeping coords corners hs count 0 ring heads marks (length corners)
+  sweeping-start {hs} d room wide =
       record {
         active-stands = record {
           head-is = sym (next-none (activeAt coords corners (sinceAt hs 0)) (length corners) 0 (λ j l m. none-active hs j m));
           links-are = λ c l q. absurd (clash q (none-active hs c l));
         };
         buckets = λ j l m. dealt-stands d j m;
-        marks-upto = λ c l. omega (arith, ap (λ (t : List ℕ). getD t c 0) e, overwrite-at (replicate (length corners) 0) marks₀ c 0 (omega arith), getD-replicate {A = ℕ} (length corners) c 0 0 l);
+        marks-upto = λ c l q. absurd (clash q (none-active hs c l));
+        unmarked = λ j l m c k e. d .unmarked c (omega arith) k j m e;
         ring-room = room;
         heads-room = wide;
       }
@@ -107,13 +105,16 @@ module _ {coords : List ℤ} {corners pairing : List ℕ} (right : Right coords 
           names-room = l .names-long;
           ends-room = l .ends-long;
           marks-room = l .marks-long;
-          unstamped = λ c m. let z = s .marks-upto c m in omega arith;
+          unstamped = λ c m p. ⊎-elim
+              (λ q. let z = s .marks-upto c m q in omega arith)
+              (λ q. let z = s .unmarked k (omega arith) less c m q in omega arith)
+              (active-made coords corners (sinceAt hs k) (hs k) (since-upto hs count (cl .rises) k less (subst Word eh fits)) (length corners) .either c m (ap (λ (z : ℤ). activeAt coords corners z c) (sym eh) ∙ p));
         }
 
     pub ring-kept : Kept (length corners) ring ring₁
     ring-kept = record { size = r .size; past = λ i l. r .other i (λ m. absurd (omega arith)) }
 
-    pub sweeping-next : {marks₁ : List ℕ} {stamp : ℕ} → stamp ≡ k + 1 → Marked (length corners) stamp marks marks₁ → Sweeping coords corners (heightAt low heights) count (k + 1) ring₁ heads marks₁ a
+    pub sweeping-next : {marks₁ : List ℕ} {stamp : ℕ} → stamp ≡ k + 1 → Marked (activeAt coords corners h) (length corners) stamp marks marks₁ → Sweeping coords corners (heightAt low heights) count (k + 1) ring₁ heads marks₁ a
     sweeping-next es m =
         record {
           active-stands = subst (λ (z : ℤ). Stands (activeAt coords corners z) (length corners) ring₁ a) (eh ∙ sym (since-next hs k)) (r .stands);
@@ -121,7 +122,8 @@ module _ {coords : List ℤ} {corners pairing : List ℕ} (right : Right coords 
             head-is = b .head-is;
             links-are = λ c o e. r .other c (λ p. ap (λ (z : ℤ). activeAt coords corners z c) eh ∙ bucket-later hs count (cl .rises) coords corners k j c (omega arith) n e) ∙ b .links-are c o e;
           };
-          marks-upto = λ c l. let z = m .upto c l in omega arith;
+          marks-upto = λ c l q. let z = m .upto c l (ap (λ (z : ℤ). activeAt coords corners z c) (eh ∙ sym (since-next hs k)) ∙ q) in omega arith;
+          unmarked = λ j l n c o e. m .other c (ap (λ (z : ℤ). activeAt coords corners z c) eh ∙ bucket-later hs count (cl .rises) coords corners k j c (omega arith) n e) ∙ s .unmarked j (omega arith) n c o e;
           ring-room = omega (arith, s .ring-room, r .size);
           heads-room = s .heads-room;
         }

@@ -1,5 +1,7 @@
 -- Internal: the sweep from height to height.
 use Prim.Native.Nat.{ℕ, _≤_, _<_}
+use mathlib.Core.Path.{_≡_}
+use mathlib.Core.Bool.{true}
 use mathlib.Core.List.{List}
 use lib.ListN.{length, getD}
 use lib.IntN.{ℤ, pos, natAbs}
@@ -22,10 +24,11 @@ pub record Ready (coords : List ℤ) (corners pairing : List ℕ) (low : ℤ) (h
   pub ring-long : length corners ≤ length ring
   pub listed : Listed coords heights low count
 
--- before height k: the list of the corners that rise at the height before it, those of the heights from k on, and no mark above k
+-- before height k: the list of the corners that rise at the height before it, with no mark above k, and those of the heights from k on, with none
 pub record Sweeping (coords : List ℤ) (corners : List ℕ) (hs : ℕ → ℤ) (count k : ℕ) (ring heads marks : List ℕ) (active : ℕ) : Type 0 where
   pub active-stands : Stands (activeAt coords corners (sinceAt hs k)) (length corners) ring active
   pub buckets : (j : ℕ) → k ≤ j → j < count → Stands (bucketAt coords corners hs j) (length corners) ring (getD heads j 0)
-  pub marks-upto : (c : ℕ) → c < length corners → getD marks c 0 ≤ k
+  pub marks-upto : (c : ℕ) → c < length corners → activeAt coords corners (sinceAt hs k) c ≡ true → getD marks c 0 ≤ k
+  pub unmarked : (j : ℕ) → k ≤ j → j < count → (c : ℕ) → c < length corners → bucketAt coords corners hs j c ≡ true → getD marks c 0 ≡ 0
   pub ring-room : length corners ≤ length ring
   pub heads-room : count ≤ length heads

@@ -7,9 +7,9 @@ use lib.IntN.{ℤ}
 use Rattle.mesh.specs.Refusals.{test}
 use Rattle.mesh.specs.declared.Verdict.the-variants.{Fine}
 use Rattle.formats.specs.LayerFile.{mostLayers}
-use Rattle.heights.specs.Heights.{lowestZ, heightsTaken}
+use Rattle.heights.specs.Heights.{heightsTaken}
 use Rattle.heights.specs.HeightLaws.{Rising}
-use Rattle.heights.specs.Taking.{Takable}
+use Rattle.heights.specs.Taking.{baseZ, Takable}
 use Rattle.writer.specs.Written.{layerOf}
 use Rattle.writer.specs.LayerTables.{LayerTables}
 use Rattle.layers.specs.declared.Filed.{Filed}
@@ -35,7 +35,7 @@ pub record Holds (coords : List ℤ) (corners pairing : List ℕ) (h : ℤ) (poi
 
 -- the heights taken: where they begin by default, how many they are, that they rise, and each can be had by its number
 pub record Listed (coords heights : List ℤ) (low : ℤ) (count : ℕ) : Type 0 where
-  pub low-is : low ≡ lowestZ coords
+  pub low-is : low ≡ baseZ coords heights
   pub count-is : count ≡ length (heightsTaken coords heights)
   pub few : count ≤ mostLayers
   pub rises : Rising (heightsTaken coords heights)

@@ -17,7 +17,6 @@ use active::internal::deal;
 use formats::internal::write_number;
 use formats::numbers::number_length;
 use heights::internal::taken_height;
-use mesh::internal::fill;
 use mesh::internal::wide;
 use points::internal::put_points;
 use rounds::internal::outline;
@@ -30,7 +29,7 @@ struct Level {
     contours: usize,
 }
 
-// Begins the sweep: no mark, and each corner that rises somewhere in the list of the first height at which it does; returns how many crossings all heights have.
+// Begins the sweep: each corner that rises somewhere, without a mark, in the list of the first height at which it does; returns how many crossings all heights have.
 pub fn begin(
     coords: &[i32],
     corners: &[u32],
@@ -46,8 +45,7 @@ pub fn begin(
     ensures { λ _. ⌜ Spent (length (now (corners .entry))) (now (marks .entry)) (now (marks .exit)) × Spent (length (now (corners .entry))) (now (ring .entry)) (now (ring .exit)) ⌝ }
     ensures { λ r. ⌜ CrossingTotal (now (coords .entry)) (now (corners .entry)) (heightAt low (now (heights .entry))) count r ⌝ }
 {
-    fill(marks, corners.len(), 0);
-    deal(coords, corners, low, heights, count, ring, heads)
+    deal(coords, corners, low, heights, count, ring, heads, marks)
 }
 
 // The layer of height k, put into the tables of points and ends.

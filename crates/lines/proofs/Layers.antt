@@ -13,9 +13,9 @@ use mir.Val.{toZ, ofZ}
 use Rattle.laws.specs.Machine.{same}
 use Rattle.pairing.specs.Partners.{pairingOf}
 use Rattle.cutter.specs.Cut.{section, contoursOf}
-use Rattle.heights.specs.Heights.{lowestZ, heightsTaken}
+use Rattle.heights.specs.Heights.{heightsTaken}
 use Rattle.heights.specs.HeightLaws.{ranged-words}
-use Rattle.heights.specs.Taking.{heightAt, Takable}
+use Rattle.heights.specs.Taking.{baseZ, heightAt, Takable}
 use Rattle.heights.specs.TakingLaws.{height-at, takable}
 use Rattle.decimals.specs.Texts.{HasRoom, Puts}
 use Rattle.decimals.specs.TextLaws.{put-length, put-both, Writing, writing, next-put, all-put}
@@ -95,9 +95,9 @@ module _ {names₀ : List ℕ} {points₀ : List ℤ} {ends₀ marks₀ names : 
 
 -- ---- the height at hand, as the code has it
 
-module _ {coords : List ℤ} {corners pairing : List ℕ} {heights : List ℤ} (w : Listable coords corners pairing heights) {low : ℤ} (e : low ≡ lowestZ coords) (fits : mag low < 2 ^ 31)
+module _ {coords : List ℤ} {corners pairing : List ℕ} {heights : List ℤ} (w : Listable coords corners pairing heights) {low : ℤ} (e : low ≡ baseZ coords heights) (fits : mag low < 2 ^ 31)
     (k : ℕ) (h : k < length (heightsTaken coords heights)) where
-  lowest : toZ w32 (ofZ w32 low) ≡ lowestZ coords
+  lowest : toZ w32 (ofZ w32 low) ≡ baseZ coords heights
   lowest = same w32 low fits ∙ e
 
   pub can-take : Takable (toZ w32 (ofZ w32 low)) heights k

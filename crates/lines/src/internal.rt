@@ -23,8 +23,8 @@ use cutter::internal::slice;
 use decimals::internal::write_decimal;
 use decimals::internal::write_signed;
 use decimals::internal::write_text;
+use heights::base_z;
 use heights::internal::taken_height;
-use heights::lowest_z;
 use heights::taken_count;
 use mesh::Refusal;
 
@@ -144,7 +144,7 @@ fn list_lines(
     ensures { λ r. ⌜ Puts (now (output .entry)) at (flatten (map (lineAt (now (coords .entry)) (now (corners .entry))) (heightsTaken (now (coords .entry)) (now (heights .entry))))) r (now (output .exit)) ⌝ }
 {
     let n = taken_count(coords, heights);
-    let low = lowest_z(coords);
+    let low = base_z(coords, heights);
     let mut p = at;
     let mut k: usize = 0;
     while k < n {

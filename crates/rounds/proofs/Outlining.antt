@@ -16,7 +16,7 @@ use Rattle.section.specs.Rings.{Ring}
 use Rattle.section.specs.Contours.{member, contours, namesOf as flat, traceTo, trace, endsFrom, endsOf}
 use Rattle.section.specs.OrbitLaws.{length-orbit}
 use Rattle.section.specs.LayerLaws.{names-snoc, Leads, leads-on, starting, Begun, begun-start, begun-skip, ring, contour, begun-ring, ring-room, begun-few}
-use Rattle.active.specs.Lists.{nextIn}
+use Rattle.active.specs.Lists.{nextIn, activeAt}
 use Rattle.active.specs.ListLaws.{next-upto, next-found, next-between}
 use Rattle.rounds.specs.Rounds.{roundOf, stamped, Roundable, Rounded, Outlinable, Outlined, Marked}
 use Rattle.rounds.proofs.Stamps.{length-stamped, stamped-join, stamped-other, stamped-same}
@@ -159,7 +159,7 @@ module _ (coords : List ℤ) (corners pairing : List ℕ) (h : ℤ) where
             }
           where
             old : member c (flat (w .rings)) ≡ true
-            old = is-true _ (λ m. let z = w .given .unstamped c l in omega (arith, sym (stamped-other stamp (flat (w .rings)) marks₀ c m) ∙ sym mark-here ∙ e))
+            old = is-true _ (λ m. let z = w .given .unstamped c l (w .here l) in omega (arith, sym (stamped-other stamp (flat (w .rings)) marks₀ c m) ∙ sym mark-here ∙ e))
 
             no-start : starting rises next n led (w .rings) c ≡ false
             no-start = is-false _ (λ s. clash (and-parts (rises c) (not (member c (flat (w .rings)))) s .1) (ap not old))
@@ -235,16 +235,21 @@ module _ (coords : List ℤ) (corners pairing : List ℕ) (h : ℤ) where
           subst (λ (z : ℤ). Outlined coords corners pairing z names₀ ends₀ names ends j k) e
           (record { rings = w .rings; is = trace-is; j-is = w .at-j; k-is = w .at-k; names-are = w .names-is; ends-are = w .ends-is })
 
-    pub marked-end : Marked (length corners) stamp marks₀ marks
-    marked-end =
-        record {
-          kept = record { size = marks-length; past = λ i l. ap (λ (t : List ℕ). getD t i 0) (w .marks-is) ∙ stamped-other stamp (flat (w .rings)) marks₀ i (is-false _ (λ m. omega (arith, w .begun .only i m .below))) };
-          upto = λ i l. by i l (member i (flat (w .rings))) refl;
-        }
+    pub marked-end : {h₀ : ℤ} → h ≡ h₀ → Marked (activeAt coords corners h₀) (length corners) stamp marks₀ marks
+    marked-end e =
+        subst (λ (z : ℤ). Marked (activeAt coords corners z) (length corners) stamp marks₀ marks) e
+        (record {
+          kept = record { size = marks-length; past = λ i l. same i (is-false _ (λ m. omega (arith, w .begun .only i m .below))) };
+          upto = λ i l p. by i l p (member i (flat (w .rings))) refl;
+          other = λ i p. same i (is-false _ (λ m. clash (w .begun .only i m .upward) p));
+        })
       where
-        by : (i : ℕ) → i < n → (b : Bool) → member i (flat (w .rings)) ≡ b → getD marks i 0 ≤ stamp
-        by i l true m = omega (arith, ap (λ (t : List ℕ). getD t i 0) (w .marks-is), stamped-same stamp (flat (w .rings)) marks₀ i (omega (arith, w .given .marks-room)) m)
-        by i l false m = omega (arith, ap (λ (t : List ℕ). getD t i 0) (w .marks-is), stamped-other stamp (flat (w .rings)) marks₀ i m, w .given .unstamped i l)
+        same : (i : ℕ) → member i (flat (w .rings)) ≡ false → getD marks i 0 ≡ getD marks₀ i 0
+        same i m = ap (λ (t : List ℕ). getD t i 0) (w .marks-is) ∙ stamped-other stamp (flat (w .rings)) marks₀ i m
+
+        by : (i : ℕ) → i < n → activeAt coords corners h i ≡ true → (b : Bool) → member i (flat (w .rings)) ≡ b → getD marks i 0 ≤ stamp
+        by i l p true m = omega (arith, ap (λ (t : List ℕ). getD t i 0) (w .marks-is), stamped-same stamp (flat (w .rings)) marks₀ i (omega (arith, w .given .marks-room)) m)
+        by i l p false m = omega (arith, same i m, w .given .unstamped i l p)
 
 pub outlinable-held : {coords : List ℤ} {corners pairing : List ℕ} {h h′ : ℤ} {stamp : ℕ} {ring : List ℕ} {head : ℕ} {names ends marks : List ℕ} → h′ ≡ h
     → Outlinable coords corners pairing h stamp ring head names ends marks → Outlinable coords corners pairing h′ stamp ring head names ends marks

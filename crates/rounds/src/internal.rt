@@ -2,6 +2,7 @@
 ghost use mathlib.Core.Path.{_≡_};
 ghost use lib.ListN.{length};
 ghost use Rattle.section.specs.Section.{below, successor, Crossing, Right};
+ghost use Rattle.active.specs.Lists.{activeAt};
 ghost use Rattle.rounds.specs.Rounds.{Roundable, Rounded, Outlinable, Outlined, Marked};
 use crate::Counts;
 use active::internal::is_below;
@@ -67,7 +68,7 @@ pub fn outline(
 ) -> Counts
     requires { ⌜ Outlinable (now coords) (now corners) (now pairing) h stamp (now ring) head (now names) (now ends) (now marks) ⌝ }
     ensures { λ r. ⌜ Outlined (now (coords .entry)) (now (corners .entry)) (now (pairing .entry)) h (now (names .entry)) (now (ends .entry)) (now (names .exit)) (now (ends .exit)) (r .contours) (r .names) ⌝ }
-    ensures { λ _. ⌜ Marked (length (now (corners .entry))) stamp (now (marks .entry)) (now (marks .exit)) ⌝ }
+    ensures { λ _. ⌜ Marked (activeAt (now (coords .entry)) (now (corners .entry)) h) (length (now (corners .entry))) stamp (now (marks .entry)) (now (marks .exit)) ⌝ }
 {
     let n = corners.len();
     let mut c = head;

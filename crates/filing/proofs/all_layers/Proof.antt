@@ -19,8 +19,8 @@ returns c = let a = c .before .before .before .before .before .before .before .b
 enum-told : tie.Need-enum-told
 enum-told c = search needs
 
-lowest-z-requires : tie.Need-lowest-z-requires
-lowest-z-requires c κs = search needs
+base-z-requires : tie.Need-base-z-requires
+base-z-requires c κs = search needs
 
 taken-count-requires : tie.Need-taken-count-requires
 taken-count-requires c κs = search needs
@@ -33,7 +33,7 @@ put-file-requires c κs =
       right = p .right;
       long = p .long;
       ring-long = p .ring-long;
-      listed = listed (now (a .coords)) (now (a .corners)) (now (a .pairing)) (now (a .order)) (now (a .heights)) (now (a .names)) (now (a .points)) (now (a .ends)) (now (a .marks)) (now (a .ring)) (now (a .output)) (c .before .before .before .before .before .before .before .before .before .before .layers-test .result) (c .before .before .before .before .before .before .before .before .before .before .layers-test .ensures) (c .before .before .before .before .before .before .before .before .enum-told .given .1) (held-is (c .before .before .before .before .before .before .before .lowest-z .ok) (c .before .before .before .before .before .before .before .lowest-z .ensures)) (c .before .before .before .before .before .before .taken-count .ensures);
+      listed = listed (now (a .coords)) (now (a .corners)) (now (a .pairing)) (now (a .order)) (now (a .heights)) (now (a .names)) (now (a .points)) (now (a .ends)) (now (a .marks)) (now (a .ring)) (now (a .output)) (c .before .before .before .before .before .before .before .before .before .before .layers-test .result) (c .before .before .before .before .before .before .before .before .before .before .layers-test .ensures) (c .before .before .before .before .before .before .before .before .enum-told .given .1) (held-is (c .before .before .before .before .before .before .before .base-z .ok) (c .before .before .before .before .before .before .before .base-z .ensures)) (c .before .before .before .before .before .before .taken-count .ensures);
     }
 
 clear-work-requires : tie.Need-clear-work-requires
@@ -74,7 +74,7 @@ all-layers-spec =
     enum-known-v
     returns
     enum-told
-    lowest-z-requires
+    base-z-requires
     taken-count-requires
     put-file-requires
     clear-work-requires

@@ -18,14 +18,14 @@ abbrev μ-loop : tie.MeasureT-loop
 taken-count-requires : tie.Need-taken-count-requires Inv-loop μ-loop
 taken-count-requires c κs = search needs
 
-lowest-z-requires : tie.Need-lowest-z-requires Inv-loop μ-loop
-lowest-z-requires c κs = search needs
+base-z-requires : tie.Need-base-z-requires Inv-loop μ-loop
+base-z-requires c κs = search needs
 
 loop-holds : tie.Need-loop-holds Inv-loop μ-loop
 loop-holds c = (going-start (c .before .before .before .before .before .before .before .before .pre .1 .1), kept)
 
 taken-height-requires : tie.Need-taken-height-requires Inv-loop μ-loop
-taken-height-requires c κs = can-take (c .before .before .before .before .before .before .before .before .before .before .pre .0) (c .before .before .lowest-z .ensures) (c .before .before .lowest-z .ok) (c .before .loop .k) (omega (arith, c .loop-test .taken, c .before .before .before .taken-count .ensures))
+taken-height-requires c κs = can-take (c .before .before .before .before .before .before .before .before .before .before .pre .0) (c .before .before .base-z .ensures) (c .before .before .base-z .ok) (c .before .loop .k) (omega (arith, c .loop-test .taken, c .before .before .before .taken-count .ensures))
 
 list-layer-requires : tie.Need-list-layer-requires Inv-loop μ-loop
 list-layer-requires c κs = (c .before .before .before .before .before .before .before .before .before .before .before .before .before .before .before .before .pre .0 .right, (still-workable (c .before .before .before .before .before .before .before .loop .inv .1) (c .before .before .before .before .before .before .before .before .before .before .before .before .before .before .before .before .pre .1 .0), line-room (c .before .before .before .before .before .before .before .loop .inv .0) (omega (arith, c .before .before .before .before .before .before .loop-test .taken, c .before .before .before .before .before .before .before .before .before .taken-count .ensures)) (c .before .before .before .before .before .before .before .before .before .before .before .before .before .before .before .before .pre .0 .few) (c .before .before .before .before .before .before .before .before .before .before .before .before .before .before .before .before .pre .1 .1)))
@@ -37,7 +37,7 @@ loop-less : tie.Need-loop-less Inv-loop μ-loop
 loop-less c = omega arith
 
 loop-again : tie.Need-loop-again Inv-loop μ-loop
-loop-again c = (going-next (c .before .before .before .before .before .before .before .before .before .before .before .before .before .before .before .before .before .loop .inv .0) (omega (arith, c .before .before .before .before .before .before .before .before .before .before .before .before .before .before .before .before .loop-test .taken, c .before .before .before .before .before .before .before .before .before .before .before .before .before .before .before .before .before .before .before .taken-count .ensures)) (c .before .before .before .before .before .before .before .before .before .before .before .before .before .before .before .before .before .before .before .before .before .before .before .before .before .before .pre .0 .paired) (height-is (c .before .before .before .before .before .before .before .before .before .before .before .before .before .before .before .before .before .before .before .before .before .before .before .before .before .before .pre .0) (c .before .before .before .before .before .before .before .before .before .before .before .before .before .before .before .before .before .before .lowest-z .ensures) (c .before .before .before .before .before .before .before .before .before .before .before .before .before .before .before .before .before .before .lowest-z .ok) (c .before .before .before .before .before .before .before .before .before .before .before .before .before .before .before .before .before .loop .k) (omega (arith, c .before .before .before .before .before .before .before .before .before .before .before .before .before .before .before .before .loop-test .taken, c .before .before .before .before .before .before .before .before .before .before .before .before .before .before .before .before .before .before .before .taken-count .ensures)) (c .before .before .before .before .before .before .before .before .before .before .before .before .before .before .before .taken-height .ensures) (c .before .before .before .before .before .before .before .before .before .before .before .before .before .before .before .taken-height .ok)) (c .before .before .before .before .before .before .before .before .before .list-layer .ensures), kept-next (c .before .before .before .before .before .before .before .before .before .before .before .before .before .before .before .before .before .loop .inv .1) (c .before .before .before .before .before .before .before .before .before .list-layer .kept .1 .1 .1 .1 .0) (c .before .before .before .before .before .before .before .before .before .list-layer .kept .1 .1 .1 .1 .1 .0) (c .before .before .before .before .before .before .before .before .before .list-layer .kept .1 .1 .1 .1 .1 .1 .0) (c .before .before .before .before .before .before .before .before .before .list-layer .kept .1 .1 .1 .1 .1 .1 .1 .0))
+loop-again c = (going-next (c .before .before .before .before .before .before .before .before .before .before .before .before .before .before .before .before .before .loop .inv .0) (omega (arith, c .before .before .before .before .before .before .before .before .before .before .before .before .before .before .before .before .loop-test .taken, c .before .before .before .before .before .before .before .before .before .before .before .before .before .before .before .before .before .before .before .taken-count .ensures)) (c .before .before .before .before .before .before .before .before .before .before .before .before .before .before .before .before .before .before .before .before .before .before .before .before .before .before .pre .0 .paired) (height-is (c .before .before .before .before .before .before .before .before .before .before .before .before .before .before .before .before .before .before .before .before .before .before .before .before .before .before .pre .0) (c .before .before .before .before .before .before .before .before .before .before .before .before .before .before .before .before .before .before .base-z .ensures) (c .before .before .before .before .before .before .before .before .before .before .before .before .before .before .before .before .before .before .base-z .ok) (c .before .before .before .before .before .before .before .before .before .before .before .before .before .before .before .before .before .loop .k) (omega (arith, c .before .before .before .before .before .before .before .before .before .before .before .before .before .before .before .before .loop-test .taken, c .before .before .before .before .before .before .before .before .before .before .before .before .before .before .before .before .before .before .before .taken-count .ensures)) (c .before .before .before .before .before .before .before .before .before .before .before .before .before .before .before .taken-height .ensures) (c .before .before .before .before .before .before .before .before .before .before .before .before .before .before .before .taken-height .ok)) (c .before .before .before .before .before .before .before .before .before .list-layer .ensures), kept-next (c .before .before .before .before .before .before .before .before .before .before .before .before .before .before .before .before .before .loop .inv .1) (c .before .before .before .before .before .before .before .before .before .list-layer .kept .1 .1 .1 .1 .0) (c .before .before .before .before .before .before .before .before .before .list-layer .kept .1 .1 .1 .1 .1 .0) (c .before .before .before .before .before .before .before .before .before .list-layer .kept .1 .1 .1 .1 .1 .1 .0) (c .before .before .before .before .before .before .before .before .before .list-layer .kept .1 .1 .1 .1 .1 .1 .1 .0))
 
 same-length : tie.Need-same-length Inv-loop μ-loop
 same-length c = c .before .loop .inv .1 .names-kept
@@ -64,7 +64,7 @@ list-lines-spec =
     Inv-loop
     μ-loop
     taken-count-requires
-    lowest-z-requires
+    base-z-requires
     loop-holds
     taken-height-requires
     list-layer-requires

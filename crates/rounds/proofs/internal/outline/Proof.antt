@@ -70,7 +70,7 @@ same-length-3 : tie.Need-same-length-3 Inv-loop μ-loop
 same-length-3 c = marks-length _ _ _ _ _ _ _ _ _ _ _ _ _ _ _ _ (c .before .loop .inv)
 
 returns : tie.Need-returns Inv-loop μ-loop
-returns c = let s = c .before .before .before .before .before .before .before .before in (outlined-end _ _ _ _ _ _ _ _ _ _ _ _ _ _ _ _ (c .before .loop .inv) (c .loop-test .left) (toZ-ofZ w32 (s .args .h) (s .fits .h)), marked-end _ _ _ _ _ _ _ _ _ _ _ _ _ _ _ _ (c .before .loop .inv))
+returns c = let s = c .before .before .before .before .before .before .before .before in (outlined-end _ _ _ _ _ _ _ _ _ _ _ _ _ _ _ _ (c .before .loop .inv) (c .loop-test .left) (toZ-ofZ w32 (s .args .h) (s .fits .h)), marked-end _ _ _ _ _ _ _ _ _ _ _ _ _ _ _ _ (c .before .loop .inv) (toZ-ofZ w32 (s .args .h) (s .fits .h)))
 
 pub outline-spec : {M : Type 1} → statement M
 outline-spec =
