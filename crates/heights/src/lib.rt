@@ -62,7 +62,7 @@ pub fn z_span(coords: &[i32]) -> Span
     Span { low, high }
 }
 
-// The z above which the default heights lie; where heights are given, none of it is needed, and no vertex is looked at.
+// The z above which the default heights lie. Heights that are given need none: it is 0 then, and no vertex is looked at.
 pub fn base_z(coords: &[i32], heights: &[i32]) -> i32
     ensures { λ r. ⌜ r ≡ baseZ (now (coords .entry)) (now (heights .entry)) ⌝ }
 {
