@@ -1,5 +1,6 @@
 -- Lemmas that belong to no one function.
 pub mod Merging
-pub mod Going
+pub mod Advance
+pub mod Searches
 pub mod Dealing
 pub mod Skipping

@@ -7,3 +7,4 @@ pub mod Levels
 pub mod LevelLaws
 pub mod Totals
 pub mod TotalLaws
+pub mod Deals

@@ -21,7 +21,7 @@ use Rattle.section.specs.RingLaws.{pigeonhole}
 use Rattle.active.specs.Lists.{CornerSet, activeAt}
 use Rattle.active.specs.Levels.{FirstAbove, LevelOf}
 use Rattle.active.specs.LevelLaws.{lt-yes, lt-no, above-later, level-none, level-high, level-here}
-use Rattle.active.specs.Totals.{sumTo, Rises, RiseTotal, CrossingTotal}
+use Rattle.active.specs.Totals.{sumTo, EdgeRises, RiseTotal, CrossingTotal}
 
 -- ---- sums
 
@@ -53,7 +53,10 @@ sum-across m (suc n) p =
 rank-less : (p : CornerSet) (x y : ℕ) → x < y → p x ≡ true → tally x p < tally y p
 unfolding tally
 rank-less p x zero l e = absurd (omega arith)
-rank-less p x (suc y) l e = ⊎-elim (λ h. by (p y) (rank-less p x y h e)) (λ h. let q : x ≡ y = omega arith in last (p y) (ap p (sym q) ∙ e) (ap (λ (k : ℕ). tally k p) q)) (split-lt x y)
+rank-less p x (suc y) l e = ⊎-elim
+    (λ h. by (p y) (rank-less p x y h e))
+    (λ h. let q : x ≡ y = omega arith in last (p y) (ap p (sym q) ∙ e) (ap (λ (k : ℕ). tally k p) q))
+    (split-lt x y)
   where
     by : (b : Bool) → tally x p < tally y p → tally x p < cond b 1 0 + tally y p
     by true h = omega arith
@@ -63,7 +66,8 @@ rank-less p x (suc y) l e = ⊎-elim (λ h. by (p y) (rank-less p x y h e)) (λ 
     last true q h = omega arith
     last false q h = absurd (clash q refl)
 
-pub distinct-tally : (p : CornerSet) (n : ℕ) (l : List ℕ) → Distinct l → ((i : ℕ) → i < length l → (getD l i 0 < n) × (p (getD l i 0) ≡ true)) → length l ≤ tally n p
+pub distinct-tally : (p : CornerSet) (n : ℕ) (l : List ℕ) → Distinct l → ((i : ℕ) → i < length l → (getD l i 0 < n) × (p (getD l i 0) ≡ true))
+    → length l ≤ tally n p
 distinct-tally p n l once all = ⊎-elim (λ h. absurd (more h)) (λ h. h) (split-lt (tally n p) (length l))
   where
     more : tally n p < length l → ⊥
@@ -93,23 +97,26 @@ tally-range (suc m) a b t h = by (t m) (h m (omega arith)) (tally-range m a b t 
 
 module _ (hs : ℕ → ℤ) (count : ℕ) (few : count ≤ mostLayers) (rises : (i j : ℕ) → i < j → j < count → hs i <ℤ hs j) (z y : ℤ) where
   -- an edge that is at no height both below it at its start and not at its end
-  rises-never : ((k : ℕ) → k < count → ltZ z (hs k) ≡ true → ltZ y (hs k) ≡ false → ⊥) → Rises hs count z y count 0
+  rises-never : ((k : ℕ) → k < count → ltZ z (hs k) ≡ true → ltZ y (hs k) ≡ false → ⊥) → EdgeRises hs count z y count 0
   rises-never none =
       record {
         begins = record { upto = omega arith; there = λ h. absurd (omega arith); only = λ j l m. absurd (none j l (m .start-below) (m .end-not)) };
-        most = omega (arith, tally-range count 0 0 (λ k. ltZ z (hs k) && not (ltZ y (hs k))) (λ k l t. let p = and-parts (ltZ z (hs k)) (not (ltZ y (hs k))) t in absurd (none k l (p .0) (not-true _ (p .1)))));
+        most = omega (arith, tally-range count 0 0 (λ k. ltZ z (hs k) && not (ltZ y (hs k))) nowhere);
         few = omega arith;
       }
+    where
+      nowhere : (k : ℕ) → k < count → (ltZ z (hs k) && not (ltZ y (hs k))) ≡ true → (0 ≤ k) × (k < 0)
+      nowhere k l t = let p = and-parts (ltZ z (hs k)) (not (ltZ y (hs k))) t in absurd (none k l (p .0) (not-true _ (p .1)))
 
-  pub rises-flat : ltZ z y ≡ false → Rises hs count z y count 0
+  pub rises-flat : ltZ z y ≡ false → EdgeRises hs count z y count 0
   rises-flat e = rises-never (λ k l a b. omega (arith, le-in (lt-no z y e), lt-in (lt-yes z (hs k) a), le-in (lt-no y (hs k) b)))
 
   -- it ends below the first height
-  pub rises-below : ltZ y (hs 0) ≡ true → Rises hs count z y count 0
+  pub rises-below : ltZ y (hs 0) ≡ true → EdgeRises hs count z y count 0
   rises-below e = rises-never (λ k l a b. clash e (above-later hs count rises y 0 k (omega arith) l b))
 
   -- it starts at the last one or above it
-  pub rises-above : ltZ z (hs (count - 1)) ≡ false → Rises hs count z y count 0
+  pub rises-above : ltZ z (hs (count - 1)) ≡ false → EdgeRises hs count z y count 0
   rises-above e = rises-never (λ k l a b. clash a (above-later hs count rises z k (count - 1) (omega arith) (omega arith) e))
 
   module _ {a b : ℕ} (f : FirstAbove hs count 0 z a) (g : FirstAbove hs count a y b) where
@@ -123,13 +130,15 @@ module _ (hs : ℕ → ℤ) (count : ℕ) (few : count ≤ mostLayers) (rises : 
     counted : tally count (λ k. ltZ z (hs k) && not (ltZ y (hs k))) ≤ b - a
     counted = omega (arith, tally-range count a b (λ k. ltZ z (hs k) && not (ltZ y (hs k))) between, g .upto)
 
-    pub rises-none : b ≤ a → Rises hs count z y count 0
+    pub rises-none : b ≤ a → EdgeRises hs count z y count 0
     rises-none h = record { begins = ⊎-elim high (level-none hs count rises z y a f) (split-lt a count); most = omega (arith, counted); few = omega arith }
       where
         high : a < count → LevelOf hs count z y count
-        high l = let q : b ≡ a = omega (arith, g .from) in level-high hs count rises z y a f l (subst (λ (k : ℕ). ltZ y (hs k) ≡ true) q (g .there (omega arith)))
+        high l =
+            let q : b ≡ a = omega (arith, g .from) in
+            level-high hs count rises z y a f l (subst (λ (k : ℕ). ltZ y (hs k) ≡ true) q (g .there (omega arith)))
 
-    pub rises-here : a < b → Word z → Rises hs count z y a (b - a)
+    pub rises-here : a < b → Word z → EdgeRises hs count z y a (b - a)
     rises-here h w =
         record {
           begins = level-here hs count rises z y a f (omega (arith, g .upto)) w (g .before a (omega arith) h);
@@ -143,12 +152,13 @@ module _ (coords : List ℤ) (corners : List ℕ) (hs : ℕ → ℤ) (count : �
   pub total-start : RiseTotal coords corners hs count (length corners) 0
   total-start = record { most = omega arith; few = omega arith }
 
-  pub total-more : {c total level r : ℕ} → RiseTotal coords corners hs count (suc c) total → Rises hs count (zOf coords (startOf corners c)) (zOf coords (endOf corners c)) level r
-      → RiseTotal coords corners hs count c (total + r)
+  pub total-more : {c total level r : ℕ} → RiseTotal coords corners hs count (suc c) total
+      → EdgeRises hs count (zOf coords (startOf corners c)) (zOf coords (endOf corners c)) level r → RiseTotal coords corners hs count c (total + r)
   unfolding sumTo rising below
   total-more t e = record { most = omega (arith, t .most, e .most); few = omega (arith, t .few, e .few) }
 
   -- all heights have no more crossings than that
   pub total-end : {total : ℕ} → length corners ≤ 196608 → RiseTotal coords corners hs count 0 total → CrossingTotal coords corners hs count total
   unfolding sumTo
-  total-end few t = record { most = omega (arith, t .most, sum-across count (length corners) (λ k. activeAt coords corners (hs k))); few = omega (arith, t .few) }
+  total-end few t =
+      record { most = omega (arith, t .most, sum-across count (length corners) (λ k. activeAt coords corners (hs k))); few = omega (arith, t .few) }

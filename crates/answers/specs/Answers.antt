@@ -1,22 +1,24 @@
--- What every function of the C interface returns, and what it leaves in `out`.
+-- What every function of the C interface returns, and what it leaves in `out`: by what its operation answers.
 use Prim.Native.Nat.{ℕ, _-_}
+use mathlib.Core.Path.{_≡_}
 use mathlib.Core.List.{List}
 use lib.ListN.{set}
 use lib.Seq.{sets}
 use lib.IntN.{ℤ, pos, negsuc}
-use Rattle.mesh.specs.Refusals.{numberOf, placeOf}
-use Rattle.mesh.specs.declared.Verdict.{Verdict}
-use Rattle.mesh.specs.declared.Verdict.the-variants.{Fine, Refused}
+use Rattle.mesh.specs.Operation.{Answer, gives, refuses, Operation, answerOf, leftBy}
+use Rattle.mesh.specs.Refusals.{Told, numberIn}
 
--- 0, or the refusal's number
-unfoldable pub returned : Verdict → ℕ
-returned Fine = 0
-returned (Refused r) = numberOf r
+-- the place on refusal, on success the values as words; the other numbers stay
+unfoldable pub outAfter : {G : Type 0} → (G → List ℕ) → Answer Told G → List ℕ → List ℕ
+outAfter words (gives g) out = sets out 0 (words g)
+outAfter words (refuses r) out = set out 0 (r .place)
 
--- the place on refusal, on success the values; the other numbers stay
-unfoldable pub outAfter : Verdict → List ℕ → List ℕ → List ℕ
-outAfter Fine values out = sets out 0 values
-outAfter (Refused r) values out = set out 0 (placeOf r)
+-- a call through the C interface: 0 or the refusal's number, `out` with the values as words, and the tables that the operation leaves
+pub record Exports {I G T : Type 0} (op : I → Operation Told G T) (words : G → List ℕ) (input : I) (out : List ℕ)
+    (returned : ℕ) (tables : T) (out′ : List ℕ) : Type 0 where
+  pub returns : returned ≡ numberIn (answerOf (op input))
+  pub writes : out′ ≡ outAfter words (answerOf (op input)) out
+  pub leaves : tables ≡ leftBy (op input)
 
 -- a signed value in two's complement, of 64 bits
 unfoldable pub wordOf : ℤ → ℕ

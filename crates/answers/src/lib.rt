@@ -55,7 +55,7 @@ pub fn place(r: Refusal) -> usize
 
 // Puts a refusal's place into `out`, and returns its number.
 pub fn refuse(r: Refusal, out: &mut [u64; 4]) -> u32
-    ensures { λ n. ⌜ (n ≡ numberOf r) × (now (out .exit) ≡ set (now (out .entry)) 0 (placeOf r)) ⌝ }
+    ensures { λ n. ⌜ (n ≡ numberOf r) × (out .exit .now ≡ set (out .entry .now) 0 (placeOf r)) ⌝ }
 {
     out[0] = place(r) as u64;
     number(r)

@@ -1,64 +1,59 @@
 -- Check of document 01: its refusals in order, what it answers, and what it leaves in the two lent tables.
 use Prim.Native.Nat.{ℕ}
-use mathlib.Core.Path.{_≡_}
-use mathlib.Core.Bool.{Bool, not, cond, _&&_, _||_}
-use mathlib.Core.List.{List, [], _∷_}
-use lib.Dec.{leb, eqb}
-use lib.ListN.{length, replicate}
-use lib.IntN.{ℤ}
-use Rattle.laws.specs.Tables.{overwrite}
+use mathlib.Core.Bool.{Bool, not, _&&_}
+use mathlib.Core.List.{List, [], _∷_, _++_}
+use lib.Dec.{leb}
+use lib.ListN.{length}
 use Rattle.mesh.specs.Corners.{vertexCount}
+use Rattle.mesh.specs.Meshes.{Mesh}
+use Rattle.mesh.specs.Operation.{Answer, gives, refuses, Condition, whole, after, Operation, Does}
 use Rattle.mesh.specs.Order.{orderOf}
-use Rattle.mesh.specs.Refusals.{Condition, whole, verdict, numberOf}
-use Rattle.mesh.specs.Tests.{size, range, vertex, triangle}
-use Rattle.mesh.specs.declared.Refusal.{Refusal}
-use Rattle.mesh.specs.declared.Refusal.the-variants.{Room}
-use Rattle.mesh.specs.declared.Verdict.{Verdict}
-use Rattle.mesh.specs.declared.Verdict.the-variants.{Fine, Refused}
+use Rattle.mesh.specs.Refusals.{Told, refusal, numbered, toldOf}
+use Rattle.mesh.specs.Tests.{size, meshTests}
 use Rattle.pairing.specs.Partners.{doubledEdge, openEdge, pairingOf}
 use Rattle.checker.specs.declared.Checked.{Checked}
 use Rattle.checker.specs.declared.Checked.the-variants.{Accepted, Refused as Turned}
+
+-- the two lent tables
+pub record CheckTables : Type 0 where
+  pub pairing : List ℕ
+  pub order : List ℕ
+
+abbrev pub checkTables : List ℕ → List ℕ → CheckTables
+checkTables pairing order = record { pairing = pairing; order = order }
 
 -- ---- 9: a table to be written has fewer entries than corners (pairing) or vertices (order)
 
 unfoldable pub roomFor : ℕ → ℕ → ℕ → ℕ → Bool
 roomFor corners vertices pairing order = leb corners pairing && leb vertices order
 
-abbrev pub room : ℕ → ℕ → ℕ → ℕ → Condition
-room corners vertices pairing order = whole Room (not (roomFor corners vertices pairing order))
+abbrev pub room : ℕ → ℕ → ℕ → ℕ → Condition Told
+room corners vertices pairing order = whole (refusal 9) (not (roomFor corners vertices pairing order))
 
--- ---- the refusals in order
+-- ---- Check as a whole
 
-abbrev pub refusals : List ℤ → List ℕ → List ℕ → List ℕ → List Condition
-refusals coords corners pairing order =
-    size coords corners
-    ∷ room (length corners) (vertexCount coords) (length pairing) (length order)
-    ∷ range coords
-    ∷ vertex (vertexCount coords) corners
-    ∷ triangle corners
-    ∷ doubledEdge corners
-    ∷ openEdge corners
-    ∷ []
+-- 1, 9, 2, 3 and 4, for lent tables of these lengths
+abbrev pub tests : Mesh → ℕ → ℕ → List (Condition Told)
+tests m pairing order = size m ∷ room (length (m .corners)) (vertexCount (m .coords)) pairing order ∷ meshTests m
 
--- ---- what is written
+-- 5 and 6
+abbrev pub edgeTests : List ℕ → List (Condition Told)
+edgeTests corners = doubledEdge corners ∷ openEdge corners ∷ []
 
--- 5 and 6 leave zeros
-abbrev pub cleared : Refusal → Bool
-cleared r = eqb (numberOf r) 5 || eqb (numberOf r) 6
+-- it gives no value; the tables hold pairing and order, or zeros after 5 and 6
+abbrev pub checking : Mesh × CheckTables → Operation Told Unit CheckTables
+checking = λ (m, t). record {
+  refusals = tests m (length (t .pairing)) (length (t .order)) ++ edgeTests (m .corners);
+  values = tt;
+  leaves = λ f. checkTables
+      (after (numbered (5 ∷ 6 ∷ [])) f (pairingOf (m .corners)) (length (m .corners)) 0 (t .pairing))
+      (after (numbered (5 ∷ 6 ∷ [])) f (orderOf (m .coords)) (vertexCount (m .coords)) 0 (t .order));
+}
 
--- a lent table after the call: its first entries filled, or zero after 5 and 6, or all as before
-unfoldable pub after : Verdict → List ℕ → List ℕ → List ℕ
-after Fine filled table = overwrite filled table
-after (Refused r) filled table = cond (cleared r) (overwrite (replicate (length filled) 0) table) table
+-- what its answer says
+abbrev pub tellCheck : Checked → Answer Told Unit
+tellCheck Accepted = gives tt
+tellCheck (Turned r) = refuses (toldOf r)
 
--- ---- the answer
-
-unfoldable pub answer : Verdict → Checked
-answer Fine = Accepted
-answer (Refused r) = Turned r
-
--- Check as a whole: its answer and both tables at exit
-pub record Checks (coords : List ℤ) (corners pairing order : List ℕ) (result : Checked) (pairing′ order′ : List ℕ) : Type 0 where
-  pub answers : result ≡ answer (verdict (refusals coords corners pairing order))
-  pub pairs : pairing′ ≡ after (verdict (refusals coords corners pairing order)) (pairingOf corners) pairing
-  pub orders : order′ ≡ after (verdict (refusals coords corners pairing order)) (orderOf coords) order
+abbrev pub Checks : Mesh → CheckTables → Checked → CheckTables → Type 0
+Checks m t result t′ = Does checking tellCheck (m, t) result t′

@@ -7,11 +7,11 @@ use lib.IntN.{ℤ, pos}
 use Rattle.laws.specs.Least.{least, some}
 use Rattle.laws.specs.Tables.{tabulate, overwrite}
 use Rattle.mesh.specs.Order.{before, place, orderUpTo, orderOf}
-use Rattle.mesh.specs.Refusals.{test, _then_, verdict}
+use Rattle.mesh.specs.Meshes.{mesh}
+use Rattle.mesh.specs.Operation.{gives, refuses, test, _then_, verdict, answerOf}
+use Rattle.mesh.specs.Refusals.{refusal}
 use Rattle.mesh.specs.Tests.{sizesFit, outOfRange, namesNone, namesTwice, reverse}
-use Rattle.mesh.specs.declared.Refusal.the-variants.{Open}
-use Rattle.mesh.specs.declared.Verdict.the-variants.{Fine, Refused}
-use Rattle.checker.specs.Check.{roomFor, refusals, after}
+use Rattle.checker.specs.Check.{checkTables, roomFor, checking}
 use Rattle.pairing.specs.Partners.{twin, doubledAt, openAt, partnerOf, pairingOf}
 
 -- part P
@@ -24,7 +24,7 @@ corners = 0 ∷ 2 ∷ 1 ∷ 0 ∷ 1 ∷ 3 ∷ 0 ∷ 3 ∷ 2 ∷ 1 ∷ 2 ∷ 3 �
 abbrev zeros : List ℕ
 zeros = 0 ∷ 0 ∷ 0 ∷ 0 ∷ 0 ∷ 0 ∷ 0 ∷ 0 ∷ 0 ∷ 0 ∷ 0 ∷ 0 ∷ []
 
-accepted : verdict (refusals coords corners zeros zeros) ≡ Fine
+accepted : answerOf (checking (mesh coords corners, checkTables zeros zeros)) ≡ gives tt
 unfolding verdict _then_ test some least sizesFit roomFor outOfRange namesNone namesTwice twin doubledAt openAt reverse
 accepted = refl
 
@@ -37,6 +37,6 @@ unfolding orderOf orderUpTo place before
 order = refl
 
 -- P without triangle 3: refusal 6, place 1
-opened : verdict (refusals coords (0 ∷ 2 ∷ 1 ∷ 0 ∷ 1 ∷ 3 ∷ 0 ∷ 3 ∷ 2 ∷ []) zeros zeros) ≡ Refused (Open 1)
+opened : answerOf (checking (mesh coords (0 ∷ 2 ∷ 1 ∷ 0 ∷ 1 ∷ 3 ∷ 0 ∷ 3 ∷ 2 ∷ []), checkTables zeros zeros)) ≡ refuses (refusal 6 1)
 unfolding verdict _then_ test some least sizesFit roomFor outOfRange namesNone namesTwice twin doubledAt openAt reverse
 opened = refl

@@ -1,11 +1,9 @@
 // Check: whether a mesh is closed, with its pairing and its order.
 ghost use mathlib.Core.Path.{_≡_};
-ghost use mathlib.Core.List.{_∷_};
-ghost use lib.ListN.{length};
-ghost use Rattle.mesh.specs.Corners.{vertexCount};
-ghost use Rattle.mesh.specs.Refusals.{test, verdict};
-ghost use Rattle.mesh.specs.Tests.{size, mesh};
-ghost use Rattle.checker.specs.Check.{roomFor, room, Checks};
+ghost use Rattle.mesh.specs.Meshes.{mesh};
+ghost use Rattle.mesh.specs.Operation.{test, verdict};
+ghost use Rattle.mesh.specs.Refusals.{tellVerdict};
+ghost use Rattle.checker.specs.Check.{checkTables, roomFor, room, tests, Checks};
 use mesh::Refusal;
 use mesh::Verdict;
 use mesh::internal::fill;
@@ -32,7 +30,7 @@ fn room_for(corners: usize, vertices: usize, pairing: usize, order: usize) -> bo
 
 // Refusal 9.
 fn room_test(corners: usize, vertices: usize, pairing: usize, order: usize) -> Verdict
-    ensures { λ r. ⌜ r ≡ test (room corners vertices pairing order) ⌝ }
+    ensures { λ r. ⌜ tellVerdict r ≡ test (room corners vertices pairing order) ⌝ }
 {
     if room_for(corners, vertices, pairing, order) {
         return Verdict::Fine;
@@ -42,7 +40,7 @@ fn room_test(corners: usize, vertices: usize, pairing: usize, order: usize) -> V
 
 // Refusals 1, 9, 2, 3 and 4, for lent tables of these lengths.
 fn table_test(coords: &[i32], corners: &[u32], pairing: usize, order: usize) -> Verdict
-    ensures { λ r. ⌜ r ≡ verdict (size (now (coords .entry)) (now (corners .entry)) ∷ room (length (now (corners .entry))) (vertexCount (now (coords .entry))) pairing order ∷ mesh (now (coords .entry)) (now (corners .entry))) ⌝ }
+    ensures { λ r. ⌜ tellVerdict r ≡ verdict (tests (mesh (coords .entry .now) (corners .entry .now)) pairing order) ⌝ }
 {
     let a = size_test(coords, corners);
     if let Verdict::Refused(_) = a {
@@ -57,7 +55,8 @@ fn table_test(coords: &[i32], corners: &[u32], pairing: usize, order: usize) -> 
 
 // Tests a mesh, and writes its pairing and its order into the first entries of the lent tables.
 pub fn check(coords: &[i32], corners: &[u32], pairing: &mut [u32], order: &mut [u32]) -> Checked
-    ensures { λ r. ⌜ Checks (now (coords .entry)) (now (corners .entry)) (now (pairing .entry)) (now (order .entry)) r (now (pairing .exit)) (now (order .exit)) ⌝ }
+    ensures { λ r. ⌜ Checks (mesh (coords .entry .now) (corners .entry .now)) (checkTables (pairing .entry .now) (order .entry .now)) r
+        (checkTables (pairing .exit .now) (order .exit .now)) ⌝ }
 {
     let a = table_test(coords, corners, pairing.len(), order.len());
     if let Verdict::Refused(r) = a {

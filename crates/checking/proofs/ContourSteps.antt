@@ -19,7 +19,8 @@ use Rattle.checking.specs.declared.Contours.{Contours}
 use Rattle.checking.specs.declared.Contours.the-variants.{End, Refused}
 use Rattle.checking.specs.declared.Counts.the-variants.{End as CountsEnd, Refused as CountsRefused}
 use Rattle.checking.specs.Answers.{contourAt, contoursAt, countsAt}
-use Rattle.checking.specs.AnswerLaws.{told-parsed, told-refused, told-bad, contour-read, contour-off, contours-read, contours-off, room-left, contours-by-count}
+use Rattle.checking.specs.AnswerLaws.{told-parsed, told-refused, told-bad, contour-read, contour-off, contours-read, contours-off, room-left}
+use Rattle.checking.specs.AnswerLaws.{contours-by-count}
 use Rattle.checking.proofs.Runs.{Running, run-off, run-next}
 
 -- ---- a contour, by its count and its points
@@ -28,25 +29,26 @@ module _ (room : ℕ) (file : List ℕ) (at : ℕ) (h : at ≤ length file) wher
   pub no-count : numberAt room file at ≡ NoNumber → Refused at ≡ contourAt room file at
   no-count e = told-bad (λ c next. End next (roomAfter room c)) Refused (contour room) file at h (contour-bad room (drop at file) (not-took room file at e))
 
-  module _ (n next : ℕ) (e : numberAt room file at ≡ Value n next) where
+  module _ {n next : ℕ} (e : numberAt room file at ≡ Value n next) where
     pub few-points : n < fewestPoints → Refused at ≡ contourAt room file at
     few-points k =
         told-bad (λ c next. End next (roomAfter room c)) Refused (contour room) file at h
-        (contour-few room (drop at file) n (drop next file) (took room file at n next e .parses) (lt-leb fewestPoints n k))
+        (contour-few room (drop at file) n (drop next file) (took e .parses) (lt-leb fewestPoints n k))
 
     module _ (k : fewestPoints ≤ n) where
       by-points : (contour room) .parse (drop at file) ≡ (sequence point latest n origin) .parse (drop next file)
-      by-points = contour-points room (drop at file) n (drop next file) (took room file at n next e .parses) (le-leb fewestPoints n k)
+      by-points = contour-points room (drop at file) n (drop next file) (took e .parses) (le-leb fewestPoints n k)
 
-      pub points-pass : (i : ℕ) → extentAt (sequence point latest n origin) file next ≡ ExtentEnd i → End i (room - n) ≡ contourAt room file at
-      points-pass i f =
-          let q = passed (sequence point latest n origin) file next i (sequence-tails point latest point-tails n origin) (took room file at n next e .inside) f in
+      pub points-pass : {i : ℕ} → extentAt (sequence point latest n origin) file next ≡ ExtentEnd i → End i (room - n) ≡ contourAt room file at
+      points-pass {i} f =
+          let q = passed (sequence point latest n origin) file next i (sequence-tails point latest point-tails n origin) (took e .inside) f in
           let m : length (q .0) ≡ n = parsed-length point latest n origin (drop next file) (q .0) (drop i file) (q .1 .parses) in
           ap (λ (k : ℕ). End i (room - k)) (sym m)
-          ∙ told-parsed (λ c next. End next (roomAfter room c)) Refused (contour room) file at (q .0) i (record { inside = q .1 .inside; parses = by-points ∙ q .1 .parses })
+          ∙ told-parsed (λ c next. End next (roomAfter room c)) Refused (contour room) file at (q .0) i
+          (record { inside = q .1 .inside; parses = by-points ∙ q .1 .parses })
 
-      pub points-stop : (i : ℕ) → extentAt (sequence point latest n origin) file next ≡ ExtentRefused i → Refused i ≡ contourAt room file at
-      points-stop i f =
+      pub points-stop : {i : ℕ} → extentAt (sequence point latest n origin) file next ≡ ExtentRefused i → Refused i ≡ contourAt room file at
+      points-stop {i} f =
           let q = stopped (sequence point latest n origin) file next i f in
           ap Refused (q .2) ∙ told-refused (λ c next. End next (roomAfter room c)) Refused (contour room) file at (q .0) (by-points ∙ q .1)
 
@@ -56,13 +58,14 @@ abbrev pub Rows : List ℕ → Contours → ℕ → ℕ → ℕ → Type 0
 Rows file total room i left = Running contour roomAfter (λ room next. End next room) Refused file total room i left
 
 module _ {file : List ℕ} {total : Contours} {room i left : ℕ} (w : Rows file total room i left) (h : 0 < left) where
-  pub contour-stops : (e : ℕ) → contourAt room file i ≡ Refused e → Refused e ≡ total
-  contour-stops e f = run-off contour roomAfter (λ room next. End next room) Refused file left w h e (contour-off file i room e f)
+  pub contour-stops : {e : ℕ} → contourAt room file i ≡ Refused e → Refused e ≡ total
+  contour-stops {e} f = run-off contour roomAfter (λ room next. End next room) Refused file left w h e (contour-off file i room e f)
 
-  pub contour-passes : (next r : ℕ) → contourAt room file i ≡ End next r → Rows file total r next (left - 1)
-  contour-passes next r f =
+  pub contour-passes : {next r : ℕ} → contourAt room file i ≡ End next r → Rows file total r next (left - 1)
+  contour-passes {next} {r} f =
       let q = contour-read file i room (w .inside) next r f in
-      subst (λ (s : ℕ). Rows file total s next (left - 1)) (q .2) (run-next contour roomAfter (λ room next. End next room) Refused file left w h (q .0) next (q .1))
+      subst (λ (s : ℕ). Rows file total s next (left - 1)) (q .2)
+      (run-next contour roomAfter (λ room next. End next room) Refused file left w h (q .0) next (q .1))
 
 -- ---- all contours of a layer
 
@@ -73,22 +76,25 @@ module _ (file : List ℕ) (at : ℕ) (h : at ≤ length file) where
       let p = not-took word file at e in
       told-bad (λ cs next. CountsEnd next (length cs) (pointTotal cs)) CountsRefused contourList file at h (simp p)
 
-  module _ (n next : ℕ) (e : numberAt word file at ≡ Value n next) where
-    pub contours-stop : (i : ℕ) → contoursAt n file next ≡ Refused i → CountsRefused i ≡ countsAt file at
-    contours-stop i f =
+  module _ {n next : ℕ} (e : numberAt word file at ≡ Value n next) where
+    pub contours-stop : {i : ℕ} → contoursAt n file next ≡ Refused i → CountsRefused i ≡ countsAt file at
+    contours-stop {i} f =
         let q = contours-off file next n i f in
-        ap CountsRefused (q .place) ∙ told-refused (λ cs next. CountsEnd next (length cs) (pointTotal cs)) CountsRefused contourList file at (q .rest) (contours-by-count file at n next e ∙ q .parses)
+        ap CountsRefused (q .place)
+        ∙ told-refused (λ cs next. CountsEnd next (length cs) (pointTotal cs)) CountsRefused contourList file at (q .rest)
+        (contours-by-count file at n next e ∙ q .parses)
 
-    module _ (i room : ℕ) (f : contoursAt n file next ≡ End i room) where
+    module _ {i room : ℕ} (f : contoursAt n file next ≡ End i room) where
       pub room-low : room ≤ mostPoints
       room-low =
-          let q = contours-read file next n (took word file at n next e .inside) i room f in
+          let q = contours-read file next n (took e .inside) i room f in
           omega (arith, q .2, room-left n mostPoints (drop next file) (q .0) (drop i file) (q .1 .parses))
 
       pub contours-pass : CountsEnd i n (mostPoints - room) ≡ countsAt file at
       contours-pass =
-          let q = contours-read file next n (took word file at n next e .inside) i room f in
+          let q = contours-read file next n (took e .inside) i room f in
           let a : n ≡ length (q .0) = sym (parsed-length contour roomAfter n mostPoints (drop next file) (q .0) (drop i file) (q .1 .parses)) in
           let b : mostPoints - room ≡ pointTotal (q .0) = omega (arith, q .2, room-left n mostPoints (drop next file) (q .0) (drop i file) (q .1 .parses)) in
           (λ j. CountsEnd i (a j) (b j))
-          ∙ told-parsed (λ cs next. CountsEnd next (length cs) (pointTotal cs)) CountsRefused contourList file at (q .0) i (record { inside = q .1 .inside; parses = contours-by-count file at n next e ∙ q .1 .parses })
+          ∙ told-parsed (λ cs next. CountsEnd next (length cs) (pointTotal cs)) CountsRefused contourList file at (q .0) i
+          (record { inside = q .1 .inside; parses = contours-by-count file at n next e ∙ q .1 .parses })

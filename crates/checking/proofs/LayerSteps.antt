@@ -20,7 +20,8 @@ use Rattle.checking.specs.declared.Counts.the-variants.{End as CountsEnd
 use Rattle.checking.specs.declared.Levels.{Levels}
 use Rattle.checking.specs.declared.Levels.the-variants.{End, Refused}
 use Rattle.checking.specs.Answers.{heightAt, countsAt, levelsAt, final}
-use Rattle.checking.specs.AnswerLaws.{told-parsed, told-refused, Off, counts-read, levels-read, levels-off, final-off, final-over, final-whole, layer-no-height, height-inside, layer-no-contours, layer-read}
+use Rattle.checking.specs.AnswerLaws.{told-parsed, told-refused, Off, counts-read, levels-read, levels-off, final-off, final-over, final-whole}
+use Rattle.checking.specs.AnswerLaws.{layer-no-height, height-inside, layer-no-contours, layer-read}
 use Rattle.checking.proofs.Runs.{Running, run-off, run-next}
 
 -- ---- a height
@@ -29,36 +30,39 @@ module _ (low : ℤ) (file : List ℕ) (at : ℕ) where
   pub no-height : numberAt word file at ≡ NoNumber → Low ≡ heightAt low file at
   no-height e = told-refused Above (λ q. Low) (heightAbove low) file at (drop at file) (height-bad low (drop at file) (not-took word file at e))
 
-  module _ (m next : ℕ) (e : numberAt word file at ≡ Value m next) where
+  module _ {m next : ℕ} (e : numberAt word file at ≡ Value m next) where
     pub not-above : ltZ low (unzigzag m) ≡ false → Low ≡ heightAt low file at
-    not-above t = told-refused Above (λ q. Low) (heightAbove low) file at (drop at file) (height-low low (drop at file) m (drop next file) (took word file at m next e .parses) t)
+    not-above t =
+        told-refused Above (λ q. Low) (heightAbove low) file at (drop at file)
+        (height-low low (drop at file) m (drop next file) (took e .parses) t)
 
     pub above : ltZ low (unzigzag m) ≡ true → Above (unzigzag m) next ≡ heightAt low file at
     above t =
-        let w = took word file at m next e in
+        let w = took e in
         told-parsed Above (λ q. Low) (heightAbove low) file at (unzigzag m) next
         (record { inside = w .inside; parses = height-above low (drop at file) m (drop next file) (w .parses) t })
 
 -- ---- the loop over the layers
 
-abbrev pub Rise : List ℕ → Levels → ℤ → ℕ → ℕ → Type 0
-Rise file total low i left = Running layer heightOf (λ z next. End next z) Refused file total low i left
+abbrev pub Climbing : List ℕ → Levels → ℤ → ℕ → ℕ → Type 0
+Climbing file total low i left = Running layer heightOf (λ z next. End next z) Refused file total low i left
 
-module _ {file : List ℕ} {total : Levels} {low : ℤ} {i left : ℕ} (w : Rise file total low i left) (h : 0 < left) where
+module _ {file : List ℕ} {total : Levels} {low : ℤ} {i left : ℕ} (w : Climbing file total low i left) (h : 0 < left) where
   pub height-stops : heightAt low file i ≡ Low → Refused i ≡ total
   height-stops e = run-off layer heightOf (λ z next. End next z) Refused file left w h i (layer-no-height low file i (w .inside) e)
 
-  module _ (z : ℤ) (j : ℕ) (e : heightAt low file i ≡ Above z j) where
+  module _ {z : ℤ} {j : ℕ} (e : heightAt low file i ≡ Above z j) where
     pub height-in : j ≤ length file
     height-in = height-inside low file i (w .inside) z j e
 
-    pub contours-stop : (k : ℕ) → countsAt file j ≡ CountsRefused k → Refused k ≡ total
-    contours-stop k f = run-off layer heightOf (λ z next. End next z) Refused file left w h k (layer-no-contours low file i (w .inside) z j e k f)
+    pub contours-stop : {k : ℕ} → countsAt file j ≡ CountsRefused k → Refused k ≡ total
+    contours-stop {k} f = run-off layer heightOf (λ z next. End next z) Refused file left w h k (layer-no-contours low file i (w .inside) z j e k f)
 
-    pub layer-passes : (next c p : ℕ) → countsAt file j ≡ CountsEnd next c p → Rise file total z next (left - 1)
-    layer-passes next c p f =
+    pub layer-passes : {next c p : ℕ} → countsAt file j ≡ CountsEnd next c p → Climbing file total z next (left - 1)
+    layer-passes {next} {c} {p} f =
         let q = counts-read file j height-in next c p f in
-        run-next layer heightOf (λ z next. End next z) Refused file left w h (record { height = z; contours = q .0 }) next (layer-read low file i (w .inside) z j e (q .0) next c p (q .1))
+        run-next layer heightOf (λ z next. End next z) Refused file left w h (record { height = z; contours = q .0 }) next
+        (layer-read low file i (w .inside) z j e (q .0) next c p (q .1))
 
 -- ---- the end of the file
 
@@ -67,10 +71,11 @@ unfolding extentAt
 extent-off F file at i o = let p = o .parses in simp p (ap ExtentRefused (o .place))
 
 module _ (n : ℕ) (low : ℤ) (file : List ℕ) (at : ℕ) where
-  pub layers-stop : (i : ℕ) → levelsAt n low file at ≡ Refused i → ExtentRefused i ≡ extentAt (final (sequence layer heightOf n low)) file at
-  layers-stop i e = extent-off (final (sequence layer heightOf n low)) file at i (final-off (sequence layer heightOf n low) file at i (levels-off file at n low i e))
+  pub layers-stop : {i : ℕ} → levelsAt n low file at ≡ Refused i → ExtentRefused i ≡ extentAt (final (sequence layer heightOf n low)) file at
+  layers-stop {i} e =
+      extent-off (final (sequence layer heightOf n low)) file at i (final-off (sequence layer heightOf n low) file at i (levels-off file at n low i e))
 
-  module _ (h : at ≤ length file) (i : ℕ) (z : ℤ) (e : levelsAt n low file at ≡ End i z) where
+  module _ (h : at ≤ length file) {i : ℕ} {z : ℤ} (e : levelsAt n low file at ≡ End i z) where
     pub left-over : i < length file → ExtentRefused i ≡ extentAt (final (sequence layer heightOf n low)) file at
     left-over k =
         let q = levels-read file at n low h i z e in

@@ -39,15 +39,15 @@ module _ (p : ℤ) (file : List ℕ) (at : ℕ) where
   pub no-number : numberAt word file at ≡ NoNumber → Bad ≡ coordinateAt p file at
   no-number e = told-refused At (λ q. Bad) (coordinate p) file at (drop at file) (coordinate-bad p (drop at file) (not-took word file at e))
 
-  module _ (m next : ℕ) (e : numberAt word file at ≡ Value m next) where
+  module _ {m next : ℕ} (e : numberAt word file at ≡ Value m next) where
     pub far : largest < natAbs (p +ℤ unzigzag m) → Bad ≡ coordinateAt p file at
     far h =
         told-refused At (λ q. Bad) (coordinate p) file at (drop at file)
-        (coordinate-far p (drop at file) m (drop next file) (took word file at m next e .parses) (lt-leb (natAbs (p +ℤ unzigzag m)) largest h))
+        (coordinate-far p (drop at file) m (drop next file) (took e .parses) (lt-leb (natAbs (p +ℤ unzigzag m)) largest h))
 
     pub near : natAbs (p +ℤ unzigzag m) ≤ largest → At (p +ℤ unzigzag m) next ≡ coordinateAt p file at
     near h =
-        let w = took word file at m next e in
+        let w = took e in
         told-parsed At (λ q. Bad) (coordinate p) file at (p +ℤ unzigzag m) next
         (record { inside = w .inside; parses = coordinate-near p (drop at file) m (drop next file) (w .parses) (le-leb (natAbs (p +ℤ unzigzag m)) largest h) })
 
@@ -65,7 +65,7 @@ module _ {file : List ℕ} {at count : ℕ} {x y : ℤ} {i left : ℕ} (w : Poin
   pub no-x : coordinateAt x file i ≡ Bad → Refused i ≡ extentAt (sequence point latest count origin) file at
   no-x e = check-bad left (w .check) h (point-no-x (record { x = x; y = y }) (drop i file) (coordinate-off x file i e))
 
-  module _ (nx : ℤ) (j : ℕ) (e : coordinateAt x file i ≡ At nx j) where
+  module _ {nx : ℤ} {j : ℕ} (e : coordinateAt x file i ≡ At nx j) where
     first : ParsedAt (coordinate x) file i nx j
     first = coordinate-read x file i (w .check .inside) nx j e
 
@@ -75,9 +75,10 @@ module _ {file : List ℕ} {at count : ℕ} {x y : ℤ} {i left : ℕ} (w : Poin
     pub no-y : coordinateAt y file j ≡ Bad → Refused j ≡ extentAt (sequence point latest count origin) file at
     no-y f =
         ap Refused (sym (place-drop file j (first .inside)))
-        ∙ check-stop left (w .check) h (drop j file) (point-no-y (record { x = x; y = y }) (drop i file) nx (drop j file) (first .parses) (coordinate-off y file j f))
+        ∙ check-stop left (w .check) h (drop j file)
+        (point-no-y (record { x = x; y = y }) (drop i file) nx (drop j file) (first .parses) (coordinate-off y file j f))
 
-    module _ (ny : ℤ) (k : ℕ) (f : coordinateAt y file j ≡ At ny k) where
+    module _ {ny : ℤ} {k : ℕ} (f : coordinateAt y file j ≡ At ny k) where
       second : ParsedAt (coordinate y) file j ny k
       second = coordinate-read y file j (first .inside) ny k f
 

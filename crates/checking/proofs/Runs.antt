@@ -20,7 +20,8 @@ module _ {S A B : Type 0} (F : S → Format A) (step : S → A → S) (good : S 
   told-mapped s a n (parsed xs r) = refl
   told-mapped s a n (refused r) = refl
 
-  pub running : (s : S) (at count : ℕ) → at ≤ length file → Running (toldAt (λ xs next. good (state F step s xs) next) bad (sequence F step count s) file at) s at count
+  pub running : (s : S) (at count : ℕ) → at ≤ length file
+      → Running (toldAt (λ xs next. good (state F step s xs) next) bad (sequence F step count s) file at) s at count
   running s at count h = record { inside = h; same = refl }
 
   module _ {total : B} {s : S} {i : ℕ} where

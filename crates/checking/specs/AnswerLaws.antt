@@ -16,7 +16,8 @@ use Rattle.formats.specs.Positions.{numberAt}
 use Rattle.formats.specs.PositionLaws.{place-drop, Tails, sequence-tails, ParsedAt, parsed-at, took}
 use Rattle.formats.specs.SequenceLaws.{state}
 use Rattle.formats.specs.LayerFile.{Point, Layer, mostPoints, coordinate, contour, roomAfter, contourList, heightAbove, layer, heightOf}
-use Rattle.formats.specs.LayerFileLaws.{coordinate-tails, coordinate-single, contour-in, contour-tails, contourList-tails, heightAbove-tails, height-single, layer-tails, layer-bad, layer-contours}
+use Rattle.formats.specs.LayerFileLaws.{coordinate-tails, coordinate-single, contour-in, contour-tails, contourList-tails, heightAbove-tails, height-single}
+use Rattle.formats.specs.LayerFileLaws.{layer-tails, layer-bad, layer-contours}
 use Rattle.formats.specs.LayerRules.{pointTotal}
 use Rattle.formats.specs.declared.Number.the-variants.{Value}
 use Rattle.checking.specs.declared.Coordinate.the-variants.{At, Bad}
@@ -56,7 +57,8 @@ pub record Kinds {K B : Type 0} (good : K → ℕ → B) (bad : ℕ → B) : Typ
   pub next-told : {k l : K} {n m : ℕ} → good k n ≡ good l m → n ≡ m
 
 module _ {K A B : Type 0} {good : K → ℕ → B} {bad : ℕ → B} (kinds : Kinds good bad) (key : A → K) (F : Format A) (file : List ℕ) (at : ℕ) where
-  pub from-good : Tails F → at ≤ length file → (k : K) (next : ℕ) → toldAt (λ a. good (key a)) bad F file at ≡ good k next → (a : A) × ParsedAt F file at a next × (key a ≡ k)
+  pub from-good : Tails F → at ≤ length file → (k : K) (next : ℕ) → toldAt (λ a. good (key a)) bad F file at ≡ good k next
+      → (a : A) × ParsedAt F file at a next × (key a ≡ k)
   unfolding toldAt
   from-good T h k next e = by (F .parse (drop at file)) refl
     where
@@ -66,7 +68,8 @@ module _ {K A B : Type 0} {good : K → ℕ → B} {bad : ℕ → B} (kinds : Ki
           (a, subst (ParsedAt F file at a) (kinds .next-told f) (parsed-at T file at h a r p), kinds .key-told f)
       by (refused r) p = absurd (kinds .apart (sym (simp p at e)))
 
-  pub from-bad : (i : ℕ) → toldAt (λ a. good (key a)) bad F file at ≡ bad i → (r : List ℕ) × (F .parse (drop at file) ≡ refused r) × (bad (length file - length r) ≡ bad i)
+  pub from-bad : (i : ℕ) → toldAt (λ a. good (key a)) bad F file at ≡ bad i
+      → (r : List ℕ) × (F .parse (drop at file) ≡ refused r) × (bad (length file - length r) ≡ bad i)
   unfolding toldAt
   from-bad i e = by (F .parse (drop at file)) refl
     where
@@ -123,7 +126,8 @@ contours = record { apart = λ e. let n : _≡_ {A = ℕ} 0 1 = cc in omega arit
 
 module _ (file : List ℕ) (at : ℕ) where
   module _ (room : ℕ) where
-    pub contour-read : at ≤ length file → (next r : ℕ) → contourAt room file at ≡ End next r → (c : List Point) × ParsedAt (contour room) file at c next × (roomAfter room c ≡ r)
+    pub contour-read : at ≤ length file → (next r : ℕ) → contourAt room file at ≡ End next r
+        → (c : List Point) × ParsedAt (contour room) file at c next × (roomAfter room c ≡ r)
     contour-read h next r e = from-good contours (roomAfter room) (contour room) file at (contour-tails room) h r next e
 
     pub contour-off : (i : ℕ) → contourAt room file at ≡ Refused i → Off (contour room) file at i
@@ -133,7 +137,8 @@ module _ (file : List ℕ) (at : ℕ) where
     pub contours-read : at ≤ length file → (next r : ℕ) → contoursAt n file at ≡ End next r
         → (cs : List (List Point)) × ParsedAt (sequence contour roomAfter n mostPoints) file at cs next × (state contour roomAfter mostPoints cs ≡ r)
     contours-read h next r e =
-        from-good contours (state contour roomAfter mostPoints) (sequence contour roomAfter n mostPoints) file at (sequence-tails contour roomAfter contour-tails n mostPoints) h r next e
+        from-good contours (state contour roomAfter mostPoints) (sequence contour roomAfter n mostPoints) file at
+        (sequence-tails contour roomAfter contour-tails n mostPoints) h r next e
 
     pub contours-off : (i : ℕ) → contoursAt n file at ≡ Refused i → Off (sequence contour roomAfter n mostPoints) file at i
     contours-off i e = from-off contours (state contour roomAfter mostPoints) (sequence contour roomAfter n mostPoints) file at (λ p q f. cc) i e
@@ -189,20 +194,24 @@ module _ {A : Type 0} (F : Format A) (file : List ℕ) (at : ℕ) where
       where
         by : (r : List ℕ) → drop next file ≡ r → length (drop next file) ≡ length file - next → Off (final F) file at next
         by [] e n = absurd (omega (arith, ap length e))
-        by (b ∷ r) e n = let q : F .parse (drop at file) ≡ parsed a (b ∷ r) = p .parses ∙ ap (parsed a) e in record { rest = b ∷ r; parses = simp q; place = omega (arith, ap length e, p .inside) }
+        by (b ∷ r) e n =
+            let q : F .parse (drop at file) ≡ parsed a (b ∷ r) = p .parses ∙ ap (parsed a) e in
+            record { rest = b ∷ r; parses = simp q; place = omega (arith, ap length e, p .inside) }
 
     pub final-whole : length file ≤ next → (final F) .parse (drop at file) ≡ parsed a []
     final-whole h = let q : F .parse (drop at file) ≡ parsed a [] = p .parses ∙ ap (parsed a) (drop-of-length-le file h) in simp q
 
 -- ---- the contours of a layer, by the count before them
 
-pub contours-by-count : (file : List ℕ) (at n next : ℕ) → numberAt word file at ≡ Value n next → contourList .parse (drop at file) ≡ (sequence contour roomAfter n mostPoints) .parse (drop next file)
+pub contours-by-count : (file : List ℕ) (at n next : ℕ) → numberAt word file at ≡ Value n next
+    → contourList .parse (drop at file) ≡ (sequence contour roomAfter n mostPoints) .parse (drop next file)
 unfolding contourList
-contours-by-count file at n next e = let p = took word file at n next e .parses in simp p
+contours-by-count file at n next e = let p = took e .parses in simp p
 
 -- ---- the room after contours
 
-pub room-left : (n room : ℕ) (l : List ℕ) (cs : List (List Point)) (r : List ℕ) → parseAll contour roomAfter n room l ≡ parsed cs r → state contour roomAfter room cs + pointTotal cs ≡ room
+pub room-left : (n room : ℕ) (l : List ℕ) (cs : List (List Point)) (r : List ℕ) → parseAll contour roomAfter n room l ≡ parsed cs r
+    → state contour roomAfter room cs + pointTotal cs ≡ room
 unfolding parseAll
 room-left zero room l cs r e =
     let p : cs ≡ [] = cc in
@@ -210,7 +219,8 @@ room-left zero room l cs r e =
 room-left (suc n) room l cs r e =
     let i = then-in ((contour room) .parse l) (λ c r. mapped (λ ds. c ∷ ds) (parseAll contour roomAfter n (roomAfter room c) r)) cs r e in
     let j = mapped-in (λ ds. i .0 ∷ ds) (parseAll contour roomAfter n (roomAfter room (i .0)) (i .1)) cs r (i .3) in
-    let h : state contour roomAfter (room - length (i .0)) (j .0) + pointTotal (j .0) ≡ room - length (i .0) = room-left n (room - length (i .0)) (i .1) (j .0) r (j .1) in
+    let h : state contour roomAfter (room - length (i .0)) (j .0) + pointTotal (j .0) ≡ room - length (i .0) =
+    room-left n (room - length (i .0)) (i .1) (j .0) r (j .1) in
     subst (λ (ds : List (List Point)). state contour roomAfter room ds + pointTotal ds ≡ room) (j .2) (omega (arith, contour-in room l (i .0) (i .1) (i .2) .1))
 
 -- ---- a layer, by its height and its contours
@@ -232,7 +242,8 @@ module _ (low : ℤ) (file : List ℕ) (at : ℕ) (h : at ≤ length file) where
         let p = o .parses in
         record { rest = o .rest; parses = by-contours ∙ simp p; place = o .place }
 
-    pub layer-read : (cs : List (List Point)) (next k m : ℕ) → Counted file j cs next k m → ParsedAt (layer low) file at (record { height = z; contours = cs }) next
+    pub layer-read : (cs : List (List Point)) (next k m : ℕ) → Counted file j cs next k m
+        → ParsedAt (layer low) file at (record { height = z; contours = cs }) next
     layer-read cs next k m c =
         let p = c .stands .parses in
         record { inside = c .stands .inside; parses = by-contours ∙ simp p }

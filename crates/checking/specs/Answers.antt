@@ -1,10 +1,9 @@
--- Internal: what the functions of this crate answer of a part of a file.
+-- What the functions of this crate answer of a part of a file.
 use Prim.Native.Nat.{ℕ, _-_}
 use mathlib.Core.List.{List}
 use lib.ListN.{length, drop}
 use lib.IntN.{ℤ}
-use Rattle.formats.specs.Formats.{Parse, parsed, refused, Format, finished, sequence}
-use Rattle.formats.specs.SequenceLaws.{state}
+use Rattle.formats.specs.Formats.{Parse, parsed, refused, Format, finished, state, sequence}
 use Rattle.formats.specs.LayerFile.{mostPoints, coordinate, contour, roomAfter, contourList, heightAbove, layer, heightOf}
 use Rattle.formats.specs.LayerRules.{pointTotal}
 use Rattle.checking.specs.declared.Coordinate.{Coordinate}

@@ -1,4 +1,4 @@
-// Internal: functions that check a part of a layer file, from a position in it on.
+// Checking a part of a layer file, from a position in it on.
 ghost use mathlib.Core.Path.{_≡_};
 ghost use Prim.Native.Nat.{_≤_};
 ghost use lib.ListN.{length};
@@ -21,7 +21,7 @@ use formats::numbers::signed_of;
 // The coordinate at a position of a file, where `before` is that of the point before.
 pub fn read_coordinate(file: &[u8], at: usize, before: i32) -> Coordinate
     requires { ⌜ natAbs before ≤ largest ⌝ }
-    ensures { λ r. ⌜ r ≡ coordinateAt before (now (file .entry)) at ⌝ }
+    ensures { λ r. ⌜ r ≡ coordinateAt before (file .entry .now) at ⌝ }
 {
     let n = read_number(file, at, 4294967295);
     let Number::Value(m, next) = n else {
@@ -40,7 +40,7 @@ pub fn read_coordinate(file: &[u8], at: usize, before: i32) -> Coordinate
 // Checks so many points of a contour.
 pub fn check_points(file: &[u8], at: usize, count: u64) -> Extent
     requires { ⌜ at ≤ length (now file) ⌝ }
-    ensures { λ r. ⌜ r ≡ extentAt (sequence point latest count origin) (now (file .entry)) at ⌝ }
+    ensures { λ r. ⌜ r ≡ extentAt (sequence point latest count origin) (file .entry .now) at ⌝ }
 {
     let mut x: i32 = 0;
     let mut y: i32 = 0;
@@ -66,7 +66,7 @@ pub fn check_points(file: &[u8], at: usize, count: u64) -> Extent
 // Checks a contour, where its layer has room for so many points.
 pub fn check_contour(file: &[u8], at: usize, room: u64) -> Contours
     requires { ⌜ at ≤ length (now file) ⌝ }
-    ensures { λ r. ⌜ r ≡ contourAt room (now (file .entry)) at ⌝ }
+    ensures { λ r. ⌜ r ≡ contourAt room (file .entry .now) at ⌝ }
 {
     let n = read_number(file, at, room);
     let Number::Value(count, next) = n else {
@@ -85,7 +85,7 @@ pub fn check_contour(file: &[u8], at: usize, room: u64) -> Contours
 // Checks so many contours, the first of a layer.
 pub fn check_contours(file: &[u8], at: usize, count: u64) -> Contours
     requires { ⌜ at ≤ length (now file) ⌝ }
-    ensures { λ r. ⌜ r ≡ contoursAt count (now (file .entry)) at ⌝ }
+    ensures { λ r. ⌜ r ≡ contoursAt count (file .entry .now) at ⌝ }
 {
     let mut room: u64 = 98304;
     let mut i = at;
@@ -109,7 +109,7 @@ pub fn check_contours(file: &[u8], at: usize, count: u64) -> Contours
 // Checks the contours of a layer with their count.
 pub fn check_counted(file: &[u8], at: usize) -> Counts
     requires { ⌜ at ≤ length (now file) ⌝ }
-    ensures { λ r. ⌜ r ≡ countsAt (now (file .entry)) at ⌝ }
+    ensures { λ r. ⌜ r ≡ countsAt (file .entry .now) at ⌝ }
 {
     let n = read_number(file, at, 4294967295);
     let Number::Value(count, next) = n else {
@@ -124,7 +124,7 @@ pub fn check_counted(file: &[u8], at: usize) -> Counts
 
 // The height at a position of a file, where it must lie above low.
 pub fn read_height(file: &[u8], at: usize, low: i64) -> Height
-    ensures { λ r. ⌜ r ≡ heightAt low (now (file .entry)) at ⌝ }
+    ensures { λ r. ⌜ r ≡ heightAt low (file .entry .now) at ⌝ }
 {
     let n = read_number(file, at, 4294967295);
     let Number::Value(m, next) = n else {
@@ -140,7 +140,7 @@ pub fn read_height(file: &[u8], at: usize, low: i64) -> Height
 // Checks so many layers, of which the first must lie above low.
 pub fn check_layers(file: &[u8], at: usize, count: u64, low: i64) -> Levels
     requires { ⌜ at ≤ length (now file) ⌝ }
-    ensures { λ r. ⌜ r ≡ levelsAt count low (now (file .entry)) at ⌝ }
+    ensures { λ r. ⌜ r ≡ levelsAt count low (file .entry .now) at ⌝ }
 {
     let mut last = low;
     let mut i = at;
@@ -168,7 +168,7 @@ pub fn check_layers(file: &[u8], at: usize, count: u64, low: i64) -> Levels
 // Checks so many layers, and that the file ends after them.
 pub fn check_last(file: &[u8], at: usize, count: u64, low: i64) -> Extent
     requires { ⌜ at ≤ length (now file) ⌝ }
-    ensures { λ r. ⌜ r ≡ extentAt (final (sequence layer heightOf count low)) (now (file .entry)) at ⌝ }
+    ensures { λ r. ⌜ r ≡ extentAt (final (sequence layer heightOf count low)) (file .entry .now) at ⌝ }
 {
     let c = check_layers(file, at, count, low);
     match c {

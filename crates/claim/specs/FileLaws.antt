@@ -1,96 +1,165 @@
--- The claim about All layers: its file is that of Cut at each height taken. With the claim about the list of calls it is demand 3.
-use Prim.Native.Nat.{ℕ}
+-- The claim about All layers proved: what Cut leaves at a height is the layer of the file, so does Layer on the way up, and the file is that of Cut at each
+-- height taken. With the claim about the list of calls it is demand 3.
+use Prim.Native.Nat.{ℕ, _≤_}
 use mathlib.Core.Path.{_≡_, refl, sym, ap, _∙_, subst}
-use mathlib.Core.Bool.{true, not}
-use mathlib.Core.List.{List, [], _∷_, map}
-use lib.ListN.{length, take, drop}
+use mathlib.Core.Bool.{true, false, not}
+use mathlib.Core.List.{List, [], _∷_, _++_, map, flatten}
+use native.Mathlib.Omega.{arith}
+use borrow.Author.Tests.{not-false, leb-true}
+use lib.ListN.{length, take, drop, length-map}
 use lib.Seq.{take-at, drop-at}
 use lib.IntN.{ℤ}
+use Rattle.laws.specs.Booleans.{clash, and-parts}
 use Rattle.laws.specs.Tables.{overwrite}
-use Rattle.mesh.specs.Refusals.{verdict}
-use Rattle.mesh.specs.RefusalLaws.{None, more, done, none-fine, join-next}
-use Rattle.mesh.specs.declared.Verdict.{Verdict}
-use Rattle.mesh.specs.declared.Verdict.the-variants.{Fine}
-use Rattle.section.specs.Section.{Right}
-use Rattle.cutter.specs.Cut.{roomFor, tests, used, section, contoursOf, refusals, answer, Leaves}
-use Rattle.cutter.specs.CutLaws.{layer-fine}
-use Rattle.cutter.specs.OutlineLaws.{section-fine}
-use Rattle.cutter.specs.declared.Sliced.the-variants.{Layer as Cut}
+use Rattle.mesh.specs.Meshes.{PairedMesh, OrderedMesh}
+use Rattle.mesh.specs.Operation.{after}
+use Rattle.mesh.specs.OperationLaws.{None, more, done as none-left, fine-nowhere, verdict-one, none-fine, fine-none, join-fine}
+use Rattle.mesh.specs.OperationLaws.{given-verdict, given-exactly, left-given, recovered}
+use Rattle.polygons.specs.Flat.{numbersOf, endsOf}
+use Rattle.section.specs.RightLaws.{right-of}
+use Rattle.formats.specs.LayerFile as files
 use Rattle.writer.specs.Written.{layerOf}
+use Rattle.writer.specs.WrittenLaws.{layer-held}
+use Rattle.cutter.specs.Cut.{CutTables, Lengths, lengthsOf, roomFor, used, section, contoursOf, countsOf, cutting, Cuts}
+use Rattle.cutter.specs.CutLaws.{cut-recovers}
+use Rattle.cutter.specs.OutlineLaws.{section-fine}
+use Rattle.cutter.specs.declared.Sliced.{Sliced}
+use Rattle.cutter.specs.declared.Sliced.the-variants.{Layer as Cut}
+use Rattle.sweep.specs.declared.Rise.the-variants.{Layer, Refused as Unrisen}
+use Rattle.sweep.specs.Sweep.{sweep}
+use Rattle.sweep.specs.Operations.{at, linkedTests}
 use Rattle.sweep.specs.RiseLaws.{rise-is-cut}
 use Rattle.heights.specs.Heights.{heightsTaken}
-use Rattle.layers.specs.AllLayers.{layerAt, fileOf, layersTests, outputAfter}
-use Rattle.layers.specs.LayerAtLaws.{traced-holds}
-use Rattle.layers.specs.LayersLaws.{length-fine, filed-tests, filed-right}
-use Rattle.claim.specs.Claim.{Lent, CutOf, LayerOfCut, LayersOfCuts, no-height, next-height, FileClaim, DemandThree}
+use Rattle.layers.specs.declared.Filed.the-variants.{Length}
+use Rattle.layers.specs.AllLayers.{crossingAt, drawn, cutLayer, cutFile, sweptFile, climbed, WorkTables, workRoomFor, layersTests, usedAt, shortOutput, Files}
+use Rattle.layers.specs.CutLayerLaws.{drawn-points, drawn-ends}
+use Rattle.layers.specs.LayersLaws.{filed-tested, filed-length, filed-output}
+use Rattle.claim.specs.Claim.{Call, step, rise, refused, given, moveOf, to, fed, Run, done, skipped, taken}
 use Rattle.claim.specs.ClaimLaws.{sweep-claim}
+use Rattle.claim.specs.FileClaim.{LayerOfCut, Leave, no-call, next-call, rightTests, ClimbClaim, FileClaim, DemandThree}
+use Rattle.claim.specs.RunLaws.{unrefused, start-fine, layers-climb}
 
--- ---- Cut on a mesh that the tests of All layers have passed
+-- ---- what Cut leaves
 
-module _ (coords : List ℤ) (corners pairing order : List ℕ) (heights : List ℤ) (a b c d e : ℕ) (passed : None (layersTests coords corners pairing order heights a b c d e))
-    (right : Right coords corners pairing) (h : ℤ) where
-  -- with room nothing refuses it
-  cut-fine : (names points ends marks : ℕ) → roomFor (length corners) names points ends marks ≡ true → verdict (refusals coords corners pairing h names points ends marks) ≡ Fine
-  cut-fine names points ends marks room = go passed
-    where
-      go : None (layersTests coords corners pairing order heights a b c d e) → verdict (refusals coords corners pairing h names points ends marks) ≡ Fine
-      go (more s (more m (more u (more g (more r (more x (more t (more p rest)))))))) =
-          sym (join-next (tests coords corners pairing names points ends marks) (used (length corners) (section coords corners pairing h) ∷ [])
-          (sym (none-fine (tests coords corners pairing names points ends marks) (more s (more (λ i l. ap not room) (more r (more x (more t (more p done)))))))) refl
-          (sym (section-fine coords corners pairing h right)))
+-- the layer of Cut is in its tables
+pub cut-leaves : {m : PairedMesh} {h : ℤ} {t t′ : CutTables} {j k : ℕ} → Cuts m h t (Cut j k) t′ → layerOf h (t′ .points) (t′ .ends) j ≡ cutLayer m h
+unfolding cutLayer after
+cut-leaves {m} {h} {t} {t′} {j} {k} c =
+    let rs = contoursOf (section m h) in
+    let cs = drawn (m .mesh) h rs .contours in
+    let left = left-given c {g = (j, k)} refl in
+    let points : t′ .points ≡ overwrite (numbersOf (flatten cs)) (t .points) =
+    ap (λ (u : CutTables). u .points) left ∙ ap (λ (l : List ℤ). overwrite l (t .points)) (drawn-points (m .mesh) h rs) in
+    let ends : t′ .ends ≡ overwrite (endsOf cs) (t .ends) =
+    ap (λ (u : CutTables). u .ends) left ∙ ap (λ (l : List ℕ). overwrite l (t .ends)) (drawn-ends (m .mesh) h rs) in
+    let count : j ≡ length cs = (λ i. given-verdict c {g = (j, k)} refl .1 i .0) ∙ sym (length-map rs (map (crossingAt (m .mesh) h))) in
+    (λ i. layerOf h (points i) (ends i) (count i)) ∙ layer-held cs (t .points) (t .ends) h
 
-  -- its tables hold the layer
-  cut-holds : (t t′ : Lent) (j k : ℕ) → CutOf coords corners pairing h t (Cut j k) t′ → layerOf h (t′ .points) (t′ .ends) j ≡ layerAt coords corners pairing h
-  cut-holds t t′ j k x =
-      let f = layer-fine _ _ (x .answers) in
-      let same = f ∙ sym (section-fine coords corners pairing h right) in
-      traced-holds coords corners pairing right h
-      (record {
-        answers = x .answers ∙ ap (λ (v : Verdict). answer v (contoursOf (section coords corners pairing h))) same;
-        leaves = subst (λ (v : Verdict). Leaves v (contoursOf (section coords corners pairing h)) coords corners h (t .names) (t .points) (t .ends) (t .marks) (t′ .names) (t′ .points) (t′ .ends) (t′ .marks)) same (x .leaves);
-      }) refl .is
+-- ---- Cut and Layer on a right mesh
 
-  layer-of-cut : LayerOfCut coords corners pairing h (layerAt coords corners pairing h)
-  unfolding answer
-  layer-of-cut =
-      record {
-        cuts = λ t room answered t′ x.
-            (_, _, x .answers ∙ ap (λ (v : Verdict). answer v (contoursOf (section coords corners pairing h))) (cut-fine (length (t .names)) (length (t .points)) (length (t .ends)) (length (t .marks)) room));
-        holds = cut-holds;
-        rises = λ order₁ ring ring′ s s′ t t′ j k x. cut-holds t t′ j k (rise-is-cut x);
-      }
+-- with room nothing refuses Cut
+pub cut-given-room : (m : PairedMesh) → None (linkedTests m) → (h : ℤ) (t : CutTables) → roomFor (length (m .mesh .corners)) (lengthsOf t) ≡ true
+    → None (cutting (m, h, t) .refusals)
+cut-given-room m (more s (more r (more v (more x (more p none-left))))) h t room =
+    let right = right-of m (not-false _ (s 0 (omega arith))) r v x p in
+    let free = fine-nowhere _ (verdict-one (used (length (m .mesh .corners)) (section m h)) ∙ section-fine m h right) in
+    more s (more (λ i l. ap not room) (more r (more v (more x (more p (more free none-left))))))
 
-layers-of-cuts : (coords : List ℤ) (corners pairing : List ℕ) → ((h : ℤ) → LayerOfCut coords corners pairing h (layerAt coords corners pairing h)) → (hs : List ℤ)
-    → LayersOfCuts coords corners pairing hs (map (layerAt coords corners pairing) hs)
-layers-of-cuts coords corners pairing each [] = no-height
-layers-of-cuts coords corners pairing each (h ∷ hs) = next-height (each h) (layers-of-cuts coords corners pairing each hs)
+-- so the layer of the file is that of Cut
+pub layer-of-cut : (m : PairedMesh) → None (linkedTests m) → (h : ℤ) → LayerOfCut m h (cutLayer m h)
+layer-of-cut m right h = record {
+  cuts = λ t t′ answer room c.
+      let counts = countsOf (contoursOf (section m h)) in
+      let is : answer ≡ Cut (counts .0) (counts .1) = recovered cut-recovers (given-exactly c .1 (cut-given-room m right h t room)) in
+      (counts .0, counts .1, is, cut-leaves (subst (λ (a : Sliced). Cuts m h t a t′) is c));
+  rises = λ s same t t′ state j k ring′ ok. cut-leaves (rise-is-cut ok) ∙ ap (λ (n : PairedMesh). cutLayer n h) same;
+}
 
--- ---- the output
+-- the first five tests of a right mesh
+pub linked-none : (m : OrderedMesh) → None (rightTests m) → None (linkedTests (m .paired))
+linked-none m (more s (more r (more v (more x (more p rest))))) = more s (more r (more v (more x (more p none-left))))
 
-module _ (file output output′ : List ℕ) (is : output′ ≡ overwrite file output) where
-  file-front : take (length file) output′ ≡ file
+-- ---- up the heights
+
+parts-of : {A : Type 0} {a b : A} {l k : List A} → a ∷ l ≡ b ∷ k → (a ≡ b) × (l ≡ k)
+parts-of e = (cc, cc)
+
+-- an unrefused call that rises to h leaves the layer of Cut
+leave-one : {m : OrderedMesh} {n : ℕ} {r : List ℕ} (c : Call) {h : ℤ} {cs : List Call} {ls : List files.Layer} → refused c ≡ false → given c ≡ sweep m r n
+    → moveOf c ≡ to h → Leave cs ls → Leave (c ∷ cs) (cutLayer (m .paired) h ∷ ls)
+unfolding refused given moveOf
+leave-one (step s answer ring′ ok) e q f rest = absurd (let z : _≡_ {A = ℕ} 0 1 = cc in omega arith)
+leave-one (rise s g t (Unrisen x) ring′ t′ ok) e q f rest = absurd (clash refl e)
+leave-one (rise s g t (Layer u j k) ring′ t′ ok) {h} {cs} {ls} e q f rest =
+    let same : g ≡ h = cc in
+    subst (λ (l : files.Layer). Leave (rise s g t (Layer u j k) ring′ t′ ok ∷ cs) (l ∷ ls))
+    (cut-leaves (rise-is-cut ok) ∙ (λ i. cutLayer (q i .ordered .paired) (same i))) (next-call ok rest)
+
+-- and those that rise to these heights
+leave-up : {m : OrderedMesh} {n n′ : ℕ} {r r′ : List ℕ} {cs : List Call} (hs : List ℤ) → Run m n r cs n′ r′ → fed cs ≡ unrefused (map to hs)
+    → Leave cs (map (cutLayer (m .paired)) hs)
+unfolding fed unrefused
+leave-up [] done e = no-call
+leave-up [] (skipped x r) e = absurd (let z : _≡_ {A = ℕ} 0 1 = cc in omega arith)
+leave-up [] (taken x q r) e = absurd (let z : _≡_ {A = ℕ} 0 1 = cc in omega arith)
+leave-up (h ∷ hs) done e = absurd (let z : _≡_ {A = ℕ} 0 1 = cc in omega arith)
+leave-up (h ∷ hs) (skipped x r) e = absurd (clash x (λ i. parts-of e .0 i .1))
+leave-up (h ∷ hs) (taken {c = c} x q r) e = leave-one c x q (λ i. parts-of e .0 i .0) (leave-up hs r (parts-of e .1))
+
+pub climb-claim : ClimbClaim
+climb-claim m right t room ring fresh ring₀ start hs above =
+    let made = layers-climb m (fine-none (rightTests m) right) t room start hs above in
+    record { calls = made .calls; passed = made .passed; ring = made .ring; run = made .run; leave = leave-up hs (made .run) (made .all-made) }
+
+-- ---- All layers
+
+pub work-parts : (n : ℕ) (l : Lengths) (ring : ℕ) → workRoomFor n l ring ≡ true → (roomFor n l ≡ true) × (n ≤ ring)
+unfolding workRoomFor
+work-parts n l ring e = let p = and-parts _ _ e in (p .0, leb-true n ring (p .1))
+
+-- what an unrefused call has tested of the mesh, and of the tables of Cut
+passed-parts : (m : OrderedMesh) (heights : List ℤ) (w : WorkTables) → None (layersTests m heights (lengthsOf (w .cut)) (length (w .ring)))
+    → None (rightTests m) × (roomFor (length (m .paired .mesh .corners)) (lengthsOf (w .cut)) ≡ true)
+passed-parts m heights w (more s (more y (more u (more r (more v (more x (more p (more o rest)))))))) =
+    let room = work-parts (length (m .paired .mesh .corners)) (lengthsOf (w .cut)) (length (w .ring)) (not-false _ (u 0 (omega arith))) in
+    (more s (more r (more v (more x (more p (more o none-left))))), room .0)
+
+pub file-passed : {m : OrderedMesh} {heights : List ℤ} {w w′ : WorkTables} {output output′ : List ℕ} {n : ℕ} → Files m heights w output (Length n) w′ output′
+    → None (rightTests m) × (roomFor (length (m .paired .mesh .corners)) (lengthsOf (w .cut)) ≡ true)
+file-passed {m} {heights} {w} {output = output} {n = n} f =
+    let hs = heightsTaken (m .paired .mesh .coords) heights in
+    let tests = layersTests m heights (lengthsOf (w .cut)) (length (w .ring)) in
+    let later = map usedAt (climbed m (w .ring) hs) ++ (shortOutput (length output) (sweptFile m (w .ring) hs) ∷ []) in
+    passed-parts m heights w (fine-none tests (join-fine tests later (given-verdict f {g = n} refl .0)))
+
+module _ (bytes output : List ℕ) where
+  front : take (length bytes) (overwrite bytes output) ≡ bytes
   unfolding overwrite
-  file-front = ap (take (length file)) is ∙ take-at file (drop (length file) output) (length file) refl
+  front = take-at bytes (drop (length bytes) output) (length bytes) refl
 
-  file-past : drop (length file) output′ ≡ drop (length file) output
+  behind : drop (length bytes) (overwrite bytes output) ≡ drop (length bytes) output
   unfolding overwrite
-  file-past = ap (drop (length file)) is ∙ drop-at file (drop (length file) output) (length file) refl
+  behind = drop-at bytes (drop (length bytes) output) (length bytes) refl
 
 pub file-claim : FileClaim
-unfolding outputAfter
-file-claim coords corners pairing order heights t ring output n t′ ring′ output′ f =
-    let file = fileOf coords corners pairing (heightsTaken coords heights) in
-    let v = length-fine _ _ (f .answers) in
-    let is : output′ ≡ overwrite file output = f .writes ∙ ap (λ (u : Verdict). outputAfter u file output) (v .0) in
+file-claim m heights w w′ output output′ n f =
+    let hs = heightsTaken (m .paired .mesh .coords) heights in
+    let bytes = cutFile (m .paired) hs in
+    let p = file-passed f in
+    let t = filed-tested f {n = n} refl in
+    let size = filed-length f {n = n} refl in
+    let written = filed-output f {n = n} refl in
+    let start = start-fine m (p .0) (w .ring) (t .ring-long) in
     record {
-      layers = map (layerAt coords corners pairing) (heightsTaken coords heights);
-      cut = layers-of-cuts coords corners pairing (layer-of-cut coords corners pairing order heights _ _ _ _ _ (filed-tests f refl) (filed-right f refl)) (heightsTaken coords heights);
-      size = v .1;
-      bytes = ap (λ (m : ℕ). take m output′) (v .1) ∙ file-front file output output′ is;
-      past = ap (λ (m : ℕ). drop m output′) (v .1) ∙ file-past file output output′ is ∙ ap (λ (m : ℕ). drop m output) (sym (v .1));
+      cut = layer-of-cut (m .paired) (linked-none m (p .0));
+      size = size;
+      bytes = (λ i. take (size i) (written i)) ∙ front bytes output;
+      past = (λ i. drop (size i) (written i)) ∙ behind bytes output ∙ ap (λ (k : ℕ). drop k output) (sym size);
+      start = start;
+      ascent = climb-claim m (none-fine (rightTests m) (p .0)) (w .cut) (p .1) (w .ring) (at 0) _ start hs (t .rises);
     }
 
 -- ---- demand 3
 
 pub demand-three : DemandThree
-demand-three = record { sweeps = sweep-claim; files = file-claim }
+demand-three = record { sweeps = sweep-claim; climbs = climb-claim; files = file-claim }

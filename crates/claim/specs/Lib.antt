@@ -1,6 +1,7 @@
 -- Demand 3.
 pub mod Claim
 pub mod ClaimLaws
-pub mod FileLaws
+pub mod FileClaim
 pub mod RunLaws
-pub mod Run
+pub mod WorkedRun
+pub mod FileLaws

@@ -30,7 +30,8 @@ module _ (n : ℕ) (ends : List ℕ) (j : ℕ) where
 
     pub part-there : j < length ends → s < e → 2 * e ≤ n → (2 * s ≡ firstOf n ends j) × (2 * (e - s) ≡ spanOf n ends j)
     part-there l h w =
-        let t : spanOf n ends j ≡ 2 * (ownEnd ends j - priorEnd ends j) = span-there n ends j (record { there = l; rises = omega arith; within = omega arith }) in
+        let t : spanOf n ends j ≡ 2 * (ownEnd ends j - priorEnd ends j) =
+        span-there n ends j (record { there = l; rises = omega arith; within = omega arith }) in
         (omega (arith, first-there n ends j (omega arith)), omega arith)
 
 -- the part that `contour` returns

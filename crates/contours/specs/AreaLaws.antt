@@ -1,4 +1,5 @@
--- What Area promises: it refuses exactly if a listed condition holds, at the least place; its answer is at most 98,304 times the largest cross product; a run without points has area 0; points in range, and contours of such, are never refused.
+-- What Area promises: it refuses exactly if a listed condition holds, at the least place; its answer is at most 98,304 times the largest cross product; a run
+-- without points has area 0; points in range, and contours of such, are never refused.
 use Prim.Native.Nat.{ℕ, zero, suc, _+_, _*_, _/_, _%_, _≤_, _<_}
 use mathlib.Core.Path.{_≡_, refl, sym, ap, _∙_, subst}
 use mathlib.Core.Bool.{Bool, true, false, not, cond}
@@ -12,15 +13,15 @@ use lib.IntN.{ℤ, pos, natAbs, _+ℤ_, _-ℤ_, _*ℤ_}
 use Rattle.laws.specs.Booleans.{and-parts, and-of, split-lt}
 use Rattle.laws.specs.Integers.{abs-add, abs-sub, abs-mul}
 use Rattle.mesh.specs.Corners.{largest}
-use Rattle.mesh.specs.Refusals.{verdict}
-use Rattle.mesh.specs.RefusalLaws.{First, None, more, done, first-refused, refused-first, none-fine, fine-none}
+use Rattle.mesh.specs.Operation.{gives, refuses}
+use Rattle.mesh.specs.OperationLaws.{First, None, more, done, fine-none, Recovers, recovered, given-verdict, refused-exactly, given-exactly, only-outcome}
+use Rattle.mesh.specs.Refusals.{Told}
+use Rattle.mesh.specs.RefusalLaws.{refusalOf, refusal-once}
 use Rattle.mesh.specs.Tests.{outOfRange}
 use Rattle.mesh.specs.TestLaws.{in-range}
-use Rattle.mesh.specs.declared.Refusal.{Refusal}
-use Rattle.mesh.specs.declared.Verdict.{Verdict}
-use Rattle.mesh.specs.declared.Verdict.the-variants.{Fine, Refused}
+use Rattle.contours.specs.declared.Measured.{Measured}
 use Rattle.contours.specs.declared.Measured.the-variants.{Area, Refused as Turned}
-use Rattle.contours.specs.Areas.{mostPoints, pointCount, xOf, yOf, crossOf, nextPoint, sumOf, areaOf, runFits, refusals, answer, measureOf}
+use Rattle.contours.specs.Areas.{mostPoints, pointCount, xOf, yOf, crossOf, nextPoint, sumOf, areaOf, runFits, measuring, tellArea, Measures}
 use Rattle.contours.specs.Contours.{priorEnd, ownEnd, spanOf, contourOf}
 use Rattle.contours.specs.ContourLaws.{span-there, span-contour, span-even, length-contour, contour-at}
 use Rattle.contours.specs.Runs.{largestCross, Run}
@@ -54,14 +55,19 @@ unfolding nextPoint
 next-round n i e = ap (λ (b : Bool). cond b 0 (i + 1)) (eq-eqb (i + 1) n e)
 
 -- the crosses of neighbours, and that of the last and the first
-pub area-closed : (points : List ℤ) (last : ℕ) → last + 1 ≡ pointCount points → sumOf last (λ i. crossOf points i (i + 1)) +ℤ crossOf points last 0 ≡ areaOf points
+pub area-closed : (points : List ℤ) (last : ℕ) → last + 1 ≡ pointCount points
+    → sumOf last (λ i. crossOf points i (i + 1)) +ℤ crossOf points last 0 ≡ areaOf points
 unfolding areaOf sumOf
 area-closed points last e =
-    (λ i. sum-same last (λ k. crossOf points k (k + 1)) f (λ k l. ap (crossOf points k) (sym (next-on (pointCount points) k (omega arith)))) i +ℤ crossOf points last (sym (next-round (pointCount points) last e) i))
+    (λ i. neighbours i +ℤ crossOf points last (sym (next-round (pointCount points) last e) i))
     ∙ ap (λ (n : ℕ). sumOf n f) count
   where
     f : ℕ → ℤ
     f i = crossOf points i (nextPoint (pointCount points) i)
+
+    neighbours : sumOf last (λ k. crossOf points k (k + 1)) ≡ sumOf last f
+    neighbours =
+        sum-same last (λ k. crossOf points k (k + 1)) f (λ k l. ap (crossOf points k) (sym (next-on (pointCount points) k (omega arith))))
 
     count : suc last ≡ pointCount points
     count = omega arith
@@ -84,7 +90,8 @@ pub run-bound : (points : List ℤ) → Run points → natAbs (areaOf points) �
 unfolding areaOf
 run-bound points r =
     let n = pointCount points in
-    le-trans (sum-bound n largestCross (λ i. crossOf points i (nextPoint n i)) (λ i l. cross-bound points r i (nextPoint n i))) (mul-le-mul-right largestCross (r .few))
+    le-trans (sum-bound n largestCross (λ i. crossOf points i (nextPoint n i)) (λ i l. cross-bound points r i (nextPoint n i)))
+    (mul-le-mul-right largestCross (r .few))
 
 -- what the tests say of a run, and what passes them
 pub fits-parts : (n : ℕ) → runFits n ≡ true → (n % 2 ≡ 0) × (n / 2 ≤ mostPoints)
@@ -99,7 +106,7 @@ range-passed : (points : List ℤ) (i : ℕ) → natAbs (getD points i (pos 0)) 
 unfolding outOfRange
 range-passed points i h = le-ltb largest (natAbs (getD points i (pos 0))) h
 
-pub run-of : (points : List ℤ) → None (refusals points) → Run points
+pub run-of : (points : List ℤ) → None (measuring points .refusals) → Run points
 run-of points (more s (more r done)) =
     let p = fits-parts (length points) (not-false _ (s 0 (omega arith))) in
     record {
@@ -111,7 +118,7 @@ run-of points (more s (more r done)) =
           (split-lt i (length points));
     }
 
-pub none-of : (points : List ℤ) → Run points → None (refusals points)
+pub none-of : (points : List ℤ) → Run points → None (measuring points .refusals)
 none-of points r =
     more (λ i l. ap not (fits-of (length points) (r .even) (r .few)))
     (more (λ i l. range-passed points i (r .ranged i)) done)
@@ -142,42 +149,31 @@ contour-run points ends j few ranged =
 
 -- ---- Area
 
--- what an answer says of the verdict
-pub turned-refused : (v : Verdict) (a : ℤ) (r : Refusal) → answer v a ≡ Turned r → v ≡ Refused r
-unfolding answer
-turned-refused Fine a r e = absurd (let z : _≡_ {A = ℕ} 0 1 = cc in omega arith)
-turned-refused (Refused q) a r e = cc
+pub area-recovers : Recovers tellArea
+area-recovers = record {
+  back = elim [ gives a ↦ Area a | refuses r ↦ Turned (refusalOf r) ];
+  once = elim [ Area a ↦ refl | Turned r ↦ ap Turned (refusal-once r) ];
+}
 
-pub area-fine : (v : Verdict) (a b : ℤ) → answer v a ≡ Area b → (v ≡ Fine) × (a ≡ b)
-unfolding answer
-area-fine Fine a b e = (refl, cc)
-area-fine (Refused q) a b e = absurd (let z : _≡_ {A = ℕ} 0 1 = cc in omega arith)
+module _ {points : List ℤ} {result : Measured} (d : Measures points result) where
+  -- refused exactly if a listed condition holds, the first that fits, at the least place; measured exactly if none does; and one answer only
+  pub area-refused : (r : Told) → (tellArea result ≡ refuses r) ↔ First (measuring points .refusals) r
+  area-refused = refused-exactly d
 
-module _ (points : List ℤ) where
-  -- refused exactly if a listed condition holds, the first that fits, at the least place
-  pub refused-exactly : (r : Refusal) → (measureOf points ≡ Turned r) ↔ First (refusals points) r
-  unfolding answer
-  refused-exactly r = (
-    (λ e. refused-first (refusals points) r (turned-refused (verdict (refusals points)) (areaOf points) r e)),
-    (λ f. ap (λ (v : Verdict). answer v (areaOf points)) (first-refused (refusals points) r f)),
-  )
+  pub area-given : (tellArea result ≡ gives (areaOf points)) ↔ None (measuring points .refusals)
+  area-given = given-exactly d
 
-  -- measured exactly if none holds
-  pub measured-exactly : (measureOf points ≡ Area (areaOf points)) ↔ None (refusals points)
-  unfolding answer
-  measured-exactly = (
-    (λ e. fine-none (refusals points) (area-fine (verdict (refusals points)) (areaOf points) (areaOf points) e .0)),
-    (λ n. ap (λ (v : Verdict). answer v (areaOf points)) (none-fine (refusals points) n)),
-  )
+  pub area-only : {other : Measured} → Measures points other → result ≡ other
+  area-only e = only-outcome area-recovers d e .0
 
-  pub run-measured : Run points → measureOf points ≡ Area (areaOf points)
-  run-measured r = measured-exactly .1 (none-of points r)
+  pub run-measured : Run points → result ≡ Area (areaOf points)
+  run-measured r = recovered area-recovers (area-given .1 (none-of points r))
 
   -- an area that is answered is the area, and at most 98,304 × 2 × 2 ^ 40
-  pub area-is : (a : ℤ) → measureOf points ≡ Area a → a ≡ areaOf points
-  area-is a e = sym (area-fine (verdict (refusals points)) (areaOf points) a e .1)
+  pub area-is : (a : ℤ) → result ≡ Area a → a ≡ areaOf points
+  area-is a e = given-verdict d (ap tellArea e) .1
 
-  pub area-bound : (a : ℤ) → measureOf points ≡ Area a → natAbs a ≤ mostPoints * largestCross
+  pub area-bound : (a : ℤ) → result ≡ Area a → natAbs a ≤ mostPoints * largestCross
   area-bound a e =
-      let f = area-fine (verdict (refusals points)) (areaOf points) a e in
-      subst (λ (z : ℤ). natAbs z ≤ mostPoints * largestCross) (f .1) (run-bound points (run-of points (fine-none (refusals points) (f .0))))
+      let f = given-verdict d (ap tellArea e) in
+      rw (f .1) (run-bound points (run-of points (fine-none (measuring points .refusals) (f .0))))

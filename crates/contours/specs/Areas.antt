@@ -1,28 +1,29 @@
 -- "Area" of document 01: the doubled signed area of a run of points (two numbers for each, x and y), its refusals in order, and what is answered.
-use Prim.Native.Nat.{ℕ, zero, suc, _+_, _*_, _/_, _%_}
-use mathlib.Core.Bool.{Bool, not, cond, _&&_}
+use Prim.Native.Nat.{ℕ, zero, suc, _+_, _*_, _/_}
+use mathlib.Core.Bool.{not, cond}
 use mathlib.Core.List.{List, [], _∷_}
-use lib.Dec.{leb, eqb}
+use lib.Dec.{eqb}
 use lib.ListN.{length, getD}
 use lib.IntN.{ℤ, pos, _+ℤ_, _-ℤ_, _*ℤ_}
-pub use Rattle.mesh.specs.Corners.{mostPoints}
-use Rattle.mesh.specs.Refusals.{Condition, whole, verdict}
+pub use Rattle.polygons.specs.Flat.{mostPoints}
+unfoldable pub use Rattle.polygons.specs.Flat.{runFits}
+use Rattle.mesh.specs.Operation.{Answer, gives, refuses, Condition, whole, Operation, Does}
+use Rattle.mesh.specs.Refusals.{Told, refusal, toldOf}
 use Rattle.mesh.specs.Tests.{range}
-use Rattle.mesh.specs.declared.Refusal.the-variants.{Size}
-use Rattle.mesh.specs.declared.Verdict.{Verdict}
-use Rattle.mesh.specs.declared.Verdict.the-variants.{Fine, Refused}
 use Rattle.contours.specs.declared.Measured.{Measured}
 use Rattle.contours.specs.declared.Measured.the-variants.{Area, Refused as Turned}
 
 -- ---- the area
 
+-- the number of points of a run
 abbrev pub pointCount : List ℤ → ℕ
 pointCount points = length points / 2
 
--- x and y of point i
+-- x of point i; i is below the number of points wherever it is asked, so the default 0 is never met
 abbrev pub xOf : List ℤ → ℕ → ℤ
 xOf points i = getD points (2 * i) (pos 0)
 
+-- y of point i, likewise
 abbrev pub yOf : List ℤ → ℕ → ℤ
 yOf points i = getD points (2 * i + 1) (pos 0)
 
@@ -43,25 +44,23 @@ sumOf (suc n) f = sumOf n f +ℤ f n
 unfoldable pub areaOf : List ℤ → ℤ
 areaOf points = sumOf (pointCount points) (λ i. crossOf points i (nextPoint (pointCount points) i))
 
--- ---- 1: odd length or more than 98,304 points, place 0
+-- ---- its refusals
 
-unfoldable pub runFits : ℕ → Bool
-runFits n = eqb (n % 2) 0 && leb (n / 2) mostPoints
+-- 1: odd length or more than 98,304 points, place 0
+abbrev pub run : List ℤ → Condition Told
+run points = whole (refusal 1) (not (runFits (length points)))
 
-abbrev pub run : List ℤ → Condition
-run points = whole Size (not (runFits (length points)))
+-- ---- Area as a whole
 
--- ---- the refusals in order: 1, and 2, a number out of coordinate range
+-- its refusals in order: 1, and 2, a number out of coordinate range; its value; it is lent no table
+abbrev pub measuring : List ℤ → Operation Told ℤ Unit
+measuring points = record { refusals = run points ∷ range points ∷ []; values = areaOf points; leaves = λ v. tt }
 
-abbrev pub refusals : List ℤ → List Condition
-refusals points = run points ∷ range points ∷ []
+-- what its answer says
+abbrev pub tellArea : Measured → Answer Told ℤ
+tellArea (Area a) = gives a
+tellArea (Turned r) = refuses (toldOf r)
 
--- ---- the answer
-
-unfoldable pub answer : Verdict → ℤ → Measured
-answer Fine a = Area a
-answer (Refused r) a = Turned r
-
--- Area as a whole
-abbrev pub measureOf : List ℤ → Measured
-measureOf points = answer (verdict (refusals points)) (areaOf points)
+-- the contract of Area
+abbrev pub Measures : List ℤ → Measured → Type 0
+Measures points result = Does measuring tellArea points result tt

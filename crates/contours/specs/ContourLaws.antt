@@ -94,14 +94,17 @@ module _ (points : List ℤ) (ends : List ℕ) (j : ℕ) where
       ∙ ap (λ (k : ℕ). getD points (k + i) d) (first-there (length points) ends j (omega arith))
 
   -- from the previous end to its own
-  pub contour-is : isContour (length points) ends j ≡ true → contourOf points ends j ≡ take (2 * (ownEnd ends j - priorEnd ends j)) (drop (2 * priorEnd ends j) points)
+  pub contour-is : isContour (length points) ends j ≡ true
+      → contourOf points ends j ≡ take (2 * (ownEnd ends j - priorEnd ends j)) (drop (2 * priorEnd ends j) points)
   unfolding contourOf
   contour-is e = by (spanOf (length points) ends j) refl
     where
       s : spanOf (length points) ends j ≡ 2 * (ownEnd ends j - priorEnd ends j)
       s = span-there (length points) ends j (contour-parts (length points) ends j e)
 
-      by : (k : ℕ) → spanOf (length points) ends j ≡ k → take (spanOf (length points) ends j) (drop (firstOf (length points) ends j) points) ≡ take (2 * (ownEnd ends j - priorEnd ends j)) (drop (2 * priorEnd ends j) points)
+      by : (k : ℕ) → spanOf (length points) ends j ≡ k
+          → take (spanOf (length points) ends j) (drop (firstOf (length points) ends j) points)
+          ≡ take (2 * (ownEnd ends j - priorEnd ends j)) (drop (2 * priorEnd ends j) points)
       by zero q =
           ap (λ (k : ℕ). take k (drop (firstOf (length points) ends j) points)) q
           ∙ sym (ap (λ (k : ℕ). take k (drop (2 * priorEnd ends j) points)) (sym s ∙ q))

@@ -6,12 +6,12 @@ use lib.Dec.{ltb, leb}
 use lib.ListN.{length, getD, take, drop}
 use lib.IntN.{ℤ}
 
--- the previous end, 0 for the first contour
+-- the previous end, 0 for the first contour; where j has no end it decides nothing, since `isContour` asks for that first
 unfoldable pub priorEnd : List ℕ → ℕ → ℕ
 priorEnd ends zero = 0
 priorEnd ends (suc j) = getD ends j 0
 
--- its own end
+-- its own end, likewise
 abbrev pub ownEnd : List ℕ → ℕ → ℕ
 ownEnd ends j = getD ends j 0
 

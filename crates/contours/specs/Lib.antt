@@ -4,4 +4,7 @@ pub mod ContourLaws
 pub mod Areas
 pub mod Runs
 pub mod AreaLaws
+pub mod PolygonLaws
+pub mod ContourAreas
+pub mod ContourAreaLaws
 pub mod Worked

@@ -1,4 +1,4 @@
--- Internal: a run of points that Area does not refuse, and how large its cross products are, for functions that are handed tested points.
+-- A run of points that Area does not refuse, and how large a cross product of its points can be.
 use Prim.Native.Nat.{ℕ, _*_, _%_, _≤_}
 use mathlib.Core.Path.{_≡_}
 use mathlib.Core.List.{List}
@@ -15,4 +15,5 @@ largestCross = 2 * (largest * largest)
 pub record Run (points : List ℤ) : Type 0 where
   pub even : length points % 2 ≡ 0
   pub few : pointCount points ≤ mostPoints
+  -- past the end the default 0 is in range, so that this says no more than it does within
   pub ranged : (i : ℕ) → natAbs (getD points i (pos 0)) ≤ largest

@@ -4,11 +4,12 @@ use mathlib.Core.List.{List, [], _∷_}
 use Prim.Native.Nat.{ℕ}
 use lib.IntN.{ℤ, pos, negsuc}
 use Rattle.laws.specs.Least.{least, some}
-use Rattle.mesh.specs.Refusals.{test, _then_, verdict}
+use Rattle.mesh.specs.Operation.{Answer, gives, refuses, test, _then_, verdict, answerOf}
+use Rattle.mesh.specs.Refusals.{refusal}
 use Rattle.mesh.specs.Tests.{outOfRange}
-use Rattle.mesh.specs.declared.Refusal.the-variants.{Size, Range}
-use Rattle.contours.specs.declared.Measured.the-variants.{Area, Refused as Turned}
-use Rattle.contours.specs.Areas.{crossOf, nextPoint, sumOf, areaOf, runFits, answer, measureOf}
+use Rattle.polygons.specs.Flat.{pointsIn}
+use Rattle.contours.specs.ContourAreas.{crossPoints, areaFrom, contourArea}
+use Rattle.contours.specs.Areas.{crossOf, nextPoint, sumOf, areaOf, runFits, measuring}
 use Rattle.contours.specs.Contours.{priorEnd, isContour, spanOf, firstOf, contourOf}
 
 -- ---- areas
@@ -17,18 +18,23 @@ use Rattle.contours.specs.Contours.{priorEnd, isContour, spanOf, firstOf
 abbrev five : List ℤ
 five = pos 5 ∷ pos 0 ∷ pos 0 ∷ pos 5 ∷ pos 0 ∷ pos 0 ∷ []
 
-at-five : measureOf five ≡ Area (pos 25)
-unfolding answer verdict _then_ test some least runFits outOfRange areaOf sumOf crossOf nextPoint
+at-five : answerOf (measuring five) ≡ gives (pos 25)
+unfolding verdict _then_ test some least runFits outOfRange areaOf sumOf crossOf nextPoint
 at-five = refl
 
+-- the same contour point by point
+five-points : contourArea (pointsIn five) ≡ pos 25
+unfolding pointsIn contourArea areaFrom crossPoints
+five-points = refl
+
 -- P at height 10: three times (0,0)
-at-ten : measureOf (pos 0 ∷ pos 0 ∷ pos 0 ∷ pos 0 ∷ pos 0 ∷ pos 0 ∷ []) ≡ Area (pos 0)
-unfolding answer verdict _then_ test some least runFits outOfRange areaOf sumOf crossOf nextPoint
+at-ten : answerOf (measuring (pos 0 ∷ pos 0 ∷ pos 0 ∷ pos 0 ∷ pos 0 ∷ pos 0 ∷ [])) ≡ gives (pos 0)
+unfolding verdict _then_ test some least runFits outOfRange areaOf sumOf crossOf nextPoint
 at-ten = refl
 
 -- no points
-no-points : measureOf [] ≡ Area (pos 0)
-unfolding answer verdict _then_ test some least runFits areaOf sumOf
+no-points : answerOf (measuring []) ≡ gives (pos 0)
+unfolding verdict _then_ test some least runFits areaOf sumOf
 no-points = refl
 
 -- the other way round
@@ -37,17 +43,17 @@ unfolding areaOf sumOf crossOf nextPoint
 turned-round = refl
 
 -- odd length
-odd : measureOf (pos 5 ∷ []) ≡ Turned (Size 0)
-unfolding answer verdict _then_ test some least runFits
+odd : answerOf (measuring (pos 5 ∷ [])) ≡ refuses (refusal 1 0)
+unfolding verdict _then_ test some least runFits
 odd = refl
 
 -- the largest coordinate passes, one more does not
-largest-passes : measureOf (pos 0 ∷ pos 1048576 ∷ []) ≡ Area (pos 0)
-unfolding answer verdict _then_ test some least runFits outOfRange areaOf sumOf crossOf nextPoint
+largest-passes : answerOf (measuring (pos 0 ∷ pos 1048576 ∷ [])) ≡ gives (pos 0)
+unfolding verdict _then_ test some least runFits outOfRange areaOf sumOf crossOf nextPoint
 largest-passes = refl
 
-too-large : measureOf (pos 0 ∷ negsuc 1048576 ∷ []) ≡ Turned (Range 1)
-unfolding answer verdict _then_ test some least runFits outOfRange
+too-large : answerOf (measuring (pos 0 ∷ negsuc 1048576 ∷ [])) ≡ refuses (refusal 2 1)
+unfolding verdict _then_ test some least runFits outOfRange
 too-large = refl
 
 -- ---- contours

@@ -1,4 +1,4 @@
-// Internal: the area of points that were tested.
+// The doubled area of points that the tests have passed, and the cross product of two of them.
 ghost use mathlib.Core.Path.{_≡_};
 ghost use Prim.Native.Nat.{_≤_};
 ghost use lib.IntN.{natAbs, _-ℤ_, _*ℤ_};
@@ -17,7 +17,7 @@ fn cross(x: i32, y: i32, u: i32, v: i32) -> i64
 // The doubled signed area of points that Area does not refuse.
 pub fn doubled_area(points: &[i32]) -> i64
     requires { ⌜ Run (now points) ⌝ }
-    ensures { λ r. ⌜ r ≡ areaOf (now (points .entry)) ⌝ }
+    ensures { λ r. ⌜ r ≡ areaOf (points .entry .now) ⌝ }
 {
     if points.len() == 0 {
         return 0;

@@ -2,8 +2,9 @@
 ghost use mathlib.Core.Path.{_≡_};
 ghost use Prim.Native.Nat.{_<_};
 ghost use lib.ListN.{length};
-ghost use Rattle.mesh.specs.Refusals.{test, verdict};
-ghost use Rattle.contours.specs.Areas.{run, refusals, measureOf};
+ghost use Rattle.mesh.specs.Operation.{test, verdict};
+ghost use Rattle.mesh.specs.Refusals.{tellVerdict};
+ghost use Rattle.contours.specs.Areas.{run, measuring, Measures};
 ghost use Rattle.contours.specs.Contours.{priorEnd, firstOf, spanOf, contourOf};
 use crate::internal::doubled_area;
 use mesh::Refusal;
@@ -28,7 +29,7 @@ pub enum Measured {
 // The end before that of contour j.
 fn prior_end(ends: &[u32], j: usize) -> usize
     requires { ⌜ j < length (now ends) ⌝ }
-    ensures { λ r. ⌜ r ≡ priorEnd (now (ends .entry)) j ⌝ }
+    ensures { λ r. ⌜ r ≡ priorEnd (ends .entry .now) j ⌝ }
 {
     if j == 0 {
         return 0;
@@ -39,7 +40,7 @@ fn prior_end(ends: &[u32], j: usize) -> usize
 
 // Where contour j lies in a table of so many numbers.
 pub fn part_of(numbers: usize, ends: &[u32], j: usize) -> Part
-    ensures { λ r. ⌜ (r .first ≡ firstOf numbers (now (ends .entry)) j) × (r .length ≡ spanOf numbers (now (ends .entry)) j) ⌝ }
+    ensures { λ r. ⌜ (r .first ≡ firstOf numbers (ends .entry .now) j) × (r .length ≡ spanOf numbers (ends .entry .now) j) ⌝ }
 {
     if ends.len() <= j {
         return Part {
@@ -70,7 +71,7 @@ pub fn part_of(numbers: usize, ends: &[u32], j: usize) -> Part
 
 // Contour j, a part of the points; the empty part where there is none.
 pub fn contour<'a>(points: &'a [i32], ends: &[u32], j: usize) -> &'a [i32]
-    ensures { λ r. ⌜ now r ≡ contourOf (now (points .entry)) (now (ends .entry)) j ⌝ }
+    ensures { λ r. ⌜ now r ≡ contourOf (points .entry .now) (ends .entry .now) j ⌝ }
 {
     let part = part_of(points.len(), ends, j);
     let first = part.first;
@@ -80,7 +81,7 @@ pub fn contour<'a>(points: &'a [i32], ends: &[u32], j: usize) -> &'a [i32]
 
 // Refusal 1.
 fn run_test(points: &[i32]) -> Verdict
-    ensures { λ r. ⌜ r ≡ test (run (now (points .entry))) ⌝ }
+    ensures { λ r. ⌜ tellVerdict r ≡ test (run (points .entry .now)) ⌝ }
 {
     if points.len() % 2 != 0 {
         return Verdict::Refused(Refusal::Size(0));
@@ -93,7 +94,7 @@ fn run_test(points: &[i32]) -> Verdict
 
 // Refusals 1 and 2.
 fn points_test(points: &[i32]) -> Verdict
-    ensures { λ r. ⌜ r ≡ verdict (refusals (now (points .entry))) ⌝ }
+    ensures { λ r. ⌜ tellVerdict r ≡ verdict (measuring (points .entry .now) .refusals) ⌝ }
 {
     let a = run_test(points);
     if let Verdict::Refused(_) = a {
@@ -104,7 +105,7 @@ fn points_test(points: &[i32]) -> Verdict
 
 // The doubled signed area of a run of points, closed round.
 pub fn area(points: &[i32]) -> Measured
-    ensures { λ r. ⌜ r ≡ measureOf (now (points .entry)) ⌝ }
+    ensures { λ r. ⌜ Measures (points .entry .now) r ⌝ }
 {
     let a = points_test(points);
     if let Verdict::Refused(r) = a {

@@ -1,6 +1,6 @@
--- The layer of a height: its ring table, and the verdict of all tests.
+-- Cut put together: what the tests of the tables establish, and its answer and tables at each return.
 use Prim.Native.Nat.{ℕ}
-use mathlib.Core.Path.{_≡_, refl, sym, ap, _∙_, subst}
+use mathlib.Core.Path.{_≡_, refl, sym, _∙_}
 use mathlib.Core.Bool.{false}
 use mathlib.Core.List.{List, [], _∷_}
 use native.Mathlib.Omega.{arith}
@@ -9,60 +9,44 @@ use lib.ListN.{length}
 use lib.IntN.{ℤ}
 use mir.Syntax.{w32}
 use mir.Val.{toZ, ofZ}
-use Rattle.mesh.specs.Refusals.{verdict}
-use Rattle.mesh.specs.RefusalLaws.{None, more, done, fine-none, join-stop, join-next, refused-every}
+use Rattle.mesh.specs.Meshes.{PairedMesh}
+use Rattle.mesh.specs.Operation.{Condition, Finding, refuses, fine, verdict}
+use Rattle.mesh.specs.OperationLaws.{None, more, done, fine-none, join-stop, join-next, refused-every, does-refuse, does-last}
+use Rattle.mesh.specs.Refusals.{Told, numbered, toldOf}
 use Rattle.mesh.specs.declared.Refusal.{Refusal}
-use Rattle.mesh.specs.declared.Verdict.{Verdict}
-use Rattle.mesh.specs.declared.Verdict.the-variants.{Fine, Refused}
 use Rattle.section.specs.Section.{Right}
 use Rattle.section.specs.RightLaws.{right-of}
 use Rattle.cutter.specs.declared.Sliced.{Sliced}
 use Rattle.cutter.specs.declared.Sliced.the-variants.{Refused as Turned}
-use Rattle.cutter.specs.Cut.{tests, used, section, contoursOf, refusals, answer, cleared, Leaves, Cuts}
+use Rattle.cutter.specs.Cut.{CutTables, lengthsOf, tests, used, section, contoursOf, Cuts}
 use Rattle.cutter.specs.Outlines.{Long, Traces}
-use Rattle.cutter.specs.OutlineLaws.{room-long, kept}
+use Rattle.cutter.specs.OutlineLaws.{room-long, layer-kept}
 
 -- a signed argument as the code holds it
 abbrev pub held : ℤ → ℤ
 held z = toZ w32 (ofZ w32 z)
 
--- ---- Cut
+module _ (m : PairedMesh) (h : ℤ) (t : CutTables) {f : Finding Told} (e : f ≡ verdict (tests m (lengthsOf t))) where
+  abbrev last : List (Condition Told)
+  last = used (length (m .mesh .corners)) (section m h) ∷ []
 
-module _ (coords : List ℤ) (corners pairing : List ℕ) (h : ℤ) (names : List ℕ) (points : List ℤ) (ends marks : List ℕ) (v : Verdict)
-    (is : v ≡ verdict (tests coords corners pairing (length names) (length points) (length ends) (length marks))) where
   -- what passing the tests gives
-  pub passed : v ≡ Fine → Right coords corners pairing × Long (length corners) (length names) (length points) (length ends) (length marks)
-  passed e = go (fine-none (tests coords corners pairing (length names) (length points) (length ends) (length marks)) (sym is ∙ e))
+  pub passed : f ≡ fine → Right m × Long (length (m .mesh .corners)) (lengthsOf t)
+  passed g = go (fine-none (tests m (lengthsOf t)) (sym e ∙ g))
     where
-      go : None (tests coords corners pairing (length names) (length points) (length ends) (length marks))
-          → Right coords corners pairing × Long (length corners) (length names) (length points) (length ends) (length marks)
-      go (more s (more m (more r (more x (more t (more p done)))))) = (
-        right-of coords corners pairing (not-false _ (s 0 (omega arith))) r x t p,
-        room-long (length corners) (length names) (length points) (length ends) (length marks) (not-false _ (m 0 (omega arith))),
-      )
+      go : None (tests m (lengthsOf t)) → Right m × Long (length (m .mesh .corners)) (lengthsOf t)
+      go (more s (more l (more r (more v (more k (more p done)))))) =
+          (right-of m (not-false _ (s 0 (omega arith))) r v k p, room-long (length (m .mesh .corners)) (lengthsOf t) (not-false _ (l 0 (omega arith))))
 
   -- a test refuses
-  pub cuts-refused : (r : Refusal) → v ≡ Refused r → Cuts coords corners pairing h names points ends marks (Turned r) names points ends marks
-  unfolding answer
-  cuts-refused r e =
-      let a : Refused r ≡ verdict (refusals coords corners pairing h (length names) (length points) (length ends) (length marks)) = sym e ∙ join-stop (tests coords corners pairing (length names) (length points) (length ends) (length marks)) (used (length corners) (section coords corners pairing h) ∷ []) is e in
-      record {
-        answers = ap (λ (u : Verdict). answer u (contoursOf (section coords corners pairing h))) a;
-        leaves = record { names-are = kept _ _ _ a other; points-are = kept _ _ _ a other; ends-are = kept _ _ _ a other; marks-are = kept _ _ _ a other };
-      }
+  pub cuts-refused : {r : Refusal} → f ≡ refuses (toldOf r) → Cuts m h t (Turned r) t
+  cuts-refused {r} g = does-refuse (join-stop (tests m (lengthsOf t)) last e g) g refl (layer-kept (m .mesh) h (contoursOf (section m h)) t (toldOf r) other)
     where
-      other : cleared r ≡ false
+      other : numbered (16 ∷ []) (toldOf r) ≡ false
       other =
-          refused-every (λ q. cleared q ≡ false) (tests coords corners pairing (length names) (length points) (length ends) (length marks)) r
-          ((λ i. refl), ((λ i. refl), ((λ i. refl), ((λ i. refl), ((λ i. refl), ((λ i. refl), tt)))))) (sym is ∙ e)
+          refused-every (λ q. numbered (16 ∷ []) q ≡ false) (tests m (lengthsOf t)) (toldOf r)
+          ((λ i. refl), ((λ i. refl), ((λ i. refl), ((λ i. refl), ((λ i. refl), ((λ i. refl), tt)))))) (sym e ∙ g)
 
   -- none does
-  pub cuts-traced : {result : Sliced} {names′ : List ℕ} {points′ : List ℤ} {ends′ marks′ : List ℕ} → v ≡ Fine
-      → Traces (section coords corners pairing h) coords corners h names points ends marks result names′ points′ ends′ marks′
-      → Cuts coords corners pairing h names points ends marks result names′ points′ ends′ marks′
-  cuts-traced {result} {names′} {points′} {ends′} {marks′} e s =
-      let a = join-next (tests coords corners pairing (length names) (length points) (length ends) (length marks)) (used (length corners) (section coords corners pairing h) ∷ []) is e refl in
-      record {
-        answers = s .answers ∙ ap (λ (u : Verdict). answer u (contoursOf (section coords corners pairing h))) a;
-        leaves = subst (λ (u : Verdict). Leaves u (contoursOf (section coords corners pairing h)) coords corners h names points ends marks names′ points′ ends′ marks′) a (s .leaves);
-      }
+  pub cuts-traced : {result : Sliced} {t′ : CutTables} → f ≡ fine → Traces (section m h) (m .mesh) h t result t′ → Cuts m h t result t′
+  cuts-traced g d = does-last d (join-next (tests m (lengthsOf t)) last e g refl) refl refl

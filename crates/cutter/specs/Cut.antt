@@ -1,32 +1,51 @@
 -- Cut of document 01: its refusals in order, what it answers, and what it leaves in the four lent tables.
 use Prim.Native.Nat.{ℕ, _*_}
-use mathlib.Core.Path.{_≡_}
-use mathlib.Core.Bool.{Bool, false, not, cond, _&&_}
+use mathlib.Core.Bool.{Bool, false, not, _&&_}
 use mathlib.Core.List.{List, [], _∷_, _++_}
 use lib.Dec.{leb, eqb}
 use lib.ListN.{length, replicate}
 use lib.IntN.{ℤ, pos}
-use Rattle.laws.specs.Tables.{overwrite}
-use Rattle.mesh.specs.Corners.{vertexCount}
-use Rattle.mesh.specs.Refusals.{Condition, whole, verdict, numberOf}
-use Rattle.mesh.specs.Tests.{size, range, vertex, triangle, pairs}
-use Rattle.mesh.specs.declared.Refusal.{Refusal}
-use Rattle.mesh.specs.declared.Refusal.the-variants.{Room, Used}
-use Rattle.mesh.specs.declared.Verdict.{Verdict}
-use Rattle.mesh.specs.declared.Verdict.the-variants.{Fine, Refused}
+use Rattle.mesh.specs.Meshes.{Mesh, PairedMesh}
+use Rattle.mesh.specs.Operation.{Answer, gives, refuses, Finding, Condition, whole, after, Operation, Does}
+use Rattle.mesh.specs.Refusals.{Told, refusal, numbered, toldOf}
+use Rattle.mesh.specs.Tests.{size}
+use Rattle.tables.specs.MeshTests.{contentTests}
 use Rattle.section.specs.Section.{below}
 use Rattle.section.specs.Contours.{Traced, contours, stuck, namesOf, trace, endsOf}
 use Rattle.points.specs.Points.{pointsOf}
 use Rattle.cutter.specs.declared.Sliced.{Sliced}
 use Rattle.cutter.specs.declared.Sliced.the-variants.{Layer, Refused as Turned}
 
+-- ---- the four lent tables, and their lengths
+
+pub record CutTables : Type 0 where
+  pub names : List ℕ
+  pub points : List ℤ
+  pub ends : List ℕ
+  pub marks : List ℕ
+
+abbrev pub lent : List ℕ → List ℤ → List ℕ → List ℕ → CutTables
+lent names points ends marks = record { names = names; points = points; ends = ends; marks = marks }
+
+pub record Lengths : Type 0 where
+  pub names : ℕ
+  pub points : ℕ
+  pub ends : ℕ
+  pub marks : ℕ
+
+abbrev pub lengths : ℕ → ℕ → ℕ → ℕ → Lengths
+lengths names points ends marks = record { names = names; points = points; ends = ends; marks = marks }
+
+abbrev pub lengthsOf : CutTables → Lengths
+lengthsOf t = lengths (length (t .names)) (length (t .points)) (length (t .ends)) (length (t .marks))
+
 -- ---- 9: names, ends and marks have one entry for each of n corners and points two
 
-unfoldable pub roomFor : ℕ → ℕ → ℕ → ℕ → ℕ → Bool
-roomFor n names points ends marks = leb n names && leb (2 * n) points && leb n ends && leb n marks
+unfoldable pub roomFor : ℕ → Lengths → Bool
+roomFor n l = leb n (l .names) && leb (2 * n) (l .points) && leb n (l .ends) && leb n (l .marks)
 
-abbrev pub room : ℕ → ℕ → ℕ → ℕ → ℕ → Condition
-room n names points ends marks = whole Room (not (roomFor n names points ends marks))
+abbrev pub room : ℕ → Lengths → Condition Told
+room n l = whole (refusal 9) (not (roomFor n l))
 
 -- ---- 16: a walk meets a crossing already used that is not its start, place that crossing
 
@@ -34,65 +53,50 @@ unfoldable pub metAt : Traced → ℕ → Bool
 metAt (contours rs) c = false
 metAt (stuck p) c = eqb c p
 
-abbrev pub used : ℕ → Traced → Condition
-used n traced = record { refusal = Used; places = n; fits = metAt traced }
+abbrev pub used : ℕ → Traced → Condition Told
+used n traced = record { tells = refusal 16; places = n; fits = metAt traced }
 
 -- ---- the layer of height h
 
 -- its contours
-abbrev pub section : List ℤ → List ℕ → List ℕ → ℤ → Traced
-section coords corners pairing h = trace (below coords h) corners pairing
+abbrev pub section : PairedMesh → ℤ → Traced
+section m h = trace (below (m .mesh .coords) h) (m .mesh .corners) (m .pairing)
 
 abbrev pub contoursOf : Traced → List (List ℕ)
 contoursOf (contours rs) = rs
 contoursOf (stuck p) = []
 
--- ---- the refusals in order
+-- the counts of contours and points
+abbrev pub countsOf : List (List ℕ) → ℕ × ℕ
+countsOf rs = (length rs, length (namesOf rs))
 
--- those that tests of the tables find
-abbrev pub tests : List ℤ → List ℕ → List ℕ → ℕ → ℕ → ℕ → ℕ → List Condition
-tests coords corners pairing names points ends marks =
-    size coords corners
-    ∷ room (length corners) names points ends marks
-    ∷ range coords
-    ∷ vertex (vertexCount coords) corners
-    ∷ triangle corners
-    ∷ pairs corners pairing
-    ∷ []
+-- names, points and ends of the contours rs, and marks zero in one entry for each corner; after 16 zeros in all entries asked for under 9
+abbrev pub layerTables : Mesh → ℤ → List (List ℕ) → CutTables → Finding Told → CutTables
+layerTables m h rs t f =
+    let n = length (m .corners) in
+    lent
+    (after (numbered (16 ∷ [])) f (namesOf rs) n 0 (t .names))
+    (after (numbered (16 ∷ [])) f (pointsOf m h (namesOf rs)) (2 * n) (pos 0) (t .points))
+    (after (numbered (16 ∷ [])) f (endsOf rs) n 0 (t .ends))
+    (after (numbered (16 ∷ [])) f (replicate n 0) n 0 (t .marks))
 
-abbrev pub refusals : List ℤ → List ℕ → List ℕ → ℤ → ℕ → ℕ → ℕ → ℕ → List Condition
-refusals coords corners pairing h names points ends marks =
-    tests coords corners pairing names points ends marks ++ (used (length corners) (section coords corners pairing h) ∷ [])
+-- ---- Cut as a whole
 
--- ---- the answer
+-- the refusals that tests of the tables find: 1, 9, 2, 3, 4 and 7
+abbrev pub tests : PairedMesh → Lengths → List (Condition Told)
+tests m l = size (m .mesh) ∷ room (length (m .mesh .corners)) l ∷ contentTests m
 
--- the counts of contours and points, or the refusal
-unfoldable pub answer : Verdict → List (List ℕ) → Sliced
-answer Fine rs = Layer (length rs) (length (namesOf rs))
-answer (Refused r) rs = Turned r
+abbrev pub cutting : PairedMesh × ℤ × CutTables → Operation Told (ℕ × ℕ) CutTables
+cutting = λ (m, h, t). record {
+  refusals = tests m (lengthsOf t) ++ (used (length (m .mesh .corners)) (section m h) ∷ []);
+  values = countsOf (contoursOf (section m h));
+  leaves = layerTables (m .mesh) h (contoursOf (section m h)) t;
+}
 
--- ---- what is written
+-- what its answer says: the counts of contours and points
+abbrev pub tellCut : Sliced → Answer Told (ℕ × ℕ)
+tellCut (Layer j k) = gives (j, k)
+tellCut (Turned r) = refuses (toldOf r)
 
--- 16 leaves zeros
-abbrev pub cleared : Refusal → Bool
-cleared r = eqb (numberOf r) 16
-
--- a lent table after the call: its first entries filled and unused ones as before; after 16 zero in the n entries asked for; after other refusals as before
-unfoldable pub after : {A : Type 0} → Verdict → List A → ℕ → A → List A → List A
-after Fine filled n zero table = overwrite filled table
-after (Refused r) filled n zero table = cond (cleared r) (overwrite (replicate n zero) table) table
-
--- what Layer shares with Cut: an answer and four tables by a verdict and the contours
-pub record Leaves (v : Verdict) (rs : List (List ℕ)) (coords : List ℤ) (corners : List ℕ) (h : ℤ) (names : List ℕ) (points : List ℤ) (ends marks : List ℕ)
-    (names′ : List ℕ) (points′ : List ℤ) (ends′ marks′ : List ℕ) : Type 0 where
-  pub names-are : names′ ≡ after v (namesOf rs) (length corners) 0 names
-  pub points-are : points′ ≡ after v (pointsOf coords corners h (namesOf rs)) (2 * length corners) (pos 0) points
-  pub ends-are : ends′ ≡ after v (endsOf rs) (length corners) 0 ends
-  pub marks-are : marks′ ≡ after v (replicate (length corners) 0) (length corners) 0 marks
-
--- Cut as a whole: its answer and the four tables at exit
-pub record Cuts (coords : List ℤ) (corners pairing : List ℕ) (h : ℤ) (names : List ℕ) (points : List ℤ) (ends marks : List ℕ)
-    (result : Sliced) (names′ : List ℕ) (points′ : List ℤ) (ends′ marks′ : List ℕ) : Type 0 where
-  pub answers : result ≡ answer (verdict (refusals coords corners pairing h (length names) (length points) (length ends) (length marks))) (contoursOf (section coords corners pairing h))
-  pub leaves : Leaves (verdict (refusals coords corners pairing h (length names) (length points) (length ends) (length marks))) (contoursOf (section coords corners pairing h))
-      coords corners h names points ends marks names′ points′ ends′ marks′
+abbrev pub Cuts : PairedMesh → ℤ → CutTables → Sliced → CutTables → Type 0
+Cuts m h t result t′ = Does cutting tellCut (m, h, t) result t′

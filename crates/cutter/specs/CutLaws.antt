@@ -1,7 +1,7 @@
 -- What Cut promises: it refuses exactly if a listed condition holds, at the least place; and what it gives is the layer: closed contours of every
 -- crossing once, solid on the left, with points in coordinate range and at most half a unit from the exact crossing.
 use Prim.Native.Nat.{ℕ, _*_, _<_, _≤_}
-use mathlib.Core.Path.{_≡_, refl, sym, ap, _∙_}
+use mathlib.Core.Path.{_≡_, refl, sym, ap, _∙_, subst}
 use mathlib.Core.List.{List}
 use mathlib.Core.Logic.{_↔_}
 use native.Mathlib.Omega.{arith}
@@ -9,13 +9,16 @@ use native.Mathlib.Decide.{decLt}
 use borrow.Author.Tests.{not-false}
 use lib.ListN.{length, getD, replicate}
 use lib.IntN.{ℤ, pos, natAbs, _-ℤ_, _*ℤ_}
+use mir.Syntax.{w32}
+use mir.Val.{toZ, ofZ, SFits}
+use mir.ValLaws.{toZ-ofZ}
 use Rattle.laws.specs.Tables.{overwrite}
 use Rattle.mesh.specs.Corners.{largest, triangleCount, triangleOf}
-use Rattle.mesh.specs.Refusals.{Condition, verdict}
-use Rattle.mesh.specs.RefusalLaws.{First, None, more, first-refused, refused-first, none-fine, fine-none}
-use Rattle.mesh.specs.declared.Refusal.{Refusal}
-use Rattle.mesh.specs.declared.Verdict.{Verdict}
-use Rattle.mesh.specs.declared.Verdict.the-variants.{Fine, Refused}
+use Rattle.mesh.specs.Meshes.{PairedMesh}
+use Rattle.mesh.specs.Operation.{gives, refuses, fine, verdict, after}
+use Rattle.mesh.specs.OperationLaws.{First, None, more, fine-none, Recovers, given-verdict, refused-exactly, given-exactly, left-given, only-outcome}
+use Rattle.mesh.specs.Refusals.{Told}
+use Rattle.mesh.specs.RefusalLaws.{refusalOf, refusal-once}
 use Rattle.section.specs.Section.{VertexSet, below, Crossing, Linked, Right}
 use Rattle.section.specs.SectionLaws.{rising-unique}
 use Rattle.section.specs.RightLaws.{right-of}
@@ -28,30 +31,14 @@ use Rattle.points.specs.Points.{exactOver, exactUnder, pointAt, pointsOf}
 use Rattle.points.specs.PointLaws.{point-near, points-in}
 use Rattle.cutter.specs.declared.Sliced.{Sliced}
 use Rattle.cutter.specs.declared.Sliced.the-variants.{Layer, Refused as Turned}
-use Rattle.cutter.specs.Cut.{section, contoursOf, refusals, answer, after, Cuts}
+use Rattle.cutter.specs.Cut.{CutTables, lent, section, contoursOf, countsOf, layerTables, cutting, tellCut, Cuts}
 use Rattle.cutter.specs.Solid.{SolidLeft}
 use Rattle.cutter.specs.SolidLaws.{solid-left, crossing-climbs}
 
--- ---- what an answer says of the verdict
-
-pub layer-fine : (v : Verdict) (rs : List (List ℕ)) {j k : ℕ} → Layer j k ≡ answer v rs → v ≡ Fine
-unfolding answer
-layer-fine Fine rs e = refl
-layer-fine (Refused r) rs e = absurd (let z : _≡_ {A = ℕ} 0 1 = cc in omega arith)
-
-pub layer-counts : (v : Verdict) (rs : List (List ℕ)) {j k : ℕ} → Layer j k ≡ answer v rs → (j ≡ length rs) × (k ≡ length (namesOf rs))
-unfolding answer
-layer-counts Fine rs e = (cc, cc)
-layer-counts (Refused r) rs e = absurd (let z : _≡_ {A = ℕ} 0 1 = cc in omega arith)
-
-pub uncut-refused : (v : Verdict) (rs : List (List ℕ)) (r : Refusal) → Turned r ≡ answer v rs → v ≡ Refused r
-unfolding answer
-uncut-refused Fine rs r e = absurd (let z : _≡_ {A = ℕ} 0 1 = cc in omega arith)
-uncut-refused (Refused q) rs r e = cc
-
 -- ---- a layer has at most one point for each triangle
 
-pub one-each : (passed : VertexSet) (corners pairing : List ℕ) (rs : List (List ℕ)) → Linked corners pairing → layers.Layer passed corners pairing rs → length (namesOf rs) ≤ triangleCount corners
+pub one-each : (passed : VertexSet) (corners pairing : List ℕ) (rs : List (List ℕ)) → Linked corners pairing → layers.Layer passed corners pairing rs
+    → length (namesOf rs) ≤ triangleCount corners
 one-each passed corners pairing rs linked l = by (decLt (triangleCount corners) (length (namesOf rs)))
   where
     crosses : (i : ℕ) → i < length (namesOf rs) → Crossing passed corners (getD (namesOf rs) i 0)
@@ -60,78 +47,70 @@ one-each passed corners pairing rs linked l = by (decLt (triangleCount corners) 
     by : Dec (triangleCount corners < length (namesOf rs)) → length (namesOf rs) ≤ triangleCount corners
     by (no m) = omega arith
     by (yes m) =
-        let r = pigeonhole (triangleCount corners) (λ i. triangleOf (getD (namesOf rs) i 0)) (λ i h. let z = crosses i (omega arith) .below in omega (arith, linked .whole .threes)) in
+        let r = pigeonhole (triangleCount corners) (λ i. triangleOf (getD (namesOf rs) i 0))
+        (λ i h. let z = crosses i (omega arith) .below in omega (arith, linked .whole .threes)) in
         let a : r .first < length (namesOf rs) = omega (arith, r .order, r .bound) in
         let b : r .second < length (namesOf rs) = omega (arith, r .bound) in
-        absurd (l .once (r .first) (r .second) (r .order) b (rising-unique passed corners _ _ (r .equal) (crosses (r .first) a .upward) (crosses (r .second) b .upward)))
+        absurd (l .once (r .first) (r .second) (r .order) b
+        (rising-unique passed corners _ _ (r .equal) (crosses (r .first) a .upward) (crosses (r .second) b .upward)))
 
 -- ---- Cut
 
-module _ {coords : List ℤ} {corners pairing : List ℕ} {h : ℤ} {names : List ℕ} {points : List ℤ} {ends marks : List ℕ}
-    {result : Sliced} {names′ : List ℕ} {points′ : List ℤ} {ends′ marks′ : List ℕ} (c : Cuts coords corners pairing h names points ends marks result names′ points′ ends′ marks′) where
-  abbrev conditions : List Condition
-  conditions = refusals coords corners pairing h (length names) (length points) (length ends) (length marks)
+-- a height as the code holds it
+pub at-height : {m : PairedMesh} {h : ℤ} {t t′ : CutTables} {result : Sliced} → SFits w32 h → Cuts m (toZ w32 (ofZ w32 h)) t result t′ → Cuts m h t result t′
+at-height {m} {h} {t} {t′} {result} f = subst (λ (z : ℤ). Cuts m z t result t′) (toZ-ofZ w32 h f)
 
-  -- refused exactly if a listed condition holds, the first that fits, at the least place
-  pub refused-exactly : (r : Refusal) → (result ≡ Turned r) ↔ First (refusals coords corners pairing h (length names) (length points) (length ends) (length marks)) r
-  unfolding answer
-  refused-exactly r = (
-    (λ e. refused-first conditions r (uncut-refused (verdict conditions) (contoursOf (section coords corners pairing h)) r (sym e ∙ c .answers))),
-    (λ f. c .answers ∙ ap (λ (v : Verdict). answer v (contoursOf (section coords corners pairing h))) (first-refused conditions r f)),
-  )
+pub cut-recovers : Recovers tellCut
+cut-recovers = record {
+  back = elim [ gives n ↦ Layer (n .0) (n .1) | refuses r ↦ Turned (refusalOf r) ];
+  once = elim [ Layer j k ↦ refl | Turned r ↦ ap Turned (refusal-once r) ];
+}
 
-  -- a layer exactly if none holds
-  pub layer-exactly : (result ≡ Layer (length (contoursOf (section coords corners pairing h))) (length (namesOf (contoursOf (section coords corners pairing h)))))
-      ↔ None (refusals coords corners pairing h (length names) (length points) (length ends) (length marks))
-  unfolding answer
-  layer-exactly = (
-    (λ e. fine-none conditions (layer-fine (verdict conditions) (contoursOf (section coords corners pairing h)) (sym e ∙ c .answers))),
-    (λ n. c .answers ∙ ap (λ (v : Verdict). answer v (contoursOf (section coords corners pairing h))) (none-fine conditions n)),
-  )
+module _ {m : PairedMesh} {h : ℤ} {t t′ : CutTables} {result : Sliced} (c : Cuts m h t result t′) where
+  -- refused exactly if a listed condition holds, the first that fits, at the least place; a layer exactly if none does; and one outcome only
+  pub cut-refused : (r : Told) → (tellCut result ≡ refuses r) ↔ First (cutting (m, h, t) .refusals) r
+  cut-refused = refused-exactly c
+
+  pub cut-given : (tellCut result ≡ gives (countsOf (contoursOf (section m h)))) ↔ None (cutting (m, h, t) .refusals)
+  cut-given = given-exactly c
+
+  pub cut-only : {other : Sliced} {u′ : CutTables} → Cuts m h t other u′ → (result ≡ other) × (t′ ≡ u′)
+  cut-only = only-outcome cut-recovers c
 
   -- what a layer is
   pub record Promise (j k : ℕ) : Type 0 where
     pub rings : List (List ℕ)
-    pub layer : layers.Layer (below coords h) corners pairing rings
+    pub layer : layers.Layer (below (m .mesh .coords) h) (m .mesh .corners) (m .pairing) rings
     pub count : j ≡ length rings
     pub total : k ≡ length (namesOf rings)
-    pub few : k ≤ triangleCount corners
-    pub names-are : names′ ≡ overwrite (namesOf rings) names
-    pub points-are : points′ ≡ overwrite (pointsOf coords corners h (namesOf rings)) points
-    pub ends-are : ends′ ≡ overwrite (endsOf rings) ends
-    pub marks-are : marks′ ≡ overwrite (replicate (length corners) 0) marks
-    pub near : (x : ℕ) → Crossing (below coords h) corners x → (axis : ℕ) → 2 * natAbs (exactUnder coords corners x *ℤ pointAt coords corners h axis x -ℤ exactOver coords corners h axis x) ≤ natAbs (exactUnder coords corners x)
-    pub inside : (i : ℕ) → i < length (pointsOf coords corners h (namesOf rings)) → natAbs (getD (pointsOf coords corners h (namesOf rings)) i (pos 0)) ≤ largest
-    pub left : (x : ℕ) → Crossing (below coords h) corners x → SolidLeft coords corners pairing h x
+    pub few : k ≤ triangleCount (m .mesh .corners)
+    pub tables-are : t′ ≡ layerTables (m .mesh) h rings t fine
+    pub near : (x : ℕ) → Crossing (below (m .mesh .coords) h) (m .mesh .corners) x → (axis : ℕ)
+        → 2 * natAbs (exactUnder (m .mesh) x *ℤ pointAt (m .mesh) h axis x -ℤ exactOver (m .mesh) h axis x) ≤ natAbs (exactUnder (m .mesh) x)
+    pub inside : (i : ℕ) → i < length (pointsOf (m .mesh) h (namesOf rings)) → natAbs (getD (pointsOf (m .mesh) h (namesOf rings)) i (pos 0)) ≤ largest
+    pub left : (x : ℕ) → Crossing (below (m .mesh .coords) h) (m .mesh .corners) x → SolidLeft m h x
 
-  pub promise : {j k : ℕ} → result ≡ Layer j k → Promise j k
-  unfolding after
-  promise {j} {k} e = go (fine-none conditions fine)
+  pub promise : {j k : ℕ} → tellCut result ≡ gives (j, k) → Promise j k
+  promise {j} {k} e = go (fine-none (cutting (m, h, t) .refusals) (given-verdict c e .0))
     where
-      fine : verdict (refusals coords corners pairing h (length names) (length points) (length ends) (length marks)) ≡ Fine
-      fine = layer-fine _ _ (sym e ∙ c .answers)
+      counts : (j, k) ≡ countsOf (contoursOf (section m h))
+      counts = given-verdict c e .1
 
-      counts : (j ≡ length (contoursOf (section coords corners pairing h))) × (k ≡ length (namesOf (contoursOf (section coords corners pairing h))))
-      counts = layer-counts _ _ (sym e ∙ c .answers)
-
-      go : None (refusals coords corners pairing h (length names) (length points) (length ends) (length marks)) → Promise j k
-      go (more s (more m (more r (more v (more t (more p rest)))))) =
-          let right : Right coords corners pairing = right-of coords corners pairing (not-false _ (s 0 (omega arith))) r v t p in
-          let l = trace-layer (below coords h) corners pairing (right .linked) in
+      go : None (cutting (m, h, t) .refusals) → Promise j k
+      go (more s (more n (more r (more v (more x (more p rest)))))) =
+          let right : Right m = right-of m (not-false _ (s 0 (omega arith))) r v x p in
+          let l = trace-layer (below (m .mesh .coords) h) (m .mesh .corners) (m .pairing) (right .linked) in
           let rs = l .0 in
-          let is : contoursOf (section coords corners pairing h) ≡ rs = ap contoursOf (l .1 .0) in
-          let n : k ≡ length (namesOf rs) = counts .1 ∙ ap (λ (q : List (List ℕ)). length (namesOf q)) is in
+          let is : contoursOf (section m h) ≡ rs = ap contoursOf (l .1 .0) in
+          let total : k ≡ length (namesOf rs) = (λ i. counts i .1) ∙ ap (λ (q : List (List ℕ)). length (namesOf q)) is in
           record {
             rings = rs;
             layer = l .1 .1;
-            count = counts .0 ∙ ap length is;
-            total = n;
-            few = omega (arith, one-each (below coords h) corners pairing rs (right .linked) (l .1 .1));
-            names-are = c .leaves .names-are ∙ (λ i. after (fine i) (namesOf (is i)) (length corners) 0 names);
-            points-are = c .leaves .points-are ∙ (λ i. after (fine i) (pointsOf coords corners h (namesOf (is i))) (2 * length corners) (pos 0) points);
-            ends-are = c .leaves .ends-are ∙ (λ i. after (fine i) (endsOf (is i)) (length corners) 0 ends);
-            marks-are = c .leaves .marks-are ∙ (λ i. after (fine i) (replicate (length corners) 0) (length corners) 0 marks);
-            near = λ x y axis. point-near coords corners h x (crossing-climbs coords corners h pairing right x y) axis;
-            inside = points-in coords corners h (namesOf rs) (λ i q. crossing-climbs coords corners h pairing right _ (l .1 .1 .only _ (at-member (namesOf rs) i q)));
-            left = λ x y. solid-left coords corners pairing h x right y;
+            count = (λ i. counts i .0) ∙ ap length is;
+            total = total;
+            few = omega (arith, one-each (below (m .mesh .coords) h) (m .mesh .corners) (m .pairing) rs (right .linked) (l .1 .1));
+            tables-are = left-given c e ∙ (λ i. layerTables (m .mesh) h (is i) t fine);
+            near = λ y z axis. point-near (m .mesh) h y (crossing-climbs m h right y z) axis;
+            inside = points-in (m .mesh) h (namesOf rs) (λ i q. crossing-climbs m h right _ (l .1 .1 .only _ (at-member (namesOf rs) i q)));
+            left = λ y z. solid-left m h y right z;
           }

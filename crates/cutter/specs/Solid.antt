@@ -5,6 +5,7 @@ use mathlib.Core.List.{List}
 use lib.IntN.{ℤ, pos, negℤ, _-ℤ_, _*ℤ_}
 use lib.Signed.{_≤ℤ_}
 use Rattle.mesh.specs.Corners.{triangleOf, startOf, coordOf, zOf}
+use Rattle.mesh.specs.Meshes.{Mesh, PairedMesh}
 use Rattle.mesh.specs.Tests.{pairOf}
 use Rattle.section.specs.Section.{below, successor}
 use Rattle.points.specs.Points.{exactOver, exactUnder}
@@ -12,9 +13,8 @@ use Rattle.points.specs.Normals.{normalX, normalY}
 
 -- the way from the exact crossing of corner c to that of corner s in x (axis 0) or y (axis 1),
 -- multiplied by both denominators, which are above zero (`crossing-under`)
-unfoldable pub way : List ℤ → List ℕ → ℤ → ℕ → ℕ → ℕ → ℤ
-way coords corners h axis c s =
-    exactOver coords corners h axis s *ℤ exactUnder coords corners c -ℤ exactOver coords corners h axis c *ℤ exactUnder coords corners s
+unfoldable pub way : Mesh → ℤ → ℕ → ℕ → ℕ → ℤ
+way m h axis c s = exactOver m h axis s *ℤ exactUnder m c -ℤ exactOver m h axis c *ℤ exactUnder m s
 
 -- x and y of the cross product (b − a) × (c − a) over vertices a, b, c
 abbrev pub crossX : List ℤ → ℕ → ℕ → ℕ → ℤ
@@ -24,15 +24,17 @@ abbrev pub crossY : List ℤ → ℕ → ℕ → ℕ → ℤ
 crossY coords a b c = normalY (coordOf coords 0 a) (zOf coords a) (coordOf coords 0 b) (zOf coords b) (coordOf coords 0 c) (zOf coords c)
 
 -- x and y of the normal of triangle t: over its vertices, in turn
-unfoldable pub normalXOf : List ℤ → List ℕ → ℕ → ℤ
-normalXOf coords corners t = crossX coords (startOf corners (3 * t)) (startOf corners (3 * t + 1)) (startOf corners (3 * t + 2))
+unfoldable pub normalXOf : Mesh → ℕ → ℤ
+normalXOf m t = crossX (m .coords) (startOf (m .corners) (3 * t)) (startOf (m .corners) (3 * t + 1)) (startOf (m .corners) (3 * t + 2))
 
-unfoldable pub normalYOf : List ℤ → List ℕ → ℕ → ℤ
-normalYOf coords corners t = crossY coords (startOf corners (3 * t)) (startOf corners (3 * t + 1)) (startOf corners (3 * t + 2))
+unfoldable pub normalYOf : Mesh → ℕ → ℤ
+normalYOf m t = crossY (m .coords) (startOf (m .corners) (3 * t)) (startOf (m .corners) (3 * t + 1)) (startOf (m .corners) (3 * t + 2))
 
 -- at height h the way from crossing c to its successor is (−ny, nx) times a number not below zero; the triangle between them is that of the paired corner
-pub record SolidLeft (coords : List ℤ) (corners pairing : List ℕ) (h : ℤ) (c : ℕ) : Type 0 where
+pub record SolidLeft (m : PairedMesh) (h : ℤ) (c : ℕ) : Type 0 where
   pub factor : ℤ
   pub not-below : pos 0 ≤ℤ factor
-  pub along-x : way coords corners h 0 c (successor (below coords h) corners pairing c) ≡ factor *ℤ negℤ (normalYOf coords corners (triangleOf (pairOf pairing c)))
-  pub along-y : way coords corners h 1 c (successor (below coords h) corners pairing c) ≡ factor *ℤ normalXOf coords corners (triangleOf (pairOf pairing c))
+  pub along-x : way (m .mesh) h 0 c (successor (below (m .mesh .coords) h) (m .mesh .corners) (m .pairing) c)
+      ≡ factor *ℤ negℤ (normalYOf (m .mesh) (triangleOf (pairOf (m .pairing) c)))
+  pub along-y : way (m .mesh) h 1 c (successor (below (m .mesh .coords) h) (m .mesh .corners) (m .pairing) c)
+      ≡ factor *ℤ normalXOf (m .mesh) (triangleOf (pairOf (m .pairing) c))

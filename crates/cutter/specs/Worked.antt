@@ -3,15 +3,16 @@ use Prim.Native.Nat.{ℕ}
 use mathlib.Core.Path.{_≡_, refl}
 use mathlib.Core.List.{List, [], _∷_}
 use lib.Dec.{ltb}
+use lib.ListN.{replicate}
 use lib.IntN.{ℤ, pos}
 use Rattle.laws.specs.Least.{least, some}
-use Rattle.mesh.specs.Refusals.{test, _then_, verdict}
+use Rattle.mesh.specs.Meshes.{PairedMesh, paired}
+use Rattle.mesh.specs.Operation.{gives, test, _then_, verdict, answerOf}
 use Rattle.mesh.specs.Tests.{sizesFit, outOfRange, namesNone, namesTwice, reverse, pairedAt}
-use Rattle.mesh.specs.declared.Verdict.the-variants.{Fine}
 use Rattle.section.specs.Section.{VertexSet, below, rising, risingIn, successor}
 use Rattle.section.specs.Contours.{member, walk, contours, traceAt, traceTo, trace, endsFrom, endsOf}
 use Rattle.points.specs.Points.{numerator, denominator, rounded, exactOver, exactUnder, pointAt, pointsOf}
-use Rattle.cutter.specs.Cut.{roomFor, metAt, section, refusals}
+use Rattle.cutter.specs.Cut.{CutTables, lent, roomFor, metAt, section, cutting}
 
 -- part P, and its pairing
 abbrev coords : List ℤ
@@ -23,9 +24,17 @@ corners = 0 ∷ 2 ∷ 1 ∷ 0 ∷ 1 ∷ 3 ∷ 0 ∷ 3 ∷ 2 ∷ 1 ∷ 2 ∷ 3 �
 abbrev pairing : List ℕ
 pairing = 8 ∷ 9 ∷ 3 ∷ 2 ∷ 11 ∷ 6 ∷ 5 ∷ 10 ∷ 0 ∷ 1 ∷ 7 ∷ 4 ∷ []
 
--- no condition holds of P at height 5 with tables of 12 and 24 entries
-accepted : verdict (refusals coords corners pairing (pos 5) 12 24 12 12) ≡ Fine
-unfolding verdict _then_ test some least sizesFit roomFor outOfRange namesNone namesTwice reverse pairedAt metAt trace traceTo traceAt walk member rising risingIn successor below
+abbrev p : PairedMesh
+p = paired coords corners pairing
+
+-- tables of 12 and 24 entries
+abbrev t : CutTables
+t = lent (replicate 12 7) (replicate 24 (pos 7)) (replicate 12 7) (replicate 12 7)
+
+-- P at height 5: one contour of three points
+accepted : answerOf (cutting (p, pos 5, t)) ≡ gives (1, 3)
+unfolding verdict _then_ test some least sizesFit roomFor outOfRange namesNone namesTwice reverse pairedAt metAt trace traceTo traceAt walk member rising
+    risingIn successor below
 accepted = refl
 
 -- one vertex passed: ring 0, 6, 3; two: ring 0, 6, 4, 9
@@ -41,32 +50,32 @@ unfolding first trace traceTo traceAt walk member rising risingIn successor
 two-passed = refl
 
 -- height 5: names 4, 10, 6, and points (5,0), (0,5), (0,0)
-at-5 : section coords corners pairing (pos 5) ≡ contours ((4 ∷ 10 ∷ 6 ∷ []) ∷ [])
+at-5 : section p (pos 5) ≡ contours ((4 ∷ 10 ∷ 6 ∷ []) ∷ [])
 unfolding below trace traceTo traceAt walk member rising risingIn successor
 at-5 = refl
 
-points-5 : pointsOf coords corners (pos 5) (4 ∷ 10 ∷ 6 ∷ []) ≡ pos 5 ∷ pos 0 ∷ pos 0 ∷ pos 5 ∷ pos 0 ∷ pos 0 ∷ []
+points-5 : pointsOf (p .mesh) (pos 5) (4 ∷ 10 ∷ 6 ∷ []) ≡ pos 5 ∷ pos 0 ∷ pos 0 ∷ pos 5 ∷ pos 0 ∷ pos 0 ∷ []
 unfolding pointsOf pointAt exactOver exactUnder numerator denominator rounded
 points-5 = refl
 
-ends-5 : endsOf ((4 ∷ 10 ∷ 6 ∷ []) ∷ []) ≡ 3 ∷ []
+ends-5 : endsOf {A = ℕ} ((4 ∷ 10 ∷ 6 ∷ []) ∷ []) ≡ 3 ∷ []
 unfolding endsFrom
 ends-5 = refl
 
 -- height 10: three times (0,0)
-at-10 : section coords corners pairing (pos 10) ≡ contours ((4 ∷ 10 ∷ 6 ∷ []) ∷ [])
+at-10 : section p (pos 10) ≡ contours ((4 ∷ 10 ∷ 6 ∷ []) ∷ [])
 unfolding below trace traceTo traceAt walk member rising risingIn successor
 at-10 = refl
 
-points-10 : pointsOf coords corners (pos 10) (4 ∷ 10 ∷ 6 ∷ []) ≡ pos 0 ∷ pos 0 ∷ pos 0 ∷ pos 0 ∷ pos 0 ∷ pos 0 ∷ []
+points-10 : pointsOf (p .mesh) (pos 10) (4 ∷ 10 ∷ 6 ∷ []) ≡ pos 0 ∷ pos 0 ∷ pos 0 ∷ pos 0 ∷ pos 0 ∷ pos 0 ∷ []
 unfolding pointsOf pointAt exactOver exactUnder numerator denominator rounded
 points-10 = refl
 
 -- heights 0 and 11: no contour
-at-0 : section coords corners pairing (pos 0) ≡ contours []
+at-0 : section p (pos 0) ≡ contours []
 unfolding below trace traceTo traceAt walk member rising risingIn successor
 at-0 = refl
 
-at-11 : section coords corners pairing (pos 11) ≡ contours []
+at-11 : section p (pos 11) ≡ contours []
 unfolding below trace traceTo traceAt walk member rising risingIn successor
 at-11 = refl

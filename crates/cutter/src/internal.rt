@@ -4,9 +4,10 @@ ghost use Prim.Native.Nat.{_≤_};
 ghost use lib.ListN.{length, replicate};
 ghost use lib.IntN.{pos};
 ghost use Rattle.laws.specs.Tables.{overwrite};
+ghost use Rattle.mesh.specs.Meshes.{mesh, paired};
 ghost use Rattle.section.specs.Section.{Right};
 ghost use Rattle.section.specs.Links.{traceLinks};
-ghost use Rattle.cutter.specs.Cut.{section};
+ghost use Rattle.cutter.specs.Cut.{lent, lengthsOf, section};
 ghost use Rattle.cutter.specs.Outlines.{Long, Outlined, Traces};
 use crate::Sliced;
 use mesh::Refusal;
@@ -37,8 +38,11 @@ pub fn outline(
     ends: &mut [u32],
     marks: &mut [u32],
 ) -> Sliced
-    requires { ⌜ Outlined (now coords) (now corners) h (now marks) ⌝ ∗ ⌜ Long (length (now corners)) (length (now names)) (length (now points)) (length (now ends)) (length (now marks)) ⌝ }
-    ensures { λ r. ⌜ Traces (traceLinks (length (now (corners .entry))) (now (marks .entry))) (now (coords .entry)) (now (corners .entry)) h (now (names .entry)) (now (points .entry)) (now (ends .entry)) (now (marks .entry)) r (now (names .exit)) (now (points .exit)) (now (ends .exit)) (now (marks .exit)) ⌝ }
+    requires { ⌜ Outlined (mesh (now coords) (now corners)) h (now marks) ⌝
+        ∗ ⌜ Long (length (now corners)) (lengthsOf (lent (now names) (now points) (now ends) (now marks))) ⌝ }
+    ensures { λ r. ⌜ Traces (traceLinks (length (corners .entry .now)) (marks .entry .now)) (mesh (coords .entry .now) (corners .entry .now)) h
+        (lent (names .entry .now) (points .entry .now) (ends .entry .now) (marks .entry .now)) r
+        (lent (names .exit .now) (points .exit .now) (ends .exit .now) (marks .exit .now)) ⌝ }
 {
     let n = corners.len();
     let f = trace(n, marks, names, ends);
@@ -65,8 +69,12 @@ pub fn slice(
     ends: &mut [u32],
     marks: &mut [u32],
 ) -> Sliced
-    requires { ⌜ Right (now coords) (now corners) (now pairing) ⌝ ∗ ⌜ Long (length (now corners)) (length (now names)) (length (now points)) (length (now ends)) (length (now marks)) ⌝ }
-    ensures { λ r. ⌜ Traces (section (now (coords .entry)) (now (corners .entry)) (now (pairing .entry)) h) (now (coords .entry)) (now (corners .entry)) h (now (names .entry)) (now (points .entry)) (now (ends .entry)) (now (marks .entry)) r (now (names .exit)) (now (points .exit)) (now (ends .exit)) (now (marks .exit)) ⌝ }
+    requires { ⌜ Right (paired (now coords) (now corners) (now pairing)) ⌝
+        ∗ ⌜ Long (length (now corners)) (lengthsOf (lent (now names) (now points) (now ends) (now marks))) ⌝ }
+    ensures { λ r. ⌜ Traces (section (paired (coords .entry .now) (corners .entry .now) (pairing .entry .now)) h)
+        (mesh (coords .entry .now) (corners .entry .now)) h
+        (lent (names .entry .now) (points .entry .now) (ends .entry .now) (marks .entry .now)) r
+        (lent (names .exit .now) (points .exit .now) (ends .exit .now) (marks .exit .now)) ⌝ }
 {
     link_at(coords, corners, pairing, h, marks);
     outline(coords, corners, h, names, points, ends, marks)

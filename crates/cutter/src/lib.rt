@@ -1,15 +1,13 @@
 // Cut: the layer of a mesh at a height.
 ghost use mathlib.Core.Path.{_≡_};
-ghost use mathlib.Core.List.{_∷_};
-ghost use lib.ListN.{length};
-ghost use Rattle.mesh.specs.Refusals.{test, verdict};
-ghost use Rattle.cutter.specs.Cut.{roomFor, room, tests, Cuts};
+ghost use Rattle.mesh.specs.Meshes.{paired};
+ghost use Rattle.mesh.specs.Operation.{verdict};
+ghost use Rattle.mesh.specs.Refusals.{tellVerdict};
+ghost use Rattle.cutter.specs.Cut.{lent, lengths, roomFor, tests, Cuts};
 use crate::internal::slice;
 use mesh::Refusal;
 use mesh::Verdict;
-use mesh::tests::mesh_test;
-use mesh::tests::size_test;
-use tables::internal::pairing_test;
+use tables::tests::opening_test;
 
 pub mod internal;
 
@@ -20,8 +18,8 @@ pub enum Sliced {
 }
 
 // Whether tables of these lengths hold the layer of n corners.
-fn room_for(n: usize, names: usize, points: usize, ends: usize, marks: usize) -> bool
-    ensures { λ r. ⌜ r ≡ roomFor n names points ends marks ⌝ }
+pub fn room_for(n: usize, names: usize, points: usize, ends: usize, marks: usize) -> bool
+    ensures { λ r. ⌜ r ≡ roomFor n (lengths names points ends marks) ⌝ }
 {
     if names < n {
         return false;
@@ -35,16 +33,6 @@ fn room_for(n: usize, names: usize, points: usize, ends: usize, marks: usize) ->
     n <= marks
 }
 
-// Refusal 9.
-pub fn room_test(n: usize, names: usize, points: usize, ends: usize, marks: usize) -> Verdict
-    ensures { λ r. ⌜ r ≡ test (room n names points ends marks) ⌝ }
-{
-    if room_for(n, names, points, ends, marks) {
-        return Verdict::Fine;
-    }
-    Verdict::Refused(Refusal::Room(0))
-}
-
 // Refusals 1, 9, 2, 3, 4 and 7, for lent tables of these lengths.
 pub fn tables_test(
     coords: &[i32],
@@ -55,21 +43,11 @@ pub fn tables_test(
     ends: usize,
     marks: usize,
 ) -> Verdict
-    ensures { λ r. ⌜ r ≡ verdict (tests (now (coords .entry)) (now (corners .entry)) (now (pairing .entry)) names points ends marks) ⌝ }
+    ensures { λ r. ⌜ tellVerdict r
+        ≡ verdict (tests (paired (coords .entry .now) (corners .entry .now) (pairing .entry .now)) (lengths names points ends marks)) ⌝ }
 {
-    let a = size_test(coords, corners);
-    if let Verdict::Refused(_) = a {
-        return a;
-    }
-    let b = room_test(corners.len(), names, points, ends, marks);
-    if let Verdict::Refused(_) = b {
-        return b;
-    }
-    let m = mesh_test(coords, corners);
-    if let Verdict::Refused(_) = m {
-        return m;
-    }
-    pairing_test(corners, pairing)
+    let room = room_for(corners.len(), names, points, ends, marks);
+    opening_test(coords, corners, pairing, true, room)
 }
 
 // Cuts a mesh at height h: names, points and ends of its contours.
@@ -83,7 +61,9 @@ pub fn cut(
     ends: &mut [u32],
     marks: &mut [u32],
 ) -> Sliced
-    ensures { λ r. ⌜ Cuts (now (coords .entry)) (now (corners .entry)) (now (pairing .entry)) h (now (names .entry)) (now (points .entry)) (now (ends .entry)) (now (marks .entry)) r (now (names .exit)) (now (points .exit)) (now (ends .exit)) (now (marks .exit)) ⌝ }
+    ensures { λ r. ⌜ Cuts (paired (coords .entry .now) (corners .entry .now) (pairing .entry .now)) h
+        (lent (names .entry .now) (points .entry .now) (ends .entry .now) (marks .entry .now)) r
+        (lent (names .exit .now) (points .exit .now) (ends .exit .now) (marks .exit .now)) ⌝ }
 {
     let v = tables_test(
         coords,

@@ -122,8 +122,8 @@ module _ {z : ℤ} (b : Below z) {u : ℕ} (is : u ≡ b .k) where
     pub sign-room : at < length l
     sign-room = omega (arith, ap length below-text)
 
-    pub below-room : HasRoom (set l at minus) (at + 1) (decimal (u + 1))
-    below-room = record { within = omega (arith, ap length below-text, length-set l at minus) }
+    pub below-room : (sign : ℕ) → HasRoom (set l at sign) (at + 1) (decimal (u + 1))
+    below-room sign = record { within = omega (arith, ap length below-text, length-set l at sign) }
 
   pub below-put : {l : List ℕ} {at p : ℕ} {m : List ℕ} → Puts (set l at minus) (at + 1) (decimal (u + 1)) p m → Puts l at (signedDecimal z) p m
   below-put {l} {at} v =
@@ -142,4 +142,9 @@ module _ {z : ℤ} (b : Above z) {u : ℕ} (is : u ≡ b .k) where
   above-room h = record { within = omega (arith, h .within, ap length above-text) }
 
   pub above-put : {l : List ℕ} {at p : ℕ} {m : List ℕ} → Puts l at (decimal u) p m → Puts l at (signedDecimal z) p m
-  above-put {l} {at} v = record { ends = v .ends ∙ ap (λ (t : List ℕ). at + length t) (sym above-text); within = v .within; is = v .is ∙ ap (sets l at) (sym above-text) }
+  above-put {l} {at} v =
+      record {
+        ends = v .ends ∙ ap (λ (t : List ℕ). at + length t) (sym above-text);
+        within = v .within;
+        is = v .is ∙ ap (sets l at) (sym above-text);
+      }

@@ -1,4 +1,4 @@
-// Internal: what writes into an output that has room, as its `requires` says. All before and after the text stays.
+// Numbers and texts written into an output that has room, as each `requires` says. All before and after the text stays.
 ghost use mathlib.Core.Path.{_≡_};
 ghost use lib.ListN.{length};
 ghost use Rattle.decimals.specs.Decimals.{decimal, signedDecimal};
@@ -20,7 +20,7 @@ fn digit_count(n: u64) -> usize
 // Writes a number at a position, from its last digit to its first, and returns the position after it.
 pub fn write_decimal(output: &mut [u8], at: usize, n: u64) -> usize
     requires { ⌜ HasRoom (now output) at (decimal n) ⌝ }
-    ensures { λ r. ⌜ Puts (now (output .entry)) at (decimal n) r (now (output .exit)) ⌝ }
+    ensures { λ r. ⌜ Puts (output .entry .now) at (decimal n) r (output .exit .now) ⌝ }
 {
     let end = at + digit_count(n);
     let mut rest = n;
@@ -37,7 +37,7 @@ pub fn write_decimal(output: &mut [u8], at: usize, n: u64) -> usize
 // Writes a signed number.
 pub fn write_signed(output: &mut [u8], at: usize, z: i64) -> usize
     requires { ⌜ HasRoom (now output) at (signedDecimal z) ⌝ }
-    ensures { λ r. ⌜ Puts (now (output .entry)) at (signedDecimal z) r (now (output .exit)) ⌝ }
+    ensures { λ r. ⌜ Puts (output .entry .now) at (signedDecimal z) r (output .exit .now) ⌝ }
 {
     if z < 0 {
         output[at] = b'-';
@@ -50,7 +50,7 @@ pub fn write_signed(output: &mut [u8], at: usize, z: i64) -> usize
 // Writes a text.
 pub fn write_text(output: &mut [u8], at: usize, text: &[u8]) -> usize
     requires { ⌜ HasRoom (now output) at (now text) ⌝ }
-    ensures { λ r. ⌜ Puts (now (output .entry)) at (now (text .entry)) r (now (output .exit)) ⌝ }
+    ensures { λ r. ⌜ Puts (output .entry .now) at (text .entry .now) r (output .exit .now) ⌝ }
 {
     let mut p = at;
     let mut k: usize = 0;

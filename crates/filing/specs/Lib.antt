@@ -1,2 +1,2 @@
--- Internal: the bound of a file.
+-- All layers as the code runs it: the bound of a file.
 pub mod Bounds

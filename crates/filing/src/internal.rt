@@ -1,65 +1,30 @@
-// Internal: the file of a mesh and heights that the tests have passed.
+// The file of a mesh and heights that the tests have passed.
 ghost use mathlib.Core.Path.{_≡_};
-ghost use Prim.Native.Nat.{_+_, _*_, _<_, _≤_};
+ghost use Prim.Native.Nat.{_*_, _≤_};
 ghost use mathlib.Core.Bool.{false};
-ghost use mathlib.Core.List.{[], _∷_};
 ghost use lib.Dec.{ltb};
 ghost use lib.ListN.{length};
-ghost use Rattle.mesh.specs.Corners.{vertexCount};
-ghost use Rattle.mesh.specs.Refusals.{verdict};
-ghost use Rattle.mesh.specs.Tests.{Whole, range, vertex, triangle, pairs, ordered};
+ghost use Rattle.mesh.specs.Meshes.{mesh, paired};
+ghost use Rattle.cutter.specs.Cut.{lent, lengthsOf};
 ghost use Rattle.cutter.specs.Outlines.{Long};
 ghost use Rattle.active.specs.Levels.{Climbing};
 ghost use Rattle.formats.specs.Numbers.{encodeNumber, zigzag};
 ghost use Rattle.formats.specs.LayerFile.{mostLayers};
-ghost use Rattle.heights.specs.Taking.{heightAt};
-ghost use Rattle.heights.specs.Heights.{heightsTaken, fallingHeight};
-ghost use Rattle.layers.specs.AllLayers.{fileOf};
-ghost use Rattle.layers.specs.Works.{Works, Zeroed, Puts};
-ghost use Rattle.layers.specs.Sweeps.{Ready, Sweeping};
+ghost use Rattle.layers.specs.AllLayers.{work};
+ghost use Rattle.layers.specs.Works.{Works, Zeroed, PutsFile, takenHeights, takenFile};
+ghost use Rattle.layers.specs.Sweeps.{LayersTested, cornerLists, Sweeping};
 ghost use Rattle.filing.specs.Bounds.{longestFile};
 use cutter::internal::clear_points;
 use formats::MOST_LAYERS;
 use formats::numbers::number_length;
 use formats::numbers::unsigned_of;
-use heights::heights_test;
 use heights::internal::taken_height;
 use layers::Filed;
 use layers::internal::begin;
 use layers::internal::layers_length;
 use layers::internal::write_layers;
 use mesh::Refusal;
-use mesh::Verdict;
 use mesh::internal::fill;
-use mesh::tests::mesh_test;
-use tables::internal::pairing_test;
-use tables::ordering::order_test;
-
-// Refusals 2, 3, 4, 7, 8 and 12.
-pub fn content_test(
-    coords: &[i32],
-    corners: &[u32],
-    pairing: &[u32],
-    order: &[u32],
-    heights: &[i32],
-) -> Verdict
-    requires { ⌜ Whole (length (now corners)) ⌝ }
-    ensures { λ r. ⌜ r ≡ verdict (range (now (coords .entry)) ∷ vertex (vertexCount (now (coords .entry))) (now (corners .entry)) ∷ triangle (now (corners .entry)) ∷ pairs (now (corners .entry)) (now (pairing .entry)) ∷ ordered (now (coords .entry)) (now (order .entry)) ∷ fallingHeight (heightsTaken (now (coords .entry)) (now (heights .entry))) ∷ []) ⌝ }
-{
-    let a = mesh_test(coords, corners);
-    if let Verdict::Refused(_) = a {
-        return a;
-    }
-    let b = pairing_test(corners, pairing);
-    if let Verdict::Refused(_) = b {
-        return b;
-    }
-    let d = order_test(coords, order);
-    if let Verdict::Refused(_) = d {
-        return d;
-    }
-    heights_test(heights)
-}
 
 // How many bytes a height takes.
 fn height_length(h: i32) -> usize
@@ -71,7 +36,7 @@ fn height_length(h: i32) -> usize
 // How many bytes the layer file takes at most, by how many crossings all heights have.
 fn longest(low: i32, heights: &[i32], count: usize, crossings: usize) -> usize
     requires { ⌜ Climbing low (now heights) count ⌝ ∗ ⌜ crossings ≤ 196608 * mostLayers ⌝ }
-    ensures { λ r. ⌜ r ≡ longestFile (heightAt low (now (heights .entry))) count crossings ⌝ }
+    ensures { λ r. ⌜ r ≡ longestFile (takenHeights low (heights .entry .now) count) crossings ⌝ }
 {
     let mut total = number_length(count as u64) + 10 * crossings;
     let mut k: usize = 0;
@@ -100,9 +65,18 @@ fn is_short(
     bound: usize,
     room: usize,
 ) -> bool
-    requires { ⌜ Ready (now coords) (now corners) (now pairing) low (now heights) count (now names) (now points) (now ends) (now marks) (now ring) ⌝ ∗ ⌜ Sweeping (now coords) (now corners) (heightAt low (now heights)) count 0 (now ring) (now heads) (now marks) (length (now corners)) ⌝ ∗ ⌜ length (fileOf (now coords) (now corners) (now pairing) (heightsTaken (now coords) (now heights))) ≤ bound ⌝ }
-    ensures { λ r. ⌜ (r ≡ ltb room (length (fileOf (now (coords .entry)) (now (corners .entry)) (now (pairing .entry)) (heightsTaken (now (coords .entry)) (now (heights .entry)))))) × Works (length (now (corners .entry))) (now (names .entry)) (now (points .entry)) (now (ends .entry)) (now (marks .entry)) (now (ring .entry)) (now (names .exit)) (now (points .exit)) (now (ends .exit)) (now (marks .exit)) (now (ring .exit)) ⌝ }
-    ensures { λ r. ⌜ (r ≡ false → Sweeping (now (coords .entry)) (now (corners .entry)) (heightAt low (now (heights .entry))) count 0 (now (ring .exit)) (now (heads .exit)) (now (marks .exit)) (length (now (corners .entry)))) ⌝ }
+    requires { ⌜ LayersTested (paired (now coords) (now corners) (now pairing)) (takenHeights low (now heights) count)
+        (work (now names) (now points) (now ends) (now marks) (now ring)) ⌝
+        ∗ ⌜ Sweeping (mesh (now coords) (now corners)) (takenHeights low (now heights) count) 0
+        (cornerLists (now ring) (now heads) (now marks) (length (now corners))) ⌝
+        ∗ ⌜ length (takenFile (paired (now coords) (now corners) (now pairing)) (takenHeights low (now heights) count)) ≤ bound ⌝ }
+    ensures { λ r. ⌜ r ≡ ltb room (length (takenFile (paired (coords .entry .now) (corners .entry .now) (pairing .entry .now))
+        (takenHeights low (heights .entry .now) count))) ⌝ }
+    ensures { λ _. ⌜ Works (length (corners .entry .now))
+        (work (names .entry .now) (points .entry .now) (ends .entry .now) (marks .entry .now) (ring .entry .now))
+        (work (names .exit .now) (points .exit .now) (ends .exit .now) (marks .exit .now) (ring .exit .now)) ⌝ }
+    ensures { λ r. ⌜ (r ≡ false → Sweeping (mesh (coords .entry .now) (corners .entry .now)) (takenHeights low (heights .entry .now) count) 0
+        (cornerLists (ring .exit .now) (heads .exit .now) (marks .exit .now) (length (corners .entry .now)))) ⌝ }
 {
     if bound <= room {
         return false;
@@ -144,8 +118,14 @@ fn put_layers(
     heads: &mut [u32],
     output: &mut [u8],
 ) -> Filed
-    requires { ⌜ Ready (now coords) (now corners) (now pairing) low (now heights) count (now names) (now points) (now ends) (now marks) (now ring) ⌝ ∗ ⌜ count ≤ length (now heads) ⌝ }
-    ensures { λ r. ⌜ Puts (fileOf (now (coords .entry)) (now (corners .entry)) (now (pairing .entry)) (heightsTaken (now (coords .entry)) (now (heights .entry)))) (now (output .entry)) r (now (output .exit)) × Works (length (now (corners .entry))) (now (names .entry)) (now (points .entry)) (now (ends .entry)) (now (marks .entry)) (now (ring .entry)) (now (names .exit)) (now (points .exit)) (now (ends .exit)) (now (marks .exit)) (now (ring .exit)) ⌝ }
+    requires { ⌜ LayersTested (paired (now coords) (now corners) (now pairing)) (takenHeights low (now heights) count)
+        (work (now names) (now points) (now ends) (now marks) (now ring)) ⌝
+        ∗ ⌜ count ≤ length (now heads) ⌝ }
+    ensures { λ r. ⌜ PutsFile (takenFile (paired (coords .entry .now) (corners .entry .now) (pairing .entry .now))
+        (takenHeights low (heights .entry .now) count)) (output .entry .now) r (output .exit .now) ⌝ }
+    ensures { λ _. ⌜ Works (length (corners .entry .now))
+        (work (names .entry .now) (points .entry .now) (ends .entry .now) (marks .entry .now) (ring .entry .now))
+        (work (names .exit .now) (points .exit .now) (ends .exit .now) (marks .exit .now) (ring .exit .now)) ⌝ }
 {
     let crossings = begin(coords, corners, low, heights, count, marks, ring, heads);
     let bound = longest(low, heights, count, crossings);
@@ -201,8 +181,13 @@ pub fn put_file(
     ring: &mut [u32],
     output: &mut [u8],
 ) -> Filed
-    requires { ⌜ Ready (now coords) (now corners) (now pairing) low (now heights) count (now names) (now points) (now ends) (now marks) (now ring) ⌝ }
-    ensures { λ r. ⌜ Puts (fileOf (now (coords .entry)) (now (corners .entry)) (now (pairing .entry)) (heightsTaken (now (coords .entry)) (now (heights .entry)))) (now (output .entry)) r (now (output .exit)) × Works (length (now (corners .entry))) (now (names .entry)) (now (points .entry)) (now (ends .entry)) (now (marks .entry)) (now (ring .entry)) (now (names .exit)) (now (points .exit)) (now (ends .exit)) (now (marks .exit)) (now (ring .exit)) ⌝ }
+    requires { ⌜ LayersTested (paired (now coords) (now corners) (now pairing)) (takenHeights low (now heights) count)
+        (work (now names) (now points) (now ends) (now marks) (now ring)) ⌝ }
+    ensures { λ r. ⌜ PutsFile (takenFile (paired (coords .entry .now) (corners .entry .now) (pairing .entry .now))
+        (takenHeights low (heights .entry .now) count)) (output .entry .now) r (output .exit .now) ⌝ }
+    ensures { λ _. ⌜ Works (length (corners .entry .now))
+        (work (names .entry .now) (points .entry .now) (ends .entry .now) (marks .entry .now) (ring .entry .now))
+        (work (names .exit .now) (points .exit .now) (ends .exit .now) (marks .exit .now) (ring .exit .now)) ⌝ }
 {
     let mut heads = [0u32; MOST_LAYERS];
     put_layers(
@@ -231,8 +216,10 @@ pub fn clear_work(
     marks: &mut [u32],
     ring: &mut [u32],
 )
-    requires { ⌜ Long n (length (now names)) (length (now points)) (length (now ends)) (length (now marks)) ⌝ ∗ ⌜ n ≤ length (now ring) ⌝ ∗ ⌜ n ≤ 196608 ⌝ }
-    ensures { λ _. ⌜ Zeroed n (now (names .entry)) (now (points .entry)) (now (ends .entry)) (now (marks .entry)) (now (ring .entry)) (now (names .exit)) (now (points .exit)) (now (ends .exit)) (now (marks .exit)) (now (ring .exit)) ⌝ }
+    requires { ⌜ Long n (lengthsOf (lent (now names) (now points) (now ends) (now marks))) ⌝
+        ∗ ⌜ n ≤ length (now ring) ⌝ ∗ ⌜ n ≤ 196608 ⌝ }
+    ensures { λ _. ⌜ Zeroed n (work (names .entry .now) (points .entry .now) (ends .entry .now) (marks .entry .now) (ring .entry .now))
+        (work (names .exit .now) (points .exit .now) (ends .exit .now) (marks .exit .now) (ring .exit .now)) ⌝ }
 {
     fill(names, n, 0);
     clear_points(points, 2 * n);

@@ -1,56 +1,40 @@
 // All layers: the layer file of a mesh at rising heights.
 ghost use mathlib.Core.Path.{_≡_};
-ghost use mathlib.Core.List.{[], _∷_};
-ghost use lib.ListN.{length};
-ghost use Rattle.mesh.specs.Refusals.{verdict};
-ghost use Rattle.mesh.specs.Tests.{size};
-ghost use Rattle.cutter.specs.Cut.{room};
-ghost use Rattle.sweep.specs.Operations.{ringRoom};
-ghost use Rattle.heights.specs.Heights.{tooManyHeights};
-ghost use Rattle.layers.specs.AllLayers.{layersTests, Files};
+ghost use Rattle.mesh.specs.Meshes.{ordered};
+ghost use Rattle.mesh.specs.Operation.{verdict};
+ghost use Rattle.mesh.specs.Refusals.{tellVerdict};
+ghost use Rattle.cutter.specs.Cut.{lengths};
+ghost use Rattle.layers.specs.AllLayers.{work, workRoomFor, layersTests, Files};
 use crate::internal::clear_work;
-use crate::internal::content_test;
 use crate::internal::put_file;
-use cutter::room_test;
+use cutter::room_for;
 use heights::base_z;
-use heights::count_test;
+use heights::few_heights;
+use heights::heights_test;
 use heights::taken_count;
 use layers::Filed;
-use mesh::Refusal;
 use mesh::Verdict;
-use mesh::tests::size_test;
+use tables::MeshTest;
+use tables::tests::one_test;
+use tables::tests::opening_test;
 
 pub mod internal;
 
-// Refusals 1 and 9, for lent tables of these lengths.
-fn lengths_test(
-    coords: &[i32],
-    corners: &[u32],
-    heights: &[i32],
+// Whether work tables of these lengths have the entries that n corners ask for.
+fn work_room_for(
+    n: usize,
     names: usize,
     points: usize,
     ends: usize,
     marks: usize,
     ring: usize,
-) -> Verdict
-    ensures { λ r. ⌜ r ≡ verdict (size (now (coords .entry)) (now (corners .entry)) ∷ tooManyHeights (now (coords .entry)) (now (heights .entry)) ∷ room (length (now (corners .entry))) names points ends marks ∷ ringRoom (now (corners .entry)) ring ∷ []) ⌝ }
+) -> bool
+    ensures { λ r. ⌜ r ≡ workRoomFor n (lengths names points ends marks) ring ⌝ }
 {
-    let a = size_test(coords, corners);
-    if let Verdict::Refused(_) = a {
-        return a;
+    if !room_for(n, names, points, ends, marks) {
+        return false;
     }
-    let b = count_test(coords, heights);
-    if let Verdict::Refused(_) = b {
-        return b;
-    }
-    let d = room_test(corners.len(), names, points, ends, marks);
-    if let Verdict::Refused(_) = d {
-        return d;
-    }
-    if ring < corners.len() {
-        return Verdict::Refused(Refusal::Room(0));
-    }
-    Verdict::Fine
+    n <= ring
 }
 
 // All refusals but 16 and 14, for lent tables of these lengths.
@@ -66,13 +50,21 @@ fn layers_test(
     marks: usize,
     ring: usize,
 ) -> Verdict
-    ensures { λ r. ⌜ r ≡ verdict (layersTests (now (coords .entry)) (now (corners .entry)) (now (pairing .entry)) (now (order .entry)) (now (heights .entry)) names points ends marks ring) ⌝ }
+    ensures { λ r. ⌜ tellVerdict r
+        ≡ verdict (layersTests (ordered (coords .entry .now) (corners .entry .now) (pairing .entry .now) (order .entry .now)) (heights .entry .now)
+        (lengths names points ends marks) ring) ⌝ }
 {
-    let a = lengths_test(coords, corners, heights, names, points, ends, marks, ring);
+    let few = few_heights(coords, heights);
+    let room = work_room_for(corners.len(), names, points, ends, marks, ring);
+    let a = opening_test(coords, corners, pairing, few, room);
     if let Verdict::Refused(_) = a {
         return a;
     }
-    content_test(coords, corners, pairing, order, heights)
+    let b = one_test(MeshTest::Order, coords, corners, pairing, order);
+    if let Verdict::Refused(_) = b {
+        return b;
+    }
+    heights_test(heights)
 }
 
 // All layers: writes the layer file of the heights given, or of the default ones.
@@ -89,7 +81,9 @@ pub fn all_layers(
     ring: &mut [u32],
     output: &mut [u8],
 ) -> Filed
-    ensures { λ r. ⌜ Files (now (coords .entry)) (now (corners .entry)) (now (pairing .entry)) (now (order .entry)) (now (heights .entry)) (now (names .entry)) (now (points .entry)) (now (ends .entry)) (now (marks .entry)) (now (ring .entry)) (now (output .entry)) r (now (names .exit)) (now (points .exit)) (now (ends .exit)) (now (marks .exit)) (now (ring .exit)) (now (output .exit)) ⌝ }
+    ensures { λ r. ⌜ Files (ordered (coords .entry .now) (corners .entry .now) (pairing .entry .now) (order .entry .now)) (heights .entry .now)
+        (work (names .entry .now) (points .entry .now) (ends .entry .now) (marks .entry .now) (ring .entry .now)) (output .entry .now) r
+        (work (names .exit .now) (points .exit .now) (ends .exit .now) (marks .exit .now) (ring .exit .now)) (output .exit .now) ⌝ }
 {
     let v = layers_test(
         coords,

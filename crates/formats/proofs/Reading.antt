@@ -29,7 +29,8 @@ join n top b s q (refused r) h g k = refl
 join n top b s q (parsed v r) h g k = by (ltb 0 v) refl (leb v ((top - (b - 128)) / 128)) refl
   where
     by : (t : Bool) → ltb 0 v ≡ t → (u : Bool) → leb v ((top - (b - 128)) / 128) ≡ u
-        → numbered n (tested (λ v. leb v top) s (joined b (parsed v r))) ≡ onto (b - 128) 128 1 (numbered n (tested (λ v. leb v ((top - (b - 128)) / 128)) q (parsed v r)))
+        → numbered n (tested (λ v. leb v top) s (joined b (parsed v r)))
+        ≡ onto (b - 128) 128 1 (numbered n (tested (λ v. leb v ((top - (b - 128)) / 128)) q (parsed v r)))
     by true e true f =
         let p = ltb-true 0 v e in
         let o = leb-true v ((top - (b - 128)) / 128) f in
@@ -57,7 +58,8 @@ module _ (file : List ℕ) (at top : ℕ) where
   module _ (h : at < length file) where
     one : getD file at 0 < 128 → getD file at 0 ≤ top → numberAt top file at ≡ Value (getD file at 0) (at + 1)
     unfolding numberAt parseNumber
-    one g k = simp (drop-cons file at 0 h, lt-ltb (getD file at 0) 128 g, le-leb (getD file at 0) top k, length-drop) (ap (Value (getD file at 0)) (omega arith))
+    one g k =
+        simp (drop-cons file at 0 h, lt-ltb (getD file at 0) 128 g, le-leb (getD file at 0) top k, length-drop) (ap (Value (getD file at 0)) (omega arith))
 
     one-over : getD file at 0 < 128 → top < getD file at 0 → numberAt top file at ≡ Bad
     unfolding numberAt parseNumber

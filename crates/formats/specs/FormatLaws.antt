@@ -8,7 +8,8 @@ use lib.Dec.{T}
 use lib.ListN.{length, getD, length-append}
 use lib.Seq.{getD-append-add}
 use Rattle.laws.specs.Booleans.{from-T}
-use Rattle.formats.specs.Formats.{Parse, parsed, refused, Format, andThen, mapped, tested, through, ruled, pair, headed, validAll, encodeAll, parseAll, sequence, counted, holds, finished, placed, decode}
+use Rattle.formats.specs.Formats.{Parse, parsed, refused, Format, andThen, mapped, tested, through, ruled, pair, headed, validAll, encodeAll, parseAll}
+use Rattle.formats.specs.Formats.{sequence, counted, holds, finished, placed, decode}
 
 -- a list of bytes
 abbrev pub Bytes : List ℕ → Type 0
@@ -120,13 +121,15 @@ pair-laws {A} {B} F G L M = record { there = to; back = fro }
         ((h .0, g .0), joined-back l (F .encode (i .0)) (i .1) ((G (i .0)) .encode (j .0)) r (h .1) (g .1))
 
 -- what is valid after a key has that key
-pub headed-laws : {K A : Type 0} (key : A → K) (F : Format K) (G : K → Format A) → ((k : K) (a : A) → (G k) .valid a → key a ≡ k) → Lawful F → ((k : K) → Lawful (G k)) → Lawful (headed key F G)
+pub headed-laws : {K A : Type 0} (key : A → K) (F : Format K) (G : K → Format A) → ((k : K) (a : A) → (G k) .valid a → key a ≡ k) → Lawful F
+    → ((k : K) → Lawful (G k)) → Lawful (headed key F G)
 headed-laws {K} {A} key F G same L M = record { there = to; back = fro }
   where
     to : (a : A) (r : List ℕ) → (headed key F G) .valid a → (headed key F G) .parse ((headed key F G) .encode a ++ r) ≡ parsed a r
     to a r h = simp (append-assoc, L .there (key a) ((G (key a)) .encode a ++ r) (h .0), (M (key a)) .there a r (h .1))
 
-    fro : (l : List ℕ) (a : A) (r : List ℕ) → Bytes l → (headed key F G) .parse l ≡ parsed a r → (headed key F G) .valid a × (l ≡ (headed key F G) .encode a ++ r)
+    fro : (l : List ℕ) (a : A) (r : List ℕ) → Bytes l → (headed key F G) .parse l ≡ parsed a r
+        → (headed key F G) .valid a × (l ≡ (headed key F G) .encode a ++ r)
     fro l a r bs e =
         let i = then-in (F .parse l) (λ k r. (G k) .parse r) a r e in
         let h = L .back l (i .0) (i .1) bs (i .2) in
@@ -150,7 +153,8 @@ module _ {S A : Type 0} (F : S → Format A) (step : S → A → S) where
     all-there (suc n) s (x ∷ xs) r h =
         simp (append-assoc, (L s) .there x (encodeAll F step (step s x) xs ++ r) (h .0), all-there n (step s x) xs r (h .1))
 
-    all-back : (n : ℕ) (s : S) (l : List ℕ) (xs : List A) (r : List ℕ) → Bytes l → parseAll F step n s l ≡ parsed xs r → validAll F step n s xs × (l ≡ encodeAll F step s xs ++ r)
+    all-back : (n : ℕ) (s : S) (l : List ℕ) (xs : List A) (r : List ℕ) → Bytes l → parseAll F step n s l ≡ parsed xs r
+        → validAll F step n s xs × (l ≡ encodeAll F step s xs ++ r)
     unfolding encodeAll parseAll
     all-back zero s l [] r bs e = (tt, cc)
     all-back zero s l (x ∷ xs) r bs e = let z : _≡_ {A = ℕ} 0 1 = cc in absurd (omega arith)

@@ -1,10 +1,12 @@
 -- Formats of bytes ("Files" of document 01): which values may be written, how each is written, and how it is read back.
--- Parsing works on what is left of a file and carries no position: a refusal holds what is left from the refused value on, so its place is the file's length less that.
+-- Parsing works on what is left of a file and carries no position: a refusal holds what is left from the refused value on, so its place is the file's length
+-- less that.
 use Prim.Native.Nat.{ℕ, zero, suc, _-_}
 use mathlib.Core.Bool.{Bool, cond}
 use mathlib.Core.List.{List, [], _∷_, _++_}
 use lib.Dec.{T}
 use lib.ListN.{length}
+pub use Rattle.polygons.specs.Flat.{Each}
 
 -- a value and what is left after it, or what is left from the refused value on
 pub data Parse (A : Type 0) : Type 0 where
@@ -81,14 +83,22 @@ module _ {S A : Type 0} (F : S → Format A) (step : S → A → S) where
   validAll (suc n) s [] = ⊥
   validAll (suc n) s (a ∷ l) = (F s) .valid a × validAll n (step s a) l
 
+  -- one after another
   unfoldable pub encodeAll : S → List A → List ℕ
   encodeAll s [] = []
   encodeAll s (a ∷ l) = (F s) .encode a ++ encodeAll (step s a) l
 
+  -- n of them from the front, and what is left
   unfoldable pub parseAll : ℕ → S → List ℕ → Parse (List A)
   parseAll zero s l = parsed [] l
   parseAll (suc n) s l = andThen ((F s) .parse l) (λ a r. mapped (λ rest. a ∷ rest) (parseAll n (step s a) r))
 
+  -- the state after some values
+  abbrev pub state : S → List A → S
+  state s [] = s
+  state s (a ∷ l) = state (step s a) l
+
+  -- n values, the first in the state s
   abbrev pub sequence : ℕ → S → Format (List A)
   sequence n s = record { valid = validAll n s; encode = encodeAll s; parse = parseAll n s }
 
@@ -100,13 +110,9 @@ module _ {S A : Type 0} (F : S → Format A) (step : S → A → S) where
 abbrev pub alike : {A : Type 0} → Format A → Unit {0} → Format A
 alike F s = F
 
+-- and change no state
 abbrev pub stay : {A : Type 0} → Unit {0} → A → Unit {0}
 stay s a = s
-
--- of each value of a list
-abbrev pub Each : {A : Type 0} → (A → Type 0) → List A → Type 0
-Each P [] = Unit {0}
-Each P (a ∷ l) = P a × Each P l
 
 -- ---- files
 

@@ -32,7 +32,8 @@ by-top : (k j n : ℕ) → j < k → 2 ^ j ≤ n → n < 2 ^ suc j → length (e
 by-top zero j n f h g = absurd (omega arith)
 by-top (suc k) j n f h g = by (ltb j 7) refl (by-top k (j - 7) (n / 128))
   where
-    by : (b : Bool) → ltb j 7 ≡ b → (j - 7 < k → 2 ^ (j - 7) ≤ n / 128 → n / 128 < 2 ^ suc (j - 7) → length (encodeNumber (n / 128)) ≡ (j - 7) / 7 + 1) → length (encodeNumber n) ≡ j / 7 + 1
+    by : (b : Bool) → ltb j 7 ≡ b → (j - 7 < k → 2 ^ (j - 7) ≤ n / 128 → n / 128 < 2 ^ suc (j - 7) → length (encodeNumber (n / 128)) ≡ (j - 7) / 7 + 1)
+        → length (encodeNumber n) ≡ j / 7 + 1
     by true e ih =
         let l : j < 7 = ltb-true j 7 e in
         let m : 2 ^ suc j ≤ 2 ^ 7 = pow-mono l in

@@ -7,26 +7,18 @@ use lib.ListN.{length}
 use lib.IntN.{ℤ, pos, negsuc, natAbs, _+ℤ_, _-ℤ_}
 use lib.Signed.{ltZ}
 use Rattle.mesh.specs.Corners.{largest}
-pub use Rattle.mesh.specs.Corners.{mostPoints}
+pub use Rattle.polygons.specs.Flat.{Point, mostPoints, fewestPoints}
 use Rattle.formats.specs.Formats.{Format, through, ruled, pair, counted, Decoded, decode}
 use Rattle.formats.specs.Numbers.{word, number, signed}
 
--- a point of a contour
-pub record Point : Type 0 where
-  pub x : ℤ
-  pub y : ℤ
-
--- a layer is a height and contours, which are rows of points
+-- a layer is a height and contours, which are lists of points
 pub record Layer : Type 0 where
   pub height : ℤ
   pub contours : List (List Point)
 
--- the limits beside `mostPoints` of a layer: most layers of a file, fewest points of a contour
+-- most layers of a file
 abbrev pub mostLayers : ℕ
 mostLayers = 4096
-
-abbrev pub fewestPoints : ℕ
-fewestPoints = 2
 
 -- a number in coordinate range
 abbrev pub inRange : ℤ → Bool

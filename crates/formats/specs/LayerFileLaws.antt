@@ -17,7 +17,8 @@ use Rattle.formats.specs.Numbers.{word, encodeNumber, parseNumber, numbe
 use Rattle.formats.specs.NumberLaws.{number-laws, signed-laws, zigzag-abs}
 use Rattle.formats.specs.PositionLaws.{Tails, number-tails, signed-tails, through-tails, ruled-tails, pair-tails, counted-tails}
 use Rattle.formats.specs.SequenceLaws.{parsed-length}
-use Rattle.formats.specs.LayerFile.{Point, Layer, mostLayers, mostPoints, fewestPoints, inRange, coordinate, point, origin, latest, contour, roomAfter, contourList, heightAbove, layer, lowest, heightOf, layerFile}
+use Rattle.formats.specs.LayerFile.{Point, Layer, mostLayers, mostPoints, fewestPoints, inRange, coordinate, point, origin, latest, contour, roomAfter}
+use Rattle.formats.specs.LayerFile.{contourList, heightAbove, layer, lowest, heightOf, layerFile}
 
 -- ---- each format is lawful, and what is left after a value is a part of the file
 
@@ -44,7 +45,8 @@ module _ (p : Point) where
   pub point-laws : Lawful (point p)
   unfolding point
   point-laws =
-      through-laws {B = Point} (λ q. record { x = q .0; y = q .1 }) (λ q. (q .x, q .y)) (pair (coordinate (p .x)) (λ x. coordinate (p .y))) (λ q. refl) (λ q. refl)
+      through-laws {B = Point} (λ q. record { x = q .0; y = q .1 }) (λ q. (q .x, q .y)) (pair (coordinate (p .x)) (λ x. coordinate (p .y))) (λ q. refl)
+      (λ q. refl)
       (pair-laws (coordinate (p .x)) (λ x. coordinate (p .y)) (coordinate-laws (p .x)) (λ x. coordinate-laws (p .y)))
 
   pub point-tails : Tails (point p)
@@ -56,11 +58,15 @@ module _ (p : Point) where
 module _ (room : ℕ) where
   pub contour-laws : Lawful (contour room)
   unfolding contour
-  contour-laws = counted-laws point latest point-laws (ruled (λ n. leb fewestPoints n) (number room)) origin (ruled-laws (λ n. leb fewestPoints n) (number room) (number-laws room))
+  contour-laws =
+      counted-laws point latest point-laws (ruled (λ n. leb fewestPoints n) (number room))
+      origin (ruled-laws (λ n. leb fewestPoints n) (number room) (number-laws room))
 
   pub contour-tails : Tails (contour room)
   unfolding contour
-  contour-tails = counted-tails point latest point-tails (ruled (λ n. leb fewestPoints n) (number room)) origin (ruled-tails (λ n. leb fewestPoints n) (number room) (number-tails room))
+  contour-tails =
+      counted-tails point latest point-tails (ruled (λ n. leb fewestPoints n) (number room))
+      origin (ruled-tails (λ n. leb fewestPoints n) (number room) (number-tails room))
 
 pub contourList-laws : Lawful contourList
 unfolding contourList
@@ -82,7 +88,8 @@ module _ (low : ℤ) where
   pub layer-laws : Lawful (layer low)
   unfolding layer
   layer-laws =
-      through-laws {B = Layer} (λ q. record { height = q .0; contours = q .1 }) (λ l. (l .height, l .contours)) (pair (heightAbove low) (λ h. contourList)) (λ q. refl) (λ l. refl)
+      through-laws {B = Layer} (λ q. record { height = q .0; contours = q .1 }) (λ l. (l .height, l .contours)) (pair (heightAbove low) (λ h. contourList))
+      (λ q. refl) (λ l. refl)
       (pair-laws (heightAbove low) (λ h. contourList) heightAbove-laws (λ h. contourList-laws))
 
   pub layer-tails : Tails (layer low)
@@ -192,11 +199,14 @@ module _ (low : ℤ) (l : List ℕ) where
   unfolding layer
   layer-bad e = simp e
 
-  pub layer-contours : (h : ℤ) (m : List ℕ) → (heightAbove low) .parse l ≡ parsed h m → (layer low) .parse l ≡ mapped {B = Layer} (λ cs. record { height = h; contours = cs }) (contourList .parse m)
+  pub layer-contours : (h : ℤ) (m : List ℕ) → (heightAbove low) .parse l ≡ parsed h m
+      → (layer low) .parse l ≡ mapped {B = Layer} (λ cs. record { height = h; contours = cs }) (contourList .parse m)
   unfolding layer
   layer-contours h m e = simp e (by (contourList .parse m))
     where
-      by : (d : Parse (List (List Point))) → mapped {B = Layer} (λ (q : ℤ × List (List Point)). record { height = q .0; contours = q .1 }) (mapped (λ b. (h, b)) d) ≡ mapped {B = Layer} (λ cs. record { height = h; contours = cs }) d
+      by : (d : Parse (List (List Point)))
+          → mapped {B = Layer} (λ (q : ℤ × List (List Point)). record { height = q .0; contours = q .1 }) (mapped (λ b. (h, b)) d)
+          ≡ mapped {B = Layer} (λ cs. record { height = h; contours = cs }) d
       by (parsed cs r) = refl
       by (refused r) = refl
 

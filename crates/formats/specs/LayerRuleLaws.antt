@@ -7,9 +7,11 @@ use lib.ListN.{length}
 use lib.IntN.{ℤ, natAbs}
 use lib.Signed.{_<ℤ_}
 use Rattle.mesh.specs.Corners.{largest}
+use Rattle.polygons.specs.Flat.{Polygons}
 use Rattle.formats.specs.Formats.{validAll, Each}
 use Rattle.formats.specs.NumberLaws.{word-sent, sent-word}
-use Rattle.formats.specs.LayerFile.{Point, Layer, mostPoints, fewestPoints, coordinate, point, origin, latest, contour, roomAfter, contourList, heightAbove, layer, lowest, heightOf, layerFile}
+use Rattle.formats.specs.LayerFile.{Point, Layer, mostPoints, fewestPoints, coordinate, point, origin, latest, contour, roomAfter, contourList}
+use Rattle.formats.specs.LayerFile.{heightAbove, layer, lowest, heightOf, layerFile}
 use Rattle.formats.specs.LayerFileLaws.{coordinate-valid}
 use Rattle.formats.specs.LayerRules.{PointRules, ContourRules, pointTotal, LayerRules, Rising, Rules}
 
@@ -59,8 +61,10 @@ few-contours (c ∷ cs) e = omega (arith, e .0 .0, few-contours cs (e .1))
 
 layer-valid : (low : ℤ) (l : Layer) → low <ℤ l .height → LayerRules l → (layer low) .valid l
 unfolding layer heightAbove contourList
-layer-valid low l h r =
-    ((word-sent (l .height) (r .height-fits), h .lt), (omega (arith, few-contours (l .contours) (r .each), r .few), contours-valid mostPoints (l .contours) (r .few) (r .each)))
+layer-valid low l h r = (
+  (word-sent (l .height) (r .height-fits), h .lt),
+  (omega (arith, few-contours (l .contours) (r .each), r .few), contours-valid mostPoints (l .contours) (r .few) (r .each)),
+)
 
 layer-ruled : (low : ℤ) (l : Layer) → (layer low) .valid l → (low <ℤ l .height) × LayerRules l
 unfolding layer heightAbove contourList
@@ -89,3 +93,12 @@ unfolding layerFile
 valid-rules ls e =
     let g = layers-ruled (length ls) lowest ls (e .1) in
     record { few = e .0; rises = g .0; each = g .1 }
+
+-- ---- the contours of a layer that obeys the rules are contours of two points or more, not too many in all
+
+contours-long : (cs : List (List Point)) → Each ContourRules cs → Each (λ (c : List Point). fewestPoints ≤ length c) cs
+contours-long [] e = tt
+contours-long (c ∷ cs) e = (e .0 .0, contours-long cs (e .1))
+
+pub ruled-polygons : (l : Layer) → LayerRules l → Polygons (l .contours)
+ruled-polygons l r = record { few = r .few; each = contours-long (l .contours) (r .each) }

@@ -1,10 +1,11 @@
 -- The rules of the layer file for layers as data, as document 01 tells them. `LayerRuleLaws` proves that these are exactly the layers that may be written.
-use Prim.Native.Nat.{ℕ, _+_, _≤_}
+use Prim.Native.Nat.{_≤_}
 use mathlib.Core.List.{List, [], _∷_}
 use lib.ListN.{length}
 use lib.IntN.{ℤ, natAbs}
 use lib.Signed.{_<ℤ_}
 use Rattle.mesh.specs.Corners.{largest}
+pub use Rattle.polygons.specs.Flat.{pointTotal}
 use Rattle.formats.specs.Formats.{Each}
 use Rattle.formats.specs.Numbers.{Word}
 use Rattle.formats.specs.LayerFile.{Point, Layer, mostLayers, mostPoints, fewestPoints, lowest}
@@ -17,11 +18,7 @@ PointRules p = (natAbs (p .x) ≤ largest) × (natAbs (p .y) ≤ largest)
 abbrev pub ContourRules : List Point → Type 0
 ContourRules c = (fewestPoints ≤ length c) × Each PointRules c
 
--- the points of a layer in all
-abbrev pub pointTotal : List (List Point) → ℕ
-pointTotal [] = 0
-pointTotal (c ∷ cs) = length c + pointTotal cs
-
+-- a layer's height has 32 bits, and it has no more points in all than a layer may have
 pub record LayerRules (l : Layer) : Type 0 where
   pub height-fits : Word (l .height)
   pub few : pointTotal (l .contours) ≤ mostPoints
@@ -32,6 +29,7 @@ abbrev pub Rising : ℤ → List Layer → Type 0
 Rising low [] = Unit {0}
 Rising low (l ∷ ls) = (low <ℤ l .height) × Rising (l .height) ls
 
+-- a file's layers: not too many, and their heights rise
 pub record Rules (ls : List Layer) : Type 0 where
   pub few : length ls ≤ mostLayers
   pub rises : Rising lowest ls

@@ -15,4 +15,6 @@ pub mod LayerFileLaws
 pub mod LayerRuleLaws
 pub mod PartFileLaws
 pub mod RoundTripLaws
+pub mod WholeFiles
+pub mod WholeFileLaws
 pub mod Worked

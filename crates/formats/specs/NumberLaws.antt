@@ -63,7 +63,8 @@ unfolding parseNumber groups
 groups-there zero n r h = absurd (omega arith)
 groups-there (suc k) n r h = by (ltb n 128) refl (groups-there k (n / 128) r)
   where
-    by : (t : Bool) → ltb n 128 ≡ t → (n / 128 < k → parseNumber (groups k (n / 128) ++ r) ≡ parsed (n / 128) r) → parseNumber (groups (suc k) n ++ r) ≡ parsed n r
+    by : (t : Bool) → ltb n 128 ≡ t → (n / 128 < k → parseNumber (groups k (n / 128) ++ r) ≡ parsed (n / 128) r)
+        → parseNumber (groups (suc k) n ++ r) ≡ parsed n r
     by true e f = simp e
     by false e f =
         let low : 128 ≤ n = ltb-false n 128 e in

@@ -43,6 +43,7 @@ abbrev pub zigzag : ℤ → ℕ
 zigzag (pos n) = 2 * n
 zigzag (negsuc k) = 2 * k + 1
 
+-- and back
 abbrev pub unzigzag : ℕ → ℤ
 unzigzag m = cond (eqb (m % 2) 0) (pos (m / 2)) (negsuc (m / 2))
 

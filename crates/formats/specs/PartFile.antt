@@ -13,10 +13,11 @@ pub record Part : Type 0 where
   pub corners : List ℕ
   pub heights : List ℤ
 
--- so many signed or plain numbers
+-- so many signed numbers
 unfoldable pub signedRun : ℕ → Format (List ℤ)
 signedRun n = sequence (alike (signed word)) stay n tt
 
+-- plain ones
 unfoldable pub plainRun : ℕ → Format (List ℕ)
 plainRun n = sequence (alike (number word)) stay n tt
 
@@ -42,7 +43,8 @@ tablesFor n =
 unfoldable pub partFile : Format Part
 partFile = headed countsOf counts tablesFor
 
--- the rules for parts as data: whole vertices and triangles, and 32 bits for each number. `PartFileLaws` proves that these are exactly the parts that may be written
+-- the rules for parts as data: whole vertices and triangles, and 32 bits for each number. `PartFileLaws` proves that these are exactly the parts that may be
+-- written
 pub record PartRules (p : Part) : Type 0 where
   pub whole-vertices : length (p .coords) % 3 ≡ 0
   pub whole-triangles : length (p .corners) % 3 ≡ 0

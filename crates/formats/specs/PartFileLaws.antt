@@ -67,7 +67,8 @@ module _ (n : ℕ × ℕ) where
   pub tablesFor-laws : Lawful (tablesFor n)
   unfolding tablesFor
   tablesFor-laws =
-      through-laws {B = Part} (λ q. record { coords = q .0; corners = q .1 .0; heights = q .1 .1 }) (λ p. (p .coords, (p .corners, p .heights))) (tables n) (λ q. refl) (λ p. refl)
+      through-laws {B = Part} (λ q. record { coords = q .0; corners = q .1 .0; heights = q .1 .1 }) (λ p. (p .coords, (p .corners, p .heights))) (tables n)
+      (λ q. refl) (λ p. refl)
       (pair-laws (signedRun (3 * n .0)) (λ cs. pair (plainRun (3 * n .1)) (λ ks. signedList)) (signedRun-laws (3 * n .0))
       (λ cs. pair-laws (plainRun (3 * n .1)) (λ ks. signedList) (plainRun-laws (3 * n .1)) (λ ks. signedList-laws)))
 
@@ -178,7 +179,8 @@ module _ (n : ℕ × ℕ) (file : List ℕ) (at : ℕ) where
     unfolding tablesFor
     after-coords =
         let q = passed (signedRun (3 * n .0)) file at b (signedRun-tails (3 * n .0)) h e in
-        through-extent _ _ (tables n) file at ∙ pair-next (signedRun (3 * n .0)) (λ cs. pair (plainRun (3 * n .1)) (λ ks. signedList)) file at (q .0) b (q .1 .parses)
+        through-extent _ _ (tables n) file at
+        ∙ pair-next (signedRun (3 * n .0)) (λ cs. pair (plainRun (3 * n .1)) (λ ks. signedList)) file at (q .0) b (q .1 .parses)
 
     pub corners-stop : (i : ℕ) → extentAt (plainRun (3 * n .1)) file b ≡ Refused i → extentAt (tablesFor n) file at ≡ Refused i
     corners-stop i f = after-coords ∙ pair-stop (plainRun (3 * n .1)) (λ ks. signedList) file b i f

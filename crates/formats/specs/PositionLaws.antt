@@ -8,10 +8,12 @@ use lib.Dec.{ltb, leb}
 use lib.ListN.{length, drop, length-drop, drop-of-length-le}
 use lib.Seq.{drop-drop}
 use borrow.Author.Tests.{leb-true}
-use Rattle.formats.specs.Formats.{Parse, parsed, refused, Format, mapped, through, ruled, pair, headed, parseAll, sequence, counted, holds, broken, decode}
+use Rattle.formats.specs.Formats.{Parse, parsed, refused, Format, mapped, through, ruled, pair, headed, parseAll, sequence, counted, holds, broken}
+use Rattle.formats.specs.Formats.{decode}
 use Rattle.formats.specs.FormatLaws.{not-refused, tested-in, mapped-in, then-in}
 use Rattle.formats.specs.Numbers.{parseNumber, number, zigzag, unzigzag, signed}
 use Rattle.formats.specs.Positions.{numberAt, extentAt}
+pub use Rattle.formats.specs.Positions.{ParsedAt}
 use Rattle.formats.specs.declared.Number.the-variants.{Value, Bad}
 use Rattle.formats.specs.declared.Extent.the-variants.{End, Refused}
 
@@ -47,7 +49,8 @@ unfolding parseNumber
 number-tail [] v r e = not-refused e
 number-tail (b ∷ l) v r e = by (ltb b 128) refl (parseNumber l) refl (number-tail l)
   where
-    by : (t : Bool) → ltb b 128 ≡ t → (d : Parse ℕ) → parseNumber l ≡ d → ((w : ℕ) (q : List ℕ) → parseNumber l ≡ parsed w q → (k : ℕ) × (k < length l) × (q ≡ drop (suc k) l))
+    by : (t : Bool) → ltb b 128 ≡ t → (d : Parse ℕ) → parseNumber l ≡ d
+        → ((w : ℕ) (q : List ℕ) → parseNumber l ≡ parsed w q → (k : ℕ) × (k < length l) × (q ≡ drop (suc k) l))
         → (k : ℕ) × (k < length (b ∷ l)) × (r ≡ drop (suc k) (b ∷ l))
     by true p d q f = let e′ : parsed b l ≡ parsed v r = simp p at e in let y : r ≡ l = cc in (0, omega arith, y)
     by false p (refused s) q f = let e′ : refused s ≡ parsed v r = simp (p, q) at e in not-refused e′
@@ -100,12 +103,8 @@ module _ {S A : Type 0} (F : S → Format A) (step : S → A → S) where
 
 -- ---- by positions
 
--- a value stands at a position, up to `next`
-pub record ParsedAt {A : Type 0} (F : Format A) (file : List ℕ) (at : ℕ) (a : A) (next : ℕ) : Type 0 where
-  pub inside : next ≤ length file
-  pub parses : F .parse (drop at file) ≡ parsed a (drop next file)
-
-pub parsed-at : {A : Type 0} {F : Format A} → Tails F → (file : List ℕ) (at : ℕ) → at ≤ length file → (a : A) (r : List ℕ) → F .parse (drop at file) ≡ parsed a r
+pub parsed-at : {A : Type 0} {F : Format A} → Tails F → (file : List ℕ) (at : ℕ) → at ≤ length file → (a : A) (r : List ℕ)
+    → F .parse (drop at file) ≡ parsed a r
     → ParsedAt F file at a (length file - length r)
 parsed-at T file at h a r p =
     let t = T (drop at file) a r p in
@@ -120,9 +119,9 @@ pub record Took (top : ℕ) (file : List ℕ) (at v next : ℕ) : Type 0 where
   pub inside : next ≤ length file
   pub parses : (number top) .parse (drop at file) ≡ parsed v (drop next file)
 
-pub took : (top : ℕ) (file : List ℕ) (at v next : ℕ) → numberAt top file at ≡ Value v next → Took top file at v next
+pub took : {top : ℕ} {file : List ℕ} {at v next : ℕ} → numberAt top file at ≡ Value v next → Took top file at v next
 unfolding numberAt
-took top file at v next e = by ((number top) .parse (drop at file)) refl
+took {top} {file} {at} {v} {next} e = by ((number top) .parse (drop at file)) refl
   where
     by : (d : Parse ℕ) → (number top) .parse (drop at file) ≡ d → Took top file at v next
     by (refused r) p = let e′ : Bad ≡ Value v next = simp p at e in let z : _≡_ {A = ℕ} 0 1 = cc in absurd (omega arith)
@@ -155,7 +154,8 @@ not-took top file at e = by (parseNumber (drop at file)) refl
         pick true q = let e′ : Value w (length file - length r) ≡ Bad = simp (p, q) at e in let z : _≡_ {A = ℕ} 0 1 = cc in absurd (omega arith)
 
 -- the two answers of a check
-pub passed : {A : Type 0} (F : Format A) (file : List ℕ) (at next : ℕ) → Tails F → at ≤ length file → extentAt F file at ≡ End next → (a : A) × ParsedAt F file at a next
+pub passed : {A : Type 0} (F : Format A) (file : List ℕ) (at next : ℕ) → Tails F → at ≤ length file → extentAt F file at ≡ End next
+    → (a : A) × ParsedAt F file at a next
 unfolding extentAt
 passed {A} F file at next T h e = by (F .parse (drop at file)) refl
   where
@@ -166,7 +166,8 @@ passed {A} F file at next T h e = by (F .parse (drop at file)) refl
         let y : length file - length r ≡ next = cc in
         (a, subst (ParsedAt F file at a) y (parsed-at T file at h a r p))
 
-pub stopped : {A : Type 0} (F : Format A) (file : List ℕ) (at i : ℕ) → extentAt F file at ≡ Refused i → (r : List ℕ) × (F .parse (drop at file) ≡ refused r) × (i ≡ length file - length r)
+pub stopped : {A : Type 0} (F : Format A) (file : List ℕ) (at i : ℕ) → extentAt F file at ≡ Refused i
+    → (r : List ℕ) × (F .parse (drop at file) ≡ refused r) × (i ≡ length file - length r)
 unfolding extentAt
 stopped {A} F file at i e = by (F .parse (drop at file)) refl
   where

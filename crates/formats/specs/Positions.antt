@@ -1,5 +1,6 @@
 -- Values at a position of a file, as functions of the code answer them.
-use Prim.Native.Nat.{ℕ, _-_}
+use Prim.Native.Nat.{ℕ, _-_, _≤_}
+use mathlib.Core.Path.{_≡_}
 use mathlib.Core.List.{List}
 use lib.ListN.{length, drop}
 use Rattle.formats.specs.Formats.{Parse, parsed, refused, Format}
@@ -26,3 +27,8 @@ extent n (refused r) = Refused (n - length r)
 -- how far the file is in a format, from a position on
 unfoldable pub extentAt : {A : Type 0} → Format A → List ℕ → ℕ → Extent
 extentAt F file at = extent (length file) (F .parse (drop at file))
+
+-- a value stands at a position, up to `next`
+pub record ParsedAt {A : Type 0} (F : Format A) (file : List ℕ) (at : ℕ) (a : A) (next : ℕ) : Type 0 where
+  pub inside : next ≤ length file
+  pub parses : F .parse (drop at file) ≡ parsed a (drop next file)

@@ -1,4 +1,5 @@
--- The theorems about the two files and the numbers in them: what is written is read back; what is read was written so, byte by byte; so nothing has two encodings.
+-- The theorems about the two files and the numbers in them: what is written is read back; what is read was written so, byte by byte; so nothing has two
+-- encodings.
 use mathlib.Core.Path.{_≡_}
 use mathlib.Core.List.{List}
 use Prim.Native.Nat.{ℕ, _≤_}

@@ -6,6 +6,7 @@ use native.Mathlib.Omega.{arith}
 use native.Mathlib.Nat.{suc-add, zero-add}
 use lib.ListN.{length, drop}
 use Rattle.formats.specs.Formats.{Parse, parsed, refused, Format, andThen, mapped, through, pair, headed, encodeAll, parseAll, sequence}
+pub use Rattle.formats.specs.Formats.{state}
 use Rattle.formats.specs.FormatLaws.{then-in, mapped-in}
 use Rattle.formats.specs.Positions.{extent, extentAt}
 use Rattle.formats.specs.PositionLaws.{place-drop, stopped}
@@ -65,7 +66,8 @@ checking F step file s at count h = record { inside = h; same = refl }
 
 module _ {S A : Type 0} {F : S → Format A} {step : S → A → S} {file : List ℕ} {total : Extent} {s : S} {i : ℕ} where
   -- a value that is refused from r on
-  pub check-stop : (left : ℕ) → Checking F step file total s i left → 0 < left → (r : List ℕ) → (F s) .parse (drop i file) ≡ refused r → Refused (length file - length r) ≡ total
+  pub check-stop : (left : ℕ) → Checking F step file total s i left → 0 < left → (r : List ℕ) → (F s) .parse (drop i file) ≡ refused r
+      → Refused (length file - length r) ≡ total
   unfolding parseAll extentAt
   check-stop zero w h r e = absurd (omega arith)
   check-stop (suc left) w h r e = simp e at (w .same)
@@ -74,7 +76,8 @@ module _ {S A : Type 0} {F : S → Format A} {step : S → A → S} {file : List
   pub check-bad : (left : ℕ) → Checking F step file total s i left → 0 < left → (F s) .parse (drop i file) ≡ refused (drop i file) → Refused i ≡ total
   check-bad left w h e = ap Refused (sym (place-drop file i (w .inside))) ∙ check-stop left w h (drop i file) e
 
-  pub check-next : (left : ℕ) → Checking F step file total s i left → 0 < left → (a : A) (j : ℕ) → (F s) .parse (drop i file) ≡ parsed a (drop j file) → j ≤ length file
+  pub check-next : (left : ℕ) → Checking F step file total s i left → 0 < left → (a : A) (j : ℕ) → (F s) .parse (drop i file) ≡ parsed a (drop j file)
+      → j ≤ length file
       → Checking F step file total (step s a) j (left - 1)
   unfolding parseAll extentAt
   check-next zero w h a j e k = absurd (omega arith)
@@ -105,7 +108,14 @@ module _ {S A : Type 0} (F : S → Format A) (step : S → A → S) where
       let i = then-in ((F s) .parse l) (λ a r. mapped (λ rest. a ∷ rest) (parseAll F step n (step s a) r)) xs r e in
       let j = mapped-in (λ rest. i .0 ∷ rest) (parseAll F step n (step s (i .0)) (i .1)) xs r (i .3) in
       let m : suc n - 1 ≡ n = omega arith in
-      record { value = i .0; rest = i .1; others = j .0; is = sym (j .2); head = i .2; tail = ap (λ (k : ℕ). parseAll F step k (step s (i .0)) (i .1)) m ∙ j .1 }
+      record {
+        value = i .0;
+        rest = i .1;
+        others = j .0;
+        is = sym (j .2);
+        head = i .2;
+        tail = ap (λ (k : ℕ). parseAll F step k (step s (i .0)) (i .1)) m ∙ j .1;
+      }
 
   pub none : (n : ℕ) (s : S) (l : List ℕ) (xs : List A) (r : List ℕ) → n ≤ 0 → parseAll F step n s l ≡ parsed xs r → (xs ≡ []) × (r ≡ l)
   unfolding parseAll
@@ -122,12 +132,8 @@ module _ {S A : Type 0} (F : S → Format A) (step : S → A → S) where
 
   -- ---- the first i values and then the others: for the way to value i
 
-  -- the state after some values
-  abbrev pub state : S → List A → S
-  state s [] = s
-  state s (x ∷ xs) = state (step s x) xs
-
-  mapped-then : {B : Type 0} (a : A) (d : Parse (List A)) (f : List A → List ℕ → Parse B) → andThen (mapped (λ xs. a ∷ xs) d) f ≡ andThen d (λ xs r. f (a ∷ xs) r)
+  mapped-then : {B : Type 0} (a : A) (d : Parse (List A)) (f : List A → List ℕ → Parse B)
+      → andThen (mapped (λ xs. a ∷ xs) d) f ≡ andThen d (λ xs r. f (a ∷ xs) r)
   mapped-then a (parsed xs r) f = refl
   mapped-then a (refused r) f = refl
 
@@ -145,20 +151,22 @@ module _ {S A : Type 0} (F : S → Format A) (step : S → A → S) where
   mapped-none (refused q) = refl
 
   pub parse-split : (i n : ℕ) (s : S) (l : List ℕ)
-      → parseAll F step (i + n) s l ≡ andThen (parseAll F step i s l) (λ xs r. mapped (λ ys. xs ++ ys) (parseAll F step n (state s xs) r))
+      → parseAll F step (i + n) s l ≡ andThen (parseAll F step i s l) (λ xs r. mapped (λ ys. xs ++ ys) (parseAll F step n (state F step s xs) r))
   unfolding parseAll
   parse-split zero n s l = ap (λ (k : ℕ). parseAll F step k s l) (zero-add n) ∙ mapped-none (parseAll F step n s l)
   parse-split (suc i) n s l = ap (λ (k : ℕ). parseAll F step k s l) (suc-add i n) ∙ by ((F s) .parse l) refl (λ a r. parse-split i n (step s a) r)
     where
       by : (d : Parse A) → (F s) .parse l ≡ d
-          → ((a : A) (r : List ℕ) → parseAll F step (i + n) (step s a) r ≡ andThen (parseAll F step i (step s a) r) (λ xs q. mapped (λ ys. xs ++ ys) (parseAll F step n (state (step s a) xs) q)))
-          → parseAll F step (suc (i + n)) s l ≡ andThen (parseAll F step (suc i) s l) (λ xs r. mapped (λ ys. xs ++ ys) (parseAll F step n (state s xs) r))
+          → ((a : A) (r : List ℕ) → parseAll F step (i + n) (step s a) r ≡ andThen (parseAll F step i (step s a) r)
+          (λ xs q. mapped (λ ys. xs ++ ys) (parseAll F step n (state F step (step s a) xs) q)))
+          → parseAll F step (suc (i + n)) s l
+          ≡ andThen (parseAll F step (suc i) s l) (λ xs r. mapped (λ ys. xs ++ ys) (parseAll F step n (state F step s xs) r))
       by (refused r) e f = simp e
       by (parsed a r) e f =
           simp e
           (ap (mapped (λ xs. a ∷ xs)) (f a r)
-          ∙ mapped-in-then a (parseAll F step i (step s a) r) (λ xs q. parseAll F step n (state (step s a) xs) q)
-          ∙ sym (mapped-then a (parseAll F step i (step s a) r) (λ xs q. mapped (λ ys. xs ++ ys) (parseAll F step n (state s xs) q))))
+          ∙ mapped-in-then a (parseAll F step i (step s a) r) (λ xs q. parseAll F step n (state F step (step s a) xs) q)
+          ∙ sym (mapped-then a (parseAll F step i (step s a) r) (λ xs q. mapped (λ ys. xs ++ ys) (parseAll F step n (state F step s xs) q))))
 
   -- ---- writing
 
@@ -170,9 +178,9 @@ module _ {S A : Type 0} (F : S → Format A) (step : S → A → S) where
   unfolding encodeAll
   encode-first s x xs = refl
 
-  pub encode-append : (s : S) (xs ys : List A) → encodeAll F step s (xs ++ ys) ≡ encodeAll F step s xs ++ encodeAll F step (state s xs) ys
+  pub encode-append : (s : S) (xs ys : List A) → encodeAll F step s (xs ++ ys) ≡ encodeAll F step s xs ++ encodeAll F step (state F step s xs) ys
   unfolding encodeAll
   encode-append s [] ys = refl
   encode-append s (x ∷ xs) ys =
       ap (λ (l : List ℕ). (F s) .encode x ++ l) (encode-append (step s x) xs ys)
-      ∙ sym (append-assoc ((F s) .encode x) (encodeAll F step (step s x) xs) (encodeAll F step (state (step s x) xs) ys))
+      ∙ sym (append-assoc ((F s) .encode x) (encodeAll F step (step s x) xs) (encodeAll F step (state F step (step s x) xs) ys))

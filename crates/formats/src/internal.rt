@@ -1,4 +1,4 @@
-// Internal: what writes into a lent table that has room, as its `requires` says.
+// Writing a number into a lent table: the `requires` says that it has room.
 ghost use mathlib.Core.Path.{_≡_};
 ghost use Prim.Native.Nat.{_+_, _≤_};
 ghost use lib.ListN.{length};
@@ -8,7 +8,7 @@ ghost use Rattle.formats.specs.Numbers.{encodeNumber};
 // Writes a number at a position, and returns the position after it. All before and after stays.
 pub fn write_number(out: &mut [u8], at: usize, n: u64) -> usize
     requires { ⌜ at + length (encodeNumber n) ≤ length (now out) ⌝ }
-    ensures { λ r. ⌜ (r ≡ at + length (encodeNumber n)) × (now (out .exit) ≡ sets (now (out .entry)) at (encodeNumber n)) ⌝ }
+    ensures { λ r. ⌜ (r ≡ at + length (encodeNumber n)) × (out .exit .now ≡ sets (out .entry .now) at (encodeNumber n)) ⌝ }
 {
     let mut v = n;
     let mut i = at;

@@ -16,7 +16,7 @@ fn wide(b: u8) -> u64
 // The number at a position of a file, if it is at most top. `value` is what the groups read so far make, `unit` what the next group counts,
 // `rest` the most that the groups to come may make, and `least` what the last group must reach: only a first group may be 0 at the end.
 pub fn read_number(file: &[u8], at: usize, top: u64) -> Number
-    ensures { λ r. ⌜ r ≡ numberAt top (now (file .entry)) at ⌝ }
+    ensures { λ r. ⌜ r ≡ numberAt top (file .entry .now) at ⌝ }
 {
     let mut value: u64 = 0;
     let mut unit: u64 = 1;

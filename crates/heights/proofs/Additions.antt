@@ -16,7 +16,8 @@ use Rattle.heights.specs.Heights.{firstAbove, spacing}
 use Rattle.heights.specs.Taking.{heightAt, Takable}
 
 -- a height given
-pub given-is : (low : ℤ) (heights : List ℤ) (k : ℕ) → 0 < length heights → Word (getD heights k (pos 0)) → toZ w32 (ofZ w32 (getD heights k (pos 0))) ≡ heightAt low heights k
+pub given-is : (low : ℤ) (heights : List ℤ) (k : ℕ) → 0 < length heights → Word (getD heights k (pos 0))
+    → toZ w32 (ofZ w32 (getD heights k (pos 0))) ≡ heightAt low heights k
 unfolding heightAt
 given-is low [] k h f = absurd (omega arith)
 given-is low (z ∷ zs) k h f = same w32 (getD (z ∷ zs) k (pos 0)) f

@@ -13,10 +13,9 @@ use mir.Val.{Fits, toZ}
 use Rattle.laws.specs.Integers.{diff, le-in, le-out}
 use Rattle.laws.specs.Machine.{Rd, fit, cast, sub, unsigned-ok}
 use Rattle.mesh.specs.Corners.{vertexCount}
-use Rattle.mesh.specs.Refusals.{test}
-use Rattle.mesh.specs.RefusalLaws.{whole-refused, whole-fine}
-use Rattle.mesh.specs.declared.Refusal.the-variants.{Size}
-use Rattle.mesh.specs.declared.Verdict.the-variants.{Fine, Refused}
+use Rattle.mesh.specs.Operation.{fine, refuses, test}
+use Rattle.mesh.specs.OperationLaws.{whole-refused, whole-fine}
+use Rattle.mesh.specs.Refusals.{refusal}
 use Rattle.formats.specs.Numbers.{Word}
 use Rattle.formats.specs.LayerFile.{mostLayers}
 use Rattle.heights.specs.Heights.{firstAbove, spacing, lowestZ, highestZ, defaultCount, heightsTaken, tooManyHeights}
@@ -74,10 +73,3 @@ module _ (coords heights : List ℤ) where
       by : (l : List ℤ) → length l ≡ 0 → defaultCount coords ≡ length (heightsTaken coords l)
       by [] q = sym (ap length (taken-default coords) ∙ length-defaults coords)
       by (z ∷ zs) q = absurd (omega arith)
-
-  module _ {n : ℕ} (e : n ≡ length (heightsTaken coords heights)) where
-    pub too-many : mostLayers < n → Refused (Size 0) ≡ test (tooManyHeights coords heights)
-    too-many h = whole-refused Size _ (lt-ltb mostLayers (length (heightsTaken coords heights)) (omega arith))
-
-    pub few-enough : n ≤ mostLayers → Fine ≡ test (tooManyHeights coords heights)
-    few-enough h = whole-fine Size _ (le-ltb mostLayers (length (heightsTaken coords heights)) (omega arith))

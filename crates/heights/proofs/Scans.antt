@@ -66,7 +66,8 @@ module _ (coords : List ℤ) where
   span-start f = record { upto = omega arith; low-is = same w32 (zOf coords 0) f; high-is = same w32 (zOf coords 0) f }
 
   -- l and h are what the calls of `lower` and `higher` gave
-  pub span-more : {low high v : ℕ} → Spanned coords low high v → (l h : ℤ) → Word (zOf coords v) → Word l → Word h → l ≡ lower (toZ w32 low) (held (zOf coords v))
+  pub span-more : {low high v : ℕ} → Spanned coords low high v → (l h : ℤ) → Word (zOf coords v) → Word l → Word h
+      → l ≡ lower (toZ w32 low) (held (zOf coords v))
       → h ≡ higher (toZ w32 high) (held (zOf coords v)) → v < vertexCount coords → Spanned coords (ofZ w32 l) (ofZ w32 h) (v + 1)
   unfolding lowestTo highestTo
   span-more {v = v} s l h f fl fh el eh m =

@@ -1,4 +1,5 @@
--- Laws of the heights taken: the lowest and the highest z, that the default heights are exactly those not above the highest z, that they rise, and that they have 32 bits.
+-- Laws of the heights taken: the lowest and the highest z, that the default heights are exactly those not above the highest z, that they rise, and that they
+-- have 32 bits.
 use Prim.Native.Nat.{ℕ, zero, suc, _+_, _*_, _-_, _/_, _≤_, _<_}
 use mathlib.Core.Path.{_≡_, refl, sym, ap, _∙_, subst}
 use mathlib.Core.Bool.{Bool, true, false, not, cond}
@@ -14,12 +15,13 @@ use Rattle.laws.specs.Booleans.{clash, is-true, from-T, split-lt}
 use Rattle.laws.specs.Integers.{one-zero, mag-le, abs-is, sum, diff, le-in, le-out, lt-in, lt-out}
 use Rattle.laws.specs.TableLaws.{length-tabulate, getD-tabulate}
 use Rattle.mesh.specs.Corners.{largest, vertexCount, zOf}
-use Rattle.mesh.specs.Refusals.{test}
-use Rattle.mesh.specs.RefusalLaws.{Nowhere, nowhere-fine, fine-nowhere}
-use Rattle.mesh.specs.declared.Verdict.the-variants.{Fine}
+use Rattle.mesh.specs.Operation.{fine, test}
+use Rattle.mesh.specs.OperationLaws.{Nowhere, nowhere-fine, fine-nowhere}
 use Rattle.formats.specs.Numbers.{Word}
 use Rattle.formats.specs.LayerFile.{mostLayers}
-use Rattle.heights.specs.Heights.{firstAbove, spacing, lower, higher, lowestTo, highestTo, lowestZ, highestZ, defaultCount, defaultHeight, defaultHeights, heightsTaken, tooManyHeights, notAboveLast, fallingHeight}
+pub use Rattle.heights.specs.Taking.{Rising, Words}
+use Rattle.heights.specs.Heights.{firstAbove, spacing, lower, higher, lowestTo, highestTo, lowestZ, highestZ, defaultCount, defaultHeight, defaultHeights}
+use Rattle.heights.specs.Heights.{heightsTaken, tooManyHeights, notAboveLast, fallingHeight}
 
 -- ---- the lower and the higher of two numbers
 
@@ -176,7 +178,8 @@ module _ (coords : List ℤ) where
       let t = highestZ coords in
       omega (arith, le-in h, sum l (pos (firstAbove + spacing * k)), diff t l, abs-is (t -ℤ l), one-zero (t -ℤ l), le-in (lowest-highest v), count-some v)
 
-  pub default-exactly : 0 < vertexCount coords → (k : ℕ) → (k < defaultCount coords → defaultHeight coords k ≤ℤ highestZ coords) × (defaultHeight coords k ≤ℤ highestZ coords → k < defaultCount coords)
+  pub default-exactly : 0 < vertexCount coords → (k : ℕ)
+      → (k < defaultCount coords → defaultHeight coords k ≤ℤ highestZ coords) × (defaultHeight coords k ≤ℤ highestZ coords → k < defaultCount coords)
   default-exactly v k = (default-not-above k, default-all k v)
 
   pub length-defaults : length (defaultHeights coords) ≡ defaultCount coords
@@ -192,10 +195,6 @@ module _ (coords : List ℤ) where
       omega (arith, lt-out, sum l (pos (firstAbove + spacing * k)), sum l (pos (firstAbove + spacing * suc k)))
 
 -- ---- heights that rise
-
--- "strictly rising heights"
-abbrev pub Rising : List ℤ → Type 0
-Rising hs = (i : ℕ) → suc i < length hs → getD hs i (pos 0) <ℤ getD hs (suc i) (pos 0)
 
 module _ (hs : List ℤ) where
   pub first-above : notAboveLast hs 0 ≡ false
@@ -240,21 +239,19 @@ taken-given coords (z ∷ zs) h = refl
 -- 12 is the same of the heights given and of those taken: default heights never fit it
 pub falling-taken : (coords heights : List ℤ) → test (fallingHeight (heightsTaken coords heights)) ≡ test (fallingHeight heights)
 unfolding heightsTaken
-falling-taken coords [] = sym (nowhere-fine (fallingHeight (defaultHeights coords)) (default-nowhere coords)) ∙ nowhere-fine (fallingHeight []) (λ i l. absurd (omega arith))
+falling-taken coords [] =
+    sym (nowhere-fine (fallingHeight (defaultHeights coords)) (default-nowhere coords)) ∙ nowhere-fine (fallingHeight []) (λ i l. absurd (omega arith))
 falling-taken coords (h ∷ hs) = refl
 
 -- what passing the tests gives: heights that rise, and not too many
-pub taken-rising : (coords heights : List ℤ) → test (fallingHeight heights) ≡ Fine → Rising (heightsTaken coords heights)
-taken-rising coords heights e = nowhere-rising (heightsTaken coords heights) (fine-nowhere (fallingHeight (heightsTaken coords heights)) (falling-taken coords heights ∙ e))
+pub taken-rising : (coords heights : List ℤ) → test (fallingHeight heights) ≡ fine → Rising (heightsTaken coords heights)
+taken-rising coords heights e =
+    nowhere-rising (heightsTaken coords heights) (fine-nowhere (fallingHeight (heightsTaken coords heights)) (falling-taken coords heights ∙ e))
 
-pub taken-few : (coords heights : List ℤ) → test (tooManyHeights coords heights) ≡ Fine → length (heightsTaken coords heights) ≤ mostLayers
+pub taken-few : (coords heights : List ℤ) → test (tooManyHeights coords heights) ≡ fine → length (heightsTaken coords heights) ≤ mostLayers
 taken-few coords heights e = ltb-false mostLayers (length (heightsTaken coords heights)) (fine-nowhere (tooManyHeights coords heights) e 0 (omega arith))
 
 -- ---- 32 bits
-
--- every number of a table has 32 bits
-abbrev pub Words : List ℤ → Type 0
-Words numbers = (i : ℕ) → i < length numbers → Word (getD numbers i (pos 0))
 
 word-between : (a z b : ℤ) → a ≤ℤ z → z ≤ℤ b → Word a → Word b → Word z
 word-between a (pos n) (pos m) h k p q = omega (arith, le-in k)

@@ -8,8 +8,8 @@ use lib.IntN.{ℤ, pos, natAbs, _+ℤ_, _-ℤ_}
 use lib.Signed.{ltZ}
 use Rattle.laws.specs.Tables.{tabulate}
 use Rattle.mesh.specs.Corners.{vertexCount, zOf}
-use Rattle.mesh.specs.Refusals.{Condition, whole}
-use Rattle.mesh.specs.declared.Refusal.the-variants.{Size, Height}
+use Rattle.mesh.specs.Operation.{Condition, whole}
+use Rattle.mesh.specs.Refusals.{Told, refusal}
 use Rattle.formats.specs.LayerFile.{mostLayers}
 
 -- "lowest z + 50 and every 100 after it"
@@ -26,7 +26,7 @@ lower a b = cond (ltZ b a) b a
 unfoldable pub higher : ℤ → ℤ → ℤ
 higher a b = cond (ltZ a b) b a
 
--- the lowest and the highest z of the first n vertices; that of vertex 0 where n is 0
+-- the lowest and the highest z of the first n vertices; that of vertex 0 where n is 0, which is asked only where there are vertices
 unfoldable pub lowestTo : List ℤ → ℕ → ℤ
 lowestTo coords zero = zOf coords 0
 lowestTo coords (suc n) = lower (lowestTo coords n) (zOf coords n)
@@ -59,12 +59,12 @@ heightsTaken coords [] = defaultHeights coords
 heightsTaken coords (h ∷ hs) = h ∷ hs
 
 -- 1: too many heights, default ones counted, place 0
-abbrev pub tooManyHeights : List ℤ → List ℤ → Condition
-tooManyHeights coords heights = whole Size (ltb mostLayers (length (heightsTaken coords heights)))
+abbrev pub tooManyHeights : List ℤ → List ℤ → Condition Told
+tooManyHeights coords heights = whole (refusal 1) (ltb mostLayers (length (heightsTaken coords heights)))
 
--- 12: the position of the first height not above its forerunner
+-- 12: the position of the first height not above its forerunner; positions are those of the heights, so that both are there
 unfoldable pub notAboveLast : List ℤ → ℕ → Bool
 notAboveLast hs i = ltb 0 i && not (ltZ (getD hs (i - 1) (pos 0)) (getD hs i (pos 0)))
 
-abbrev pub fallingHeight : List ℤ → Condition
-fallingHeight hs = record { refusal = Height; places = length hs; fits = notAboveLast hs }
+abbrev pub fallingHeight : List ℤ → Condition Told
+fallingHeight hs = record { tells = refusal 12; places = length hs; fits = notAboveLast hs }

@@ -1,17 +1,27 @@
--- Internal: one height taken, by its number, from the lowest z or the heights given, for functions that are not handed the coordinates.
-use Prim.Native.Nat.{ℕ, _+_, _*_, _<_}
+-- The heights taken, strictly rising; and one of them by its number, from the lowest z or the heights given, for functions that are not handed the coordinates.
+use Prim.Native.Nat.{ℕ, suc, _+_, _*_, _<_}
 use mathlib.Core.Path.{_≡_}
 use mathlib.Core.List.{List, [], _∷_}
 use lib.ListN.{length, getD}
 use lib.IntN.{ℤ, pos, _+ℤ_}
+use lib.Signed.{_<ℤ_}
 use Rattle.formats.specs.Numbers.{Word}
 use Rattle.heights.specs.Heights.{firstAbove, spacing, lowestZ}
+
+-- each height is above its forerunner
+abbrev pub Rising : List ℤ → Type 0
+Rising hs = (i : ℕ) → suc i < length hs → getD hs i (pos 0) <ℤ getD hs (suc i) (pos 0)
+
+-- numbers of 32 bits
+abbrev pub Words : List ℤ → Type 0
+Words numbers = (i : ℕ) → i < length numbers → Word (getD numbers i (pos 0))
 
 -- the lowest z where the heights are the default ones
 unfoldable pub baseZ : List ℤ → List ℤ → ℤ
 baseZ coords [] = lowestZ coords
 baseZ coords (h ∷ hs) = pos 0
 
+-- height k of those taken
 unfoldable pub heightAt : ℤ → List ℤ → ℕ → ℤ
 heightAt low [] k = low +ℤ pos (firstAbove + spacing * k)
 heightAt low (h ∷ hs) k = getD (h ∷ hs) k (pos 0)

@@ -9,7 +9,8 @@ use Rattle.heights.specs.Heights.{lowestZ, defaultHeight, heightsTaken}
 use Rattle.heights.specs.HeightLaws.{Words, length-defaults, default-at, heights-fit}
 use Rattle.heights.specs.Taking.{baseZ, heightAt, Takable}
 
-pub height-at : (coords heights : List ℤ) (k : ℕ) → k < length (heightsTaken coords heights) → heightAt (baseZ coords heights) heights k ≡ getD (heightsTaken coords heights) k (pos 0)
+pub height-at : (coords heights : List ℤ) (k : ℕ) → k < length (heightsTaken coords heights)
+    → heightAt (baseZ coords heights) heights k ≡ getD (heightsTaken coords heights) k (pos 0)
 unfolding baseZ heightAt heightsTaken defaultHeight
 height-at coords [] k h = sym (default-at coords k (omega (arith, length-defaults coords)))
 height-at coords (z ∷ zs) k h = refl

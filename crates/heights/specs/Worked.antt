@@ -4,10 +4,10 @@ use mathlib.Core.List.{List, [], _∷_}
 use lib.IntN.{ℤ, pos, negsuc}
 use Rattle.laws.specs.Tables.{tabulate}
 use Rattle.laws.specs.Least.{least, some}
-use Rattle.mesh.specs.Refusals.{test}
-use Rattle.mesh.specs.declared.Refusal.the-variants.{Height}
-use Rattle.mesh.specs.declared.Verdict.the-variants.{Fine, Refused}
-use Rattle.heights.specs.Heights.{lower, higher, lowestTo, highestTo, defaultCount, defaultHeight, heightsTaken, tooManyHeights, notAboveLast, fallingHeight}
+use Rattle.mesh.specs.Operation.{refuses, fine, test}
+use Rattle.mesh.specs.Refusals.{refusal}
+use Rattle.heights.specs.Heights.{lower, higher, lowestTo, highestTo, defaultCount, defaultHeight, heightsTaken, tooManyHeights, notAboveLast}
+use Rattle.heights.specs.Heights.{fallingHeight}
 
 -- part P, whose highest z, 10, is below 0 + 50
 abbrev partP : List ℤ
@@ -48,15 +48,15 @@ unfolding heightsTaken
 given-of-P = refl
 
 -- they rise
-rising-of-P : test (fallingHeight (pos 0 ∷ pos 5 ∷ pos 10 ∷ pos 11 ∷ [])) ≡ Fine
+rising-of-P : test (fallingHeight (pos 0 ∷ pos 5 ∷ pos 10 ∷ pos 11 ∷ [])) ≡ fine
 unfolding test some least notAboveLast
 rising-of-P = refl
 
-few-of-P : test (tooManyHeights partP (pos 0 ∷ pos 5 ∷ pos 10 ∷ pos 11 ∷ [])) ≡ Fine
+few-of-P : test (tooManyHeights partP (pos 0 ∷ pos 5 ∷ pos 10 ∷ pos 11 ∷ [])) ≡ fine
 unfolding test some least heightsTaken
 few-of-P = refl
 
 -- equal heights: the second is refused
-equal-refused : test (fallingHeight (negsuc 0 ∷ pos 5 ∷ pos 5 ∷ pos 4 ∷ [])) ≡ Refused (Height 2)
+equal-refused : test (fallingHeight (negsuc 0 ∷ pos 5 ∷ pos 5 ∷ pos 4 ∷ [])) ≡ refuses (refusal 12 2)
 unfolding test some least notAboveLast
 equal-refused = refl

@@ -1,4 +1,4 @@
-// Internal: a height taken, by its number.
+// A height taken, by its number.
 ghost use mathlib.Core.Path.{_≡_};
 ghost use Rattle.heights.specs.Taking.{heightAt, Takable};
 use crate::FIRST_ABOVE;
@@ -7,7 +7,7 @@ use crate::SPACING;
 // Height k of those taken, where low is the lowest z.
 pub fn taken_height(low: i32, heights: &[i32], k: usize) -> i32
     requires { ⌜ Takable low (now heights) k ⌝ }
-    ensures { λ r. ⌜ r ≡ heightAt low (now (heights .entry)) k ⌝ }
+    ensures { λ r. ⌜ r ≡ heightAt low (heights .entry .now) k ⌝ }
 {
     if 0 < heights.len() {
         return heights[k];

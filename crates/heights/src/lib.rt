@@ -1,11 +1,14 @@
 // The heights that All layers takes: those given, else the default, and the refusals 1 and 12 that are about heights.
 ghost use mathlib.Core.Path.{_≡_};
 ghost use Prim.Native.Nat.{_<_};
+ghost use lib.Dec.{leb};
 ghost use lib.ListN.{length};
 ghost use Rattle.laws.specs.Least.{least};
-ghost use Rattle.mesh.specs.Refusals.{test};
+ghost use Rattle.mesh.specs.Operation.{test};
+ghost use Rattle.mesh.specs.Refusals.{tellVerdict};
+ghost use Rattle.formats.specs.LayerFile.{mostLayers};
 ghost use Rattle.heights.specs.Taking.{baseZ};
-ghost use Rattle.heights.specs.Heights.{lower, higher, lowestZ, highestZ, defaultCount, heightsTaken, tooManyHeights, notAboveLast, fallingHeight};
+ghost use Rattle.heights.specs.Heights.{lower, higher, lowestZ, highestZ, defaultCount, heightsTaken, notAboveLast, fallingHeight};
 use formats::MOST_LAYERS;
 use mesh::Refusal;
 use mesh::Verdict;
@@ -43,7 +46,7 @@ fn higher(a: i32, b: i32) -> i32
 
 // The lowest and the highest z of all vertices, 0 where there are none.
 pub fn z_span(coords: &[i32]) -> Span
-    ensures { λ r. ⌜ (r .low ≡ lowestZ (now (coords .entry))) × (r .high ≡ highestZ (now (coords .entry))) ⌝ }
+    ensures { λ r. ⌜ (r .low ≡ lowestZ (coords .entry .now)) × (r .high ≡ highestZ (coords .entry .now)) ⌝ }
 {
     let n = coords.len() / 3;
     if n == 0 {
@@ -64,7 +67,7 @@ pub fn z_span(coords: &[i32]) -> Span
 
 // The z above which the default heights lie. Heights that are given need none: it is 0 then, and no vertex is looked at.
 pub fn base_z(coords: &[i32], heights: &[i32]) -> i32
-    ensures { λ r. ⌜ r ≡ baseZ (now (coords .entry)) (now (heights .entry)) ⌝ }
+    ensures { λ r. ⌜ r ≡ baseZ (coords .entry .now) (heights .entry .now) ⌝ }
 {
     if 0 < heights.len() {
         return 0;
@@ -74,7 +77,7 @@ pub fn base_z(coords: &[i32], heights: &[i32]) -> i32
 
 // How many default heights there are. The difference may have 32 bits, so it is taken in 64.
 fn default_count(coords: &[i32]) -> usize
-    ensures { λ r. ⌜ r ≡ defaultCount (now (coords .entry)) ⌝ }
+    ensures { λ r. ⌜ r ≡ defaultCount (coords .entry .now) ⌝ }
 {
     if coords.len() / 3 == 0 {
         return 0;
@@ -88,7 +91,7 @@ fn default_count(coords: &[i32]) -> usize
 
 // How many heights are taken.
 pub fn taken_count(coords: &[i32], heights: &[i32]) -> usize
-    ensures { λ r. ⌜ r ≡ length (heightsTaken (now (coords .entry)) (now (heights .entry))) ⌝ }
+    ensures { λ r. ⌜ r ≡ length (heightsTaken (coords .entry .now) (heights .entry .now)) ⌝ }
 {
     if 0 < heights.len() {
         return heights.len();
@@ -96,20 +99,17 @@ pub fn taken_count(coords: &[i32], heights: &[i32]) -> usize
     default_count(coords)
 }
 
-// Refusal 1 for heights.
-pub fn count_test(coords: &[i32], heights: &[i32]) -> Verdict
-    ensures { λ r. ⌜ r ≡ test (tooManyHeights (now (coords .entry)) (now (heights .entry))) ⌝ }
+// Whether not too many heights are taken.
+pub fn few_heights(coords: &[i32], heights: &[i32]) -> bool
+    ensures { λ r. ⌜ r ≡ leb (length (heightsTaken (coords .entry .now) (heights .entry .now))) mostLayers ⌝ }
 {
-    if MOST_LAYERS < taken_count(coords, heights) {
-        return Verdict::Refused(Refusal::Size(0));
-    }
-    Verdict::Fine
+    taken_count(coords, heights) <= MOST_LAYERS
 }
 
 // Whether height i has a forerunner and is not above it.
 fn not_above_last(heights: &[i32], i: usize) -> bool
     requires { ⌜ i < length (now heights) ⌝ }
-    ensures { λ r. ⌜ r ≡ notAboveLast (now (heights .entry)) i ⌝ }
+    ensures { λ r. ⌜ r ≡ notAboveLast (heights .entry .now) i ⌝ }
 {
     if i == 0 {
         return false;
@@ -120,7 +120,7 @@ fn not_above_last(heights: &[i32], i: usize) -> bool
 
 // The position of the first height not above its forerunner, else the number of heights.
 fn first_falling(heights: &[i32]) -> usize
-    ensures { λ r. ⌜ r ≡ least (length (now (heights .entry))) (notAboveLast (now (heights .entry))) ⌝ }
+    ensures { λ r. ⌜ r ≡ least (length (heights .entry .now)) (notAboveLast (heights .entry .now)) ⌝ }
 {
     let mut i: usize = 0;
     while i < heights.len() {
@@ -134,7 +134,7 @@ fn first_falling(heights: &[i32]) -> usize
 
 // Refusal 12 of All layers.
 pub fn heights_test(heights: &[i32]) -> Verdict
-    ensures { λ r. ⌜ r ≡ test (fallingHeight (now (heights .entry))) ⌝ }
+    ensures { λ r. ⌜ tellVerdict r ≡ test (fallingHeight (heights .entry .now)) ⌝ }
 {
     let i = first_falling(heights);
     if i < heights.len() {

@@ -1,13 +1,12 @@
 -- Small tests of the laws: identities and values that are proved in place. Nothing cites them.
 use mathlib.Core.Path.{_≡_, refl}
-use mathlib.Core.List.{List, [], _∷_}
-use mathlib.Core.Bool.{Bool, true, false, cond}
-use Prim.Native.Nat.{ℕ, _+_, _<_}
+use mathlib.Core.List.{[], _∷_}
+use Prim.Native.Nat.{_+_}
 use native.Mathlib.Omega.{arith}
-use lib.Dec.{ltb, eqb}
+use lib.Dec.{ltb}
 use lib.IntN.{ℤ, pos, negsuc, _+ℤ_, _-ℤ_, _*ℤ_}
 use lib.Signed.{_≤ℤ_, shrZ}
-use Rattle.laws.specs.Least.{least, some}
+use Rattle.laws.specs.Least.{least}
 use Rattle.laws.specs.Count.{count}
 use Rattle.laws.specs.Tables.{tabulate, overwrite}
 use Rattle.laws.specs.Ring.{x, #, _⊕_, _⊖_, _⊗_, ring}

@@ -1,12 +1,12 @@
 -- Division that rounds down, `lib.Signed`'s `shrZ z m`, by its two bounds.
 -- Assumes nothing.
-use mathlib.Core.Path.{_≡_, refl, sym, ap, _∙_, subst}
-use Prim.Native.Nat.{ℕ, zero, suc, _+_, _*_, _/_, _%_, _<_, _≤_}
+use mathlib.Core.Path.{_≡_, ap}
+use Prim.Native.Nat.{ℕ, suc, _+_, _*_, _<_, _≤_}
 use native.Mathlib.Nat.{div-add-mod', mod-lt, lt-of-mul-lt-mul-right}
 use native.Mathlib.Omega.{arith}
-use lib.IntN.{ℤ, pos, negsuc, negℤ, natAbs, _+ℤ_, _-ℤ_, _*ℤ_}
-use lib.Signed.{_≤ℤ_, _<ℤ_, shrZ}
-use Rattle.laws.specs.Integers.{up, dn, sum, diff, prod, up-neg, dn-neg, ext, le-in, lt-in, le-out, lt-out, eq-in}
+use lib.IntN.{ℤ, pos, negsuc, _+ℤ_, _*ℤ_}
+use lib.Signed.{shrZ}
+use Rattle.laws.specs.Integers.{up, dn, sum, prod, ext}
 
 -- q m ≤ z < q m + m, in naturals
 pub record Floor (z : ℤ) (m : ℕ) (q : ℤ) : Type 0 where

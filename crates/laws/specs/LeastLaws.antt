@@ -1,13 +1,12 @@
 -- Laws of `least` and `some`: what they say of every place, and what a search in ascending order has found.
 use Prim.Native.Nat.{ℕ, zero, suc, _+_, _≤_, _<_}
-use mathlib.Core.Path.{_≡_, refl, sym, ap, _∙_}
+use mathlib.Core.Path.{_≡_, refl, sym, _∙_}
 use mathlib.Core.Bool.{Bool, true, false, cond}
-use mathlib.Core.Logic.{_⊎_, inl, inr, ⊎-elim}
+use mathlib.Core.Logic.{_⊎_, ⊎-elim}
 use native.Mathlib.Omega.{arith}
 use native.Mathlib.Nat.{not-suc-le-zero, le-of-suc-le-suc}
-use lib.Dec.{ltb}
-use borrow.Author.Tests.{ltb-true, ltb-false, lt-ltb, le-ltb}
-use Rattle.laws.specs.Booleans.{clash, is-false, split-lt}
+use borrow.Author.Tests.{ltb-true, ltb-false, lt-ltb}
+use Rattle.laws.specs.Booleans.{clash, split-lt}
 use Rattle.laws.specs.Least.{least, some}
 
 pub least-le : (n : ℕ) (fits : ℕ → Bool) → least n fits ≤ n

@@ -1,12 +1,12 @@
 -- A whole expression's difference of naturals, for `omega`:  P e - N e  over the  up  and  dn  of its variables alone.
 -- `le-by ρ e f (omega arith)` proves  eval ρ e ≤ℤ eval ρ f  from linear facts of those, and `le-of` reads such a fact. Assumes nothing.
-use mathlib.Core.Path.{_≡_, refl, sym, ap, _∙_}
-use mathlib.Core.List.{List, [], _∷_}
+use mathlib.Core.Path.{_≡_, ap}
+use mathlib.Core.List.{List, []}
 use Prim.Native.Nat.{ℕ, _+_, _*_, _<_, _≤_}
 use native.Mathlib.Omega.{arith}
-use lib.IntN.{ℤ, pos, negsuc, negℤ, natAbs, _+ℤ_, _-ℤ_, _*ℤ_}
+use lib.IntN.{ℤ, natAbs}
 use lib.Signed.{_≤ℤ_, _<ℤ_}
-use Rattle.laws.specs.Integers.{up, dn, one-zero, abs-is, sum, diff, prod, up-neg, dn-neg, ext, le-in, lt-in, le-out, lt-out, eq-in}
+use Rattle.laws.specs.Integers.{up, dn, one-zero, abs-is, sum, diff, prod, up-neg, dn-neg, ext, le-in, lt-in, le-out, lt-out}
 use Rattle.laws.specs.Ring.{Ex, x, #, ⊝, _⊕_, _⊖_, _⊗_, at, eval}
 
 module _ (ρ : List ℤ) where

@@ -1,5 +1,7 @@
--- What the machine computes with signed numbers, read as ℤ. An `Rd w z B` is a local of width w: its bits `n`, that they stand for the integer z (`is`), and that |z| is at most B (`le`).
--- One combinator for each operation makes the `Rd` of its result (`mul r s tt`), and another answers the need that the result fits (`mul-ok r s tt`). The `tt` is the bound's comparison with the width, which computes. A proof mirrors the code:  `dx = sub x1 x0 tt`.
+-- What the machine computes with signed numbers, read as ℤ. An `Rd w z B` is a local of width w: its bits `n`, that they stand for the integer z (`is`),
+-- and that |z| is at most B (`le`).
+-- One combinator for each operation makes the `Rd` of its result (`mul r s tt`), and another answers the need that the result fits (`mul-ok r s tt`).
+-- The `tt` is the bound's comparison with the width, which computes. A proof mirrors the code:  `dx = sub x1 x0 tt`.
 -- The combinators are `abbrev`, so that the bits compute to the term that a need shows. Assumes nothing.
 use mathlib.Core.Path.{_≡_, refl, sym, ap, _∙_, subst}
 use mathlib.Core.Bool.{Bool, true, false, not}
@@ -11,7 +13,7 @@ use mir.Facts.{sfits-widen}
 use lib.Dec.{T, leb, ltb, ltb→lt}
 use lib.IntN.{ℤ, pos, negsuc, natAbs, _+ℤ_, _-ℤ_, _*ℤ_}
 use lib.Signed.{_≤ℤ_, _<ℤ_, mag, leZ, ltZ, leZ-yes, ltZ-yes, ltZ-no, quotZ, shrZ, <ℤ-irrefl, natAbs-le, nonNeg, yes-nonNeg, pos-natAbs}
-use mir.Syntax.{Width, w32, w64}
+use mir.Syntax.{Width}
 use mir.Val.{SFits, Fits, toZ, ofZ, hbits, bits}
 use mir.ValLaws.{toZ-ofZ, toZ-pos}
 use Rattle.laws.specs.Integers.{abs-add, abs-sub, abs-mul, mag-le, lt-not-le, eqZ, eqZ-refl, eqZ-false}
@@ -152,7 +154,8 @@ module _ {w : Width} {x y : ℤ} {B C : ℕ} (r : Rd w x B) (s : Rd w y C) (h : 
   div t = put div-is div-le t
 
 -- a cast of a number that is not negative to an unsigned width
-pub unsigned-ok : {w w′ : Width} {z : ℤ} {B : ℕ} (r : Rd w z B) → pos 0 ≤ℤ z → T (ltb B (2 ^ bits w′)) → T (nonNeg (toZ w (r .n))) × Fits w′ (natAbs (toZ w (r .n)))
+pub unsigned-ok : {w w′ : Width} {z : ℤ} {B : ℕ} (r : Rd w z B) → pos 0 ≤ℤ z → T (ltb B (2 ^ bits w′))
+    → T (nonNeg (toZ w (r .n))) × Fits w′ (natAbs (toZ w (r .n)))
 unsigned-ok {w} {w′} {z} {B} r h t =
     subst (λ (m : ℤ). T (nonNeg m) × Fits w′ (natAbs m)) (sym (r .is))
     (yes-nonNeg h, record { fits = lt-of-le-of-lt (r .le) (ltb→lt B (2 ^ bits w′) t) })

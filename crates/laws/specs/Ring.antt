@@ -1,14 +1,15 @@
 -- Identities of a commutative ring over ℤ, decided: `ring ρ e f tt` proves  eval ρ e ≡ eval ρ f  where the polynomial of e - f, computed, has no term left.
 -- An expression is written with  x 0, x 1, ..  for the integers of the list ρ, and  ⊕ ⊖ ⊗ ⊝ #  for the operations and a literal.
 -- Assumes nothing.
-use mathlib.Core.Path.{_≡_, refl, sym, ap, _∙_, subst}
-use mathlib.Core.Bool.{Bool, true, false, not, cond, _&&_}
+use mathlib.Core.Path.{_≡_, refl, sym, ap, _∙_}
+use mathlib.Core.Bool.{Bool, true, false, cond, _&&_}
 use mathlib.Core.List.{List, [], _∷_}
 use Prim.Native.Nat.{ℕ, zero, suc, _+_, _*_}
 use native.Mathlib.Omega.{arith}
 use lib.Dec.{T, ltb, leb, eqb, eqb→eq}
-use lib.IntN.{ℤ, pos, negsuc, negℤ, _+ℤ_, _-ℤ_, _*ℤ_, +ℤ-idl, +ℤ-idr, +ℤ-assoc, +ℤ-comm, zero-*ℤ, *ℤ-comm, negℤ-+ℤ}
-use Rattle.laws.specs.Integers.{up, dn, sum, diff, prod, ext, eq-in, add-mul, mul-add, mul-assoc, mul-left-comm, add-left-comm, neg-mul, one-mul, mul-one, mul-ac, add-ac}
+use lib.IntN.{ℤ, pos, negsuc, negℤ, _+ℤ_, _-ℤ_, _*ℤ_, +ℤ-idl, +ℤ-idr, +ℤ-assoc, zero-*ℤ, *ℤ-comm, negℤ-+ℤ}
+use Rattle.laws.specs.Integers.{diff, ext, eq-in, add-mul, mul-add, mul-assoc, mul-left-comm}
+use Rattle.laws.specs.Integers.{add-left-comm, neg-mul, one-mul, mul-one}
 
 infixl 6 _⊕_ _⊖_
 infixl 7 _⊗_
@@ -135,7 +136,8 @@ module _ (ρ : List ℤ) where
   insT-is : (c : ℤ) (m : List ℕ) (p : Poly) → evalP (insT c m p) ≡ c *ℤ evalM m +ℤ evalP p
   insT-is c m none = refl
   insT-is c m (term d l p) =
-      cond-ind (eqM m l) (term (c +ℤ d) l p) (cond (ltM m l) (term c m (term d l p)) (term d l (insT c m p))) (λ q. evalP q ≡ c *ℤ evalM m +ℤ (d *ℤ evalM l +ℤ evalP p))
+      cond-ind (eqM m l) (term (c +ℤ d) l p) (cond (ltM m l) (term c m (term d l p)) (term d l (insT c m p)))
+      (λ q. evalP q ≡ c *ℤ evalM m +ℤ (d *ℤ evalM l +ℤ evalP p))
       (λ t. ap (λ (z : ℤ). z +ℤ evalP p) (add-mul c d (evalM l)) ∙ +ℤ-assoc (c *ℤ evalM l) (d *ℤ evalM l) (evalP p)
       ∙ ap (λ (l′ : List ℕ). c *ℤ evalM l′ +ℤ (d *ℤ evalM l +ℤ evalP p)) (sym (eqM→ m l t)))
       (cond-ind (ltM m l) (term c m (term d l p)) (term d l (insT c m p)) (λ q. evalP q ≡ c *ℤ evalM m +ℤ (d *ℤ evalM l +ℤ evalP p)) (λ t. refl)

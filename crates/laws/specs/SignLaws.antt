@@ -24,7 +24,9 @@ below (negsuc n) f h =
       k = n;
       small = f .sfits;
       from = refl;
-      minus-is = ap (λ (z : ℤ). negsuc 0 -ℤ z) (toZ-ofZ w64 (negsuc n) f) ∙ (let e : negsuc 0 -ℤ negsuc n ≡ pos n = omega (arith, ext, diff (negsuc 0) (negsuc n)) in e);
+      minus-is =
+          let e : negsuc 0 -ℤ negsuc n ≡ pos n = omega (arith, ext, diff (negsuc 0) (negsuc n)) in
+          ap (λ (z : ℤ). negsuc 0 -ℤ z) (toZ-ofZ w64 (negsuc n) f) ∙ e;
     }
 
 module _ {z : ℤ} (b : Below z) where

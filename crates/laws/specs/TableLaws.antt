@@ -1,12 +1,12 @@
 -- Laws of `tabulate`, `overwrite` and `refill`: lengths, entries, one entry more, and equality by entries.
 use Prim.Native.Nat.{ℕ, zero, suc, _+_, _-_, _≤_, _<_}
-use mathlib.Core.Path.{_≡_, refl, sym, ap, _∙_, subst}
+use mathlib.Core.Path.{_≡_, refl, sym, ap, _∙_}
 use mathlib.Core.List.{List, [], _∷_, _++_, append-nil}
-use mathlib.Core.Logic.{_⊎_, inl, inr, ⊎-elim}
+use mathlib.Core.Logic.{_⊎_, ⊎-elim}
 use native.Mathlib.Omega.{arith}
 use native.Mathlib.Numerals.{add-one}
 use native.Mathlib.Nat.{not-suc-le-zero, le-of-suc-le-suc, add-zero}
-use lib.ListN.{length, getD, set, take, drop, replicate, length-append, length-drop, length-set, length-replicate, getD-replicate, List·getD-append, List·getD-eq-default}
+use lib.ListN.{length, getD, set, drop, replicate, length-append, length-drop, List·getD-append}
 use lib.Seq.{sets, getD-append-add, getD-drop, drop-cons, append-snoc, set-at, ext-getD, drop-at}
 use Rattle.laws.specs.Booleans.{split-lt}
 use Rattle.laws.specs.Tables.{tabulate, overwrite, refill}
@@ -117,15 +117,20 @@ module _ {A : Type 0} where
       → ((i : ℕ) → n ≤ i → getD t′ i d ≡ getD t i d) → t′ ≡ refill n f t
   refill-is d n f t t′ e h front back =
       let l : length (tabulate n f) ≡ n = length-tabulate n f in
-      overwrite-is d (tabulate n f) t t′ e (omega arith) (λ i m. let k : i < n = omega arith in front i k ∙ sym (getD-tabulate n f i d k)) (λ i m. back i (omega arith))
+      overwrite-is d (tabulate n f) t t′ e (omega arith)
+      (λ i m. let k : i < n = omega arith in front i k ∙ sym (getD-tabulate n f i d k))
+      (λ i m. back i (omega arith))
 
   -- an entry that stays as it was
   pub refill-kept : (d : A) (n : ℕ) (f : ℕ → A) (t : List A) → n < length t → f n ≡ getD t n d → refill n f t ≡ refill (n + 1) f t
   refill-kept d n f t h e =
       let l : length (refill n f t) ≡ length t = length-refill n f t (omega arith) in
       refill-is d (n + 1) f t (refill n f t) l (omega arith)
-      (λ i m. ⊎-elim (λ k. refill-at n f t i d k) (λ k. let q : i ≡ n = omega arith in ap (λ (j : ℕ). getD (refill n f t) j d) q ∙ refill-past n f t n d (omega arith) ∙ sym e ∙ ap f (sym q)) (split-lt i n))
+      (λ i m. ⊎-elim (λ k. refill-at n f t i d k) (λ k. here i (omega arith)) (split-lt i n))
       (λ i m. refill-past n f t i d (omega arith))
+    where
+      here : (i : ℕ) → i ≡ n → getD (refill n f t) i d ≡ f i
+      here i q = ap (λ (j : ℕ). getD (refill n f t) j d) q ∙ refill-past n f t n d (omega arith) ∙ sym e ∙ ap f (sym q)
 
   pub refill-same : (n : ℕ) (f g : ℕ → A) (t : List A) → ((i : ℕ) → i < n → f i ≡ g i) → refill n f t ≡ refill n g t
   refill-same n f g t h = ap (λ (l : List A). overwrite l t) (tabulate-same n f g h)

@@ -1,112 +1,127 @@
--- All layers of document 01: the file, the refusals in order, the answer, and what is left in the lent tables.
+-- All layers of document 01: a start, Layer up the heights taken, and the layer file of what that gives; its refusals in order, what it answers, and what
+-- it leaves in the lent tables.
 use Prim.Native.Nat.{ℕ, _*_}
-use mathlib.Core.Path.{_≡_}
-use mathlib.Core.Bool.{Bool, cond, _||_}
+use mathlib.Core.Bool.{Bool, not, _&&_}
 use mathlib.Core.List.{List, [], _∷_, _++_, map}
-use lib.Dec.{ltb, eqb}
+use lib.Dec.{ltb, leb}
 use lib.ListN.{length, replicate}
 use lib.IntN.{ℤ, pos}
 use Rattle.laws.specs.Tables.{overwrite}
-use Rattle.mesh.specs.Corners.{vertexCount}
-use Rattle.mesh.specs.Refusals.{Condition, whole, verdict, numberOf}
-use Rattle.mesh.specs.Tests.{size, range, vertex, triangle, pairs, ordered}
-use Rattle.mesh.specs.declared.Refusal.{Refusal}
-use Rattle.mesh.specs.declared.Refusal.the-variants.{Output}
-use Rattle.mesh.specs.declared.Verdict.{Verdict}
-use Rattle.mesh.specs.declared.Verdict.the-variants.{Fine, Refused}
+use Rattle.mesh.specs.Meshes.{Mesh, PairedMesh, OrderedMesh}
+use Rattle.mesh.specs.Operation.{Answer, gives, refuses, Finding, Condition, whole, after, Operation, Does}
+use Rattle.mesh.specs.Refusals.{Told, refusal, numbered, toldOf}
+use Rattle.mesh.specs.Tests.{size, meshTests, pairs, orders}
 use Rattle.points.specs.Points.{pointAt}
 use Rattle.formats.specs.LayerFile.{Point, Layer, layerFile}
-use Rattle.cutter.specs.Cut.{room, used, section, contoursOf}
-use Rattle.sweep.specs.Operations.{ringRoom}
+use Rattle.cutter.specs.Cut.{CutTables, lent, Lengths, lengthsOf, roomFor, used, section, contoursOf}
+use Rattle.sweep.specs.Sweep.{Sweep, sweep, meshOf, freshRing}
+use Rattle.sweep.specs.Operations.{unlessRefused, risenPassed, risenTable, risenSection}
 use Rattle.heights.specs.Heights.{heightsTaken, tooManyHeights, fallingHeight}
 use Rattle.layers.specs.declared.Filed.{Filed}
 use Rattle.layers.specs.declared.Filed.the-variants.{Length, Refused as Unfiled}
 
--- ---- the file
+-- ---- the layers
 
 -- the point of a crossing at height h
-abbrev pub pointOf : List ℤ → List ℕ → ℤ → ℕ → Point
-pointOf coords corners h c = record { x = pointAt coords corners h 0 c; y = pointAt coords corners h 1 c }
+abbrev pub crossingAt : Mesh → ℤ → ℕ → Point
+crossingAt m h c = record { x = pointAt m h 0 c; y = pointAt m h 1 c }
 
--- the layer of height h: the contours of Cut's section, by their points
-unfoldable pub layerAt : List ℤ → List ℕ → List ℕ → ℤ → Layer
-layerAt coords corners pairing h = record { height = h; contours = map (map (pointOf coords corners h)) (contoursOf (section coords corners pairing h)) }
+-- the layer of height h with these contours, by their points
+abbrev pub drawn : Mesh → ℤ → List (List ℕ) → Layer
+drawn m h rs = record { height = h; contours = map (map (crossingAt m h)) rs }
 
--- the layer file of these heights
-abbrev pub fileOf : List ℤ → List ℕ → List ℕ → List ℤ → List ℕ
-fileOf coords corners pairing hs = layerFile .encode (map (layerAt coords corners pairing) hs)
+-- what Layer gives at h, and the sweep after it
+unfoldable pub sweptLayer : Sweep × ℤ → Layer
+sweptLayer = λ (s, h). drawn (meshOf s) h (contoursOf (risenSection s h))
+
+abbrev pub risen : Sweep → ℤ → Sweep
+risen s h = sweep (s .ordered) (risenTable s h) (risenPassed s h)
+
+-- up these heights by Layer: the sweep that each call is handed, and its height
+unfoldable pub climb : Sweep → List ℤ → List (Sweep × ℤ)
+climb s [] = []
+climb s (h ∷ hs) = (s, h) ∷ climb (risen s h) hs
+
+-- from the sweep that Start leaves
+abbrev pub climbed : OrderedMesh → List ℕ → List ℤ → List (Sweep × ℤ)
+climbed m ring hs = climb (sweep m (freshRing (m .paired .mesh .corners) ring) 0) hs
+
+-- the layer file of what that gives
+abbrev pub sweptFile : OrderedMesh → List ℕ → List ℤ → List ℕ
+sweptFile m ring hs = layerFile .encode (map sweptLayer (climbed m ring hs))
+
+-- what Cut gives at h, and the layer file of Cut at these heights: `swept-is-cut` (ClimbLaws) says that it is the same file
+unfoldable pub cutLayer : PairedMesh → ℤ → Layer
+cutLayer m h = drawn (m .mesh) h (contoursOf (section m h))
+
+abbrev pub cutFile : PairedMesh → List ℤ → List ℕ
+cutFile m hs = layerFile .encode (map (cutLayer m) hs)
+
+-- ---- the lent work tables: those of Cut and the ring table
+
+pub record WorkTables : Type 0 where
+  pub cut : CutTables
+  pub ring : List ℕ
+
+abbrev pub work : List ℕ → List ℤ → List ℕ → List ℕ → List ℕ → WorkTables
+work names points ends marks ring = record { cut = lent names points ends marks; ring = ring }
+
+-- 9: as in Cut, and a ring table of one entry for each of n corners
+unfoldable pub workRoomFor : ℕ → Lengths → ℕ → Bool
+workRoomFor n l ring = roomFor n l && leb n ring
+
+abbrev pub workRoom : ℕ → Lengths → ℕ → Condition Told
+workRoom n l ring = whole (refusal 9) (not (workRoomFor n l ring))
+
+-- after success, 16 and 14 zero in the entries asked for; after other refusals as before
+abbrev pub workAfter : ℕ → WorkTables → Finding Told → WorkTables
+workAfter n w f =
+    work
+    (after (numbered (16 ∷ 14 ∷ [])) f (replicate n 0) n 0 (w .cut .names))
+    (after (numbered (16 ∷ 14 ∷ [])) f (replicate (2 * n) (pos 0)) (2 * n) (pos 0) (w .cut .points))
+    (after (numbered (16 ∷ 14 ∷ [])) f (replicate n 0) n 0 (w .cut .ends))
+    (after (numbered (16 ∷ 14 ∷ [])) f (replicate n 0) n 0 (w .cut .marks))
+    (after (numbered (16 ∷ 14 ∷ [])) f (replicate n 0) n 0 (w .ring))
 
 -- ---- the refusals in order
 
--- those that tests of the tables find; 9 is asked of Cut's tables and of the ring table
-abbrev pub layersTests : List ℤ → List ℕ → List ℕ → List ℕ → List ℤ → ℕ → ℕ → ℕ → ℕ → ℕ → List Condition
-layersTests coords corners pairing order heights names points ends marks ring =
-    size coords corners
+-- those that tests of the tables find: 1, also for too many heights; 9; 2, 3, 4, 7, 8; 12 of the heights taken
+abbrev pub layersTests : OrderedMesh → List ℤ → Lengths → ℕ → List (Condition Told)
+layersTests m heights l ring =
+    let coords = m .paired .mesh .coords in
+    let corners = m .paired .mesh .corners in
+    size (m .paired .mesh)
     ∷ tooManyHeights coords heights
-    ∷ room (length corners) names points ends marks
-    ∷ ringRoom corners ring
-    ∷ range coords
-    ∷ vertex (vertexCount coords) corners
-    ∷ triangle corners
-    ∷ pairs corners pairing
-    ∷ ordered coords order
-    ∷ fallingHeight (heightsTaken coords heights)
-    ∷ []
+    ∷ workRoom (length corners) l ring
+    ∷ meshTests (m .paired .mesh)
+    ++ (pairs corners (m .paired .pairing) ∷ orders coords (m .order) ∷ fallingHeight (heightsTaken coords heights) ∷ [])
 
--- 16 as in Cut, at the heights in turn
-abbrev pub usedAt : List ℤ → List ℕ → List ℕ → ℤ → Condition
-usedAt coords corners pairing h = used (length corners) (section coords corners pairing h)
+-- 16 as in Layer, at the heights in turn
+abbrev pub usedAt : Sweep × ℤ → Condition Told
+usedAt = λ (s, h). used (length (meshOf s .corners)) (risenSection s h)
 
 -- 14: the output is shorter than the file
-abbrev pub shortOutput : ℕ → List ℕ → Condition
-shortOutput output file = whole Output (ltb output (length file))
+abbrev pub shortOutput : ℕ → List ℕ → Condition Told
+shortOutput output file = whole (refusal 14) (ltb output (length file))
 
-abbrev pub layersRefusals : List ℤ → List ℕ → List ℕ → List ℕ → List ℤ → ℕ → ℕ → ℕ → ℕ → ℕ → ℕ → List Condition
-layersRefusals coords corners pairing order heights names points ends marks ring output =
-    layersTests coords corners pairing order heights names points ends marks ring
-    ++ (map (usedAt coords corners pairing) (heightsTaken coords heights)
-    ++ (shortOutput output (fileOf coords corners pairing (heightsTaken coords heights)) ∷ []))
+-- ---- All layers as a whole
 
--- ---- the answer
+-- it gives the length of the file; output past the file stays, and on refusal all of it
+abbrev pub filing : OrderedMesh × List ℤ × WorkTables × List ℕ → Operation Told ℕ (WorkTables × List ℕ)
+filing = λ (m, heights, w, output).
+    let hs = heightsTaken (m .paired .mesh .coords) heights in
+    let file = sweptFile m (w .ring) hs in
+    record {
+      refusals = layersTests m heights (lengthsOf (w .cut)) (length (w .ring))
+          ++ (map usedAt (climbed m (w .ring) hs) ++ (shortOutput (length output) file ∷ []));
+      values = length file;
+      leaves = λ f. (workAfter (length (m .paired .mesh .corners)) w f, unlessRefused (overwrite file output) output f);
+    }
 
--- the length of the file, or the refusal
-unfoldable pub filed : Verdict → List ℕ → Filed
-filed Fine file = Length (length file)
-filed (Refused r) file = Unfiled r
+-- what its answer says: the length of the file
+abbrev pub tellFiled : Filed → Answer Told ℕ
+tellFiled (Length n) = gives n
+tellFiled (Unfiled r) = refuses (toldOf r)
 
--- ---- what is written
-
--- 16 and 14 leave zeros in the work tables
-abbrev pub leavesZeros : Refusal → Bool
-leavesZeros r = eqb (numberOf r) 16 || eqb (numberOf r) 14
-
--- a work table after the call: after success, 16 and 14 zero in the n entries asked for; after other refusals as before
-unfoldable pub workAfter : {A : Type 0} → Verdict → ℕ → A → List A → List A
-workAfter Fine n zero table = overwrite (replicate n zero) table
-workAfter (Refused r) n zero table = cond (leavesZeros r) (overwrite (replicate n zero) table) table
-
--- the output after the call: the file, and past it as before; on refusal all of it as before
-unfoldable pub outputAfter : Verdict → List ℕ → List ℕ → List ℕ
-outputAfter Fine file output = overwrite file output
-outputAfter (Refused r) file output = output
-
--- the work tables of All layers: those of Cut and the ring table
-pub record WorkLeft (v : Verdict) (n : ℕ) (names : List ℕ) (points : List ℤ) (ends marks ring : List ℕ)
-    (names′ : List ℕ) (points′ : List ℤ) (ends′ marks′ ring′ : List ℕ) : Type 0 where
-  pub names-are : names′ ≡ workAfter v n 0 names
-  pub points-are : points′ ≡ workAfter v (2 * n) (pos 0) points
-  pub ends-are : ends′ ≡ workAfter v n 0 ends
-  pub marks-are : marks′ ≡ workAfter v n 0 marks
-  pub ring-is : ring′ ≡ workAfter v n 0 ring
-
--- All layers as a whole: its answer, the output and the work tables at exit
-pub record Files (coords : List ℤ) (corners pairing order : List ℕ) (heights : List ℤ) (names : List ℕ) (points : List ℤ) (ends marks ring output : List ℕ)
-    (result : Filed) (names′ : List ℕ) (points′ : List ℤ) (ends′ marks′ ring′ output′ : List ℕ) : Type 0 where
-  pub answers : result
-      ≡ filed (verdict (layersRefusals coords corners pairing order heights (length names) (length points) (length ends) (length marks) (length ring) (length output)))
-      (fileOf coords corners pairing (heightsTaken coords heights))
-  pub writes : output′
-      ≡ outputAfter (verdict (layersRefusals coords corners pairing order heights (length names) (length points) (length ends) (length marks) (length ring) (length output)))
-      (fileOf coords corners pairing (heightsTaken coords heights)) output
-  pub leaves : WorkLeft (verdict (layersRefusals coords corners pairing order heights (length names) (length points) (length ends) (length marks) (length ring) (length output)))
-      (length corners) names points ends marks ring names′ points′ ends′ marks′ ring′
+abbrev pub Files : OrderedMesh → List ℤ → WorkTables → List ℕ → Filed → WorkTables → List ℕ → Type 0
+Files m heights w output result w′ output′ = Does filing tellFiled (m, heights, w, output) result (w′, output′)

@@ -1,8 +1,9 @@
 -- All layers.
 pub mod AllLayers
+pub mod ClimbLaws
 pub mod Works
 pub mod Sweeps
-pub mod LayerAtLaws
+pub mod CutLayerLaws
 pub mod SweepLaws
 pub mod PassLaws
 pub mod StepLaws

@@ -1,34 +1,49 @@
--- Internal: the sweep from height to height.
+-- The sweep from height to height: what the tests of All layers establish, and the lists of corners before each height.
 use Prim.Native.Nat.{ℕ, _≤_, _<_}
 use mathlib.Core.Path.{_≡_}
 use mathlib.Core.Bool.{true}
 use mathlib.Core.List.{List}
 use lib.ListN.{length, getD}
-use lib.IntN.{ℤ, pos, natAbs}
+use lib.IntN.{pos, natAbs}
 use Rattle.mesh.specs.Corners.{largest}
+use Rattle.mesh.specs.Meshes.{Mesh, PairedMesh}
 use Rattle.section.specs.Section.{Named, Right}
+use Rattle.cutter.specs.Cut.{lengthsOf}
 use Rattle.cutter.specs.Outlines.{Long}
-use Rattle.layers.specs.Works.{Listed}
 use Rattle.active.specs.Lists.{Stands, activeAt}
 use Rattle.active.specs.Levels.{sinceAt, bucketAt}
+use Rattle.layers.specs.AllLayers.{WorkTables}
+use Rattle.layers.specs.Works.{TakenHeights, takenAt, Listed}
 
 -- 1, 2 and 3 of the mesh
-pub record Ranged (coords : List ℤ) (corners : List ℕ) : Type 0 where
-  pub named : Named coords corners
-  pub inside : (i : ℕ) → i < length coords → natAbs (getD coords i (pos 0)) ≤ largest
+pub record Ranged (m : Mesh) : Type 0 where
+  pub named : Named (m .coords) (m .corners)
+  pub inside : (i : ℕ) → i < length (m .coords) → natAbs (getD (m .coords) i (pos 0)) ≤ largest
 
 -- what the tests establish: a right mesh, room in the work tables, and the heights taken
-pub record Ready (coords : List ℤ) (corners pairing : List ℕ) (low : ℤ) (heights : List ℤ) (count : ℕ) (names : List ℕ) (points : List ℤ) (ends marks ring : List ℕ) : Type 0 where
-  pub right : Right coords corners pairing
-  pub long : Long (length corners) (length names) (length points) (length ends) (length marks)
-  pub ring-long : length corners ≤ length ring
-  pub listed : Listed coords heights low count
+pub record LayersTested (m : PairedMesh) (t : TakenHeights) (w : WorkTables) : Type 0 where
+  pub right : Right m
+  pub long : Long (length (m .mesh .corners)) (lengthsOf (w .cut))
+  pub ring-long : length (m .mesh .corners) ≤ length (w .ring)
+  pub listed : Listed (m .mesh .coords) t
+
+-- lists of corners: the table of their links, the head of each height's list, the marks, and the head of the list of the crossings
+pub record CornerLists : Type 0 where
+  pub ring : List ℕ
+  pub heads : List ℕ
+  pub marks : List ℕ
+  pub active : ℕ
+
+abbrev pub cornerLists : List ℕ → List ℕ → List ℕ → ℕ → CornerLists
+cornerLists ring heads marks active = record { ring = ring; heads = heads; marks = marks; active = active }
 
 -- before height k: the list of the corners that rise at the height before it, with no mark above k, and those of the heights from k on, with none
-pub record Sweeping (coords : List ℤ) (corners : List ℕ) (hs : ℕ → ℤ) (count k : ℕ) (ring heads marks : List ℕ) (active : ℕ) : Type 0 where
-  pub active-stands : Stands (activeAt coords corners (sinceAt hs k)) (length corners) ring active
-  pub buckets : (j : ℕ) → k ≤ j → j < count → Stands (bucketAt coords corners hs j) (length corners) ring (getD heads j 0)
-  pub marks-upto : (c : ℕ) → c < length corners → activeAt coords corners (sinceAt hs k) c ≡ true → getD marks c 0 ≤ k
-  pub unmarked : (j : ℕ) → k ≤ j → j < count → (c : ℕ) → c < length corners → bucketAt coords corners hs j c ≡ true → getD marks c 0 ≡ 0
-  pub ring-room : length corners ≤ length ring
-  pub heads-room : count ≤ length heads
+pub record Sweeping (m : Mesh) (t : TakenHeights) (k : ℕ) (l : CornerLists) : Type 0 where
+  pub active-stands : Stands (activeAt (m .coords) (m .corners) (sinceAt (takenAt t) k)) (length (m .corners)) (l .ring) (l .active)
+  pub buckets : (j : ℕ) → k ≤ j → j < t .count
+      → Stands (bucketAt (m .coords) (m .corners) (takenAt t) j) (length (m .corners)) (l .ring) (getD (l .heads) j 0)
+  pub marks-upto : (c : ℕ) → c < length (m .corners) → activeAt (m .coords) (m .corners) (sinceAt (takenAt t) k) c ≡ true → getD (l .marks) c 0 ≤ k
+  pub unmarked : (j : ℕ) → k ≤ j → j < t .count → (c : ℕ) → c < length (m .corners) → bucketAt (m .coords) (m .corners) (takenAt t) j c ≡ true
+      → getD (l .marks) c 0 ≡ 0
+  pub ring-room : length (m .corners) ≤ length (l .ring)
+  pub heads-room : t .count ≤ length (l .heads)

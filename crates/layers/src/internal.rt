@@ -1,17 +1,18 @@
-// Internal: the layers of rising heights one after another, for a mesh and heights that the tests have passed.
+// The layers of rising heights one after another, for a mesh and heights that the tests have passed.
 ghost use mathlib.Core.Path.{_≡_};
 ghost use Prim.Native.Nat.{_+_, _<_, _≤_};
 ghost use lib.ListN.{length};
 ghost use Rattle.laws.specs.Tables.{overwrite};
+ghost use Rattle.mesh.specs.Meshes.{mesh, paired};
 ghost use Rattle.section.specs.Section.{Right};
+ghost use Rattle.cutter.specs.Cut.{lent, lengthsOf};
 ghost use Rattle.cutter.specs.Outlines.{Long};
 ghost use Rattle.active.specs.Levels.{Climbing};
 ghost use Rattle.active.specs.Totals.{CrossingTotal};
 ghost use Rattle.heights.specs.Taking.{heightAt};
-ghost use Rattle.heights.specs.Heights.{heightsTaken};
-ghost use Rattle.layers.specs.AllLayers.{fileOf};
-ghost use Rattle.layers.specs.Works.{Spent, Works, Holds};
-ghost use Rattle.layers.specs.Sweeps.{Ranged, Ready, Sweeping};
+ghost use Rattle.layers.specs.AllLayers.{work};
+ghost use Rattle.layers.specs.Works.{Spent, Works, Holds, takenHeights, takenFile};
+ghost use Rattle.layers.specs.Sweeps.{Ranged, LayersTested, cornerLists, Sweeping};
 use active::internal::advance;
 use active::internal::deal;
 use formats::internal::write_number;
@@ -29,7 +30,8 @@ struct Level {
     contours: usize,
 }
 
-// Begins the sweep: each corner that rises somewhere, without a mark, in the list of the first height at which it does; returns how many crossings all heights have.
+// Begins the sweep: each corner that rises somewhere, without a mark, in the list of the first height at which it does;
+// returns how many crossings all heights have.
 pub fn begin(
     coords: &[i32],
     corners: &[u32],
@@ -40,10 +42,13 @@ pub fn begin(
     ring: &mut [u32],
     heads: &mut [u32],
 ) -> usize
-    requires { ⌜ Ranged (now coords) (now corners) ⌝ ∗ ⌜ Climbing low (now heights) count ⌝ ∗ ⌜ (length (now corners) ≤ length (now marks)) × (length (now corners) ≤ length (now ring)) × (count ≤ length (now heads)) ⌝ }
-    ensures { λ _. ⌜ Sweeping (now (coords .entry)) (now (corners .entry)) (heightAt low (now (heights .entry))) count 0 (now (ring .exit)) (now (heads .exit)) (now (marks .exit)) (length (now (corners .entry))) ⌝ }
-    ensures { λ _. ⌜ Spent (length (now (corners .entry))) (now (marks .entry)) (now (marks .exit)) × Spent (length (now (corners .entry))) (now (ring .entry)) (now (ring .exit)) ⌝ }
-    ensures { λ r. ⌜ CrossingTotal (now (coords .entry)) (now (corners .entry)) (heightAt low (now (heights .entry))) count r ⌝ }
+    requires { ⌜ Ranged (mesh (now coords) (now corners)) ⌝ ∗ ⌜ Climbing low (now heights) count ⌝
+        ∗ ⌜ (length (now corners) ≤ length (now marks)) × (length (now corners) ≤ length (now ring)) × (count ≤ length (now heads)) ⌝ }
+    ensures { λ _. ⌜ Sweeping (mesh (coords .entry .now) (corners .entry .now)) (takenHeights low (heights .entry .now) count) 0
+        (cornerLists (ring .exit .now) (heads .exit .now) (marks .exit .now) (length (corners .entry .now))) ⌝ }
+    ensures { λ _. ⌜ Spent (length (corners .entry .now)) (marks .entry .now) (marks .exit .now)
+        × Spent (length (corners .entry .now)) (ring .entry .now) (ring .exit .now) ⌝ }
+    ensures { λ r. ⌜ CrossingTotal (coords .entry .now) (corners .entry .now) (heightAt low (heights .entry .now)) count r ⌝ }
 {
     deal(coords, corners, low, heights, count, ring, heads, marks)
 }
@@ -65,9 +70,18 @@ fn next_layer(
     marks: &mut [u32],
     ring: &mut [u32],
 ) -> Level
-    requires { ⌜ Right (now coords) (now corners) (now pairing) ⌝ ∗ ⌜ Long (length (now corners)) (length (now names)) (length (now points)) (length (now ends)) (length (now marks)) ⌝ ∗ ⌜ Climbing low (now heights) count ⌝ ∗ ⌜ Sweeping (now coords) (now corners) (heightAt low (now heights)) count k (now ring) (now heads) (now marks) active ⌝ ∗ ⌜ k < count ⌝ }
-    ensures { λ r. ⌜ Holds (now (coords .entry)) (now (corners .entry)) (now (pairing .entry)) (heightAt low (now (heights .entry)) k) (now (points .exit)) (now (ends .exit)) (r .contours) × Works (length (now (corners .entry))) (now (names .entry)) (now (points .entry)) (now (ends .entry)) (now (marks .entry)) (now (ring .entry)) (now (names .exit)) (now (points .exit)) (now (ends .exit)) (now (marks .exit)) (now (ring .exit)) ⌝ }
-    ensures { λ r. ⌜ Sweeping (now (coords .entry)) (now (corners .entry)) (heightAt low (now (heights .entry))) count (k + 1) (now (ring .exit)) (now (heads .entry)) (now (marks .exit)) (r .active) ⌝ }
+    requires { ⌜ Right (paired (now coords) (now corners) (now pairing)) ⌝
+        ∗ ⌜ Long (length (now corners)) (lengthsOf (lent (now names) (now points) (now ends) (now marks))) ⌝
+        ∗ ⌜ Climbing low (now heights) count ⌝
+        ∗ ⌜ Sweeping (mesh (now coords) (now corners)) (takenHeights low (now heights) count) k (cornerLists (now ring) (now heads) (now marks) active) ⌝
+        ∗ ⌜ k < count ⌝ }
+    ensures { λ r. ⌜ Holds (paired (coords .entry .now) (corners .entry .now) (pairing .entry .now)) (heightAt low (heights .entry .now) k)
+        (points .exit .now) (ends .exit .now) (r .contours) ⌝ }
+    ensures { λ _. ⌜ Works (length (corners .entry .now))
+        (work (names .entry .now) (points .entry .now) (ends .entry .now) (marks .entry .now) (ring .entry .now))
+        (work (names .exit .now) (points .exit .now) (ends .exit .now) (marks .exit .now) (ring .exit .now)) ⌝ }
+    ensures { λ r. ⌜ Sweeping (mesh (coords .entry .now) (corners .entry .now)) (takenHeights low (heights .entry .now) count) (k + 1)
+        (cornerLists (ring .exit .now) (heads .entry .now) (marks .exit .now) (r .active)) ⌝ }
 {
     let h = taken_height(low, heights, k);
     let b = wide(heads[k]);
@@ -96,8 +110,15 @@ pub fn layers_length(
     ring: &mut [u32],
     heads: &[u32],
 ) -> usize
-    requires { ⌜ Ready (now coords) (now corners) (now pairing) low (now heights) count (now names) (now points) (now ends) (now marks) (now ring) ⌝ ∗ ⌜ Sweeping (now coords) (now corners) (heightAt low (now heights)) count 0 (now ring) (now heads) (now marks) (length (now corners)) ⌝ }
-    ensures { λ r. ⌜ (r ≡ length (fileOf (now (coords .entry)) (now (corners .entry)) (now (pairing .entry)) (heightsTaken (now (coords .entry)) (now (heights .entry))))) × Works (length (now (corners .entry))) (now (names .entry)) (now (points .entry)) (now (ends .entry)) (now (marks .entry)) (now (ring .entry)) (now (names .exit)) (now (points .exit)) (now (ends .exit)) (now (marks .exit)) (now (ring .exit)) ⌝ }
+    requires { ⌜ LayersTested (paired (now coords) (now corners) (now pairing)) (takenHeights low (now heights) count)
+        (work (now names) (now points) (now ends) (now marks) (now ring)) ⌝
+        ∗ ⌜ Sweeping (mesh (now coords) (now corners)) (takenHeights low (now heights) count) 0
+        (cornerLists (now ring) (now heads) (now marks) (length (now corners))) ⌝ }
+    ensures { λ r. ⌜ r ≡ length (takenFile (paired (coords .entry .now) (corners .entry .now) (pairing .entry .now))
+        (takenHeights low (heights .entry .now) count)) ⌝ }
+    ensures { λ _. ⌜ Works (length (corners .entry .now))
+        (work (names .entry .now) (points .entry .now) (ends .entry .now) (marks .entry .now) (ring .entry .now))
+        (work (names .exit .now) (points .exit .now) (ends .exit .now) (marks .exit .now) (ring .exit .now)) ⌝ }
 {
     let mut total = number_length(count as u64);
     let mut active = corners.len();
@@ -143,8 +164,18 @@ pub fn write_layers(
     heads: &[u32],
     output: &mut [u8],
 ) -> usize
-    requires { ⌜ Ready (now coords) (now corners) (now pairing) low (now heights) count (now names) (now points) (now ends) (now marks) (now ring) ⌝ ∗ ⌜ Sweeping (now coords) (now corners) (heightAt low (now heights)) count 0 (now ring) (now heads) (now marks) (length (now corners)) ⌝ ∗ ⌜ length (fileOf (now coords) (now corners) (now pairing) (heightsTaken (now coords) (now heights))) ≤ length (now output) ⌝ }
-    ensures { λ r. ⌜ (r ≡ length (fileOf (now (coords .entry)) (now (corners .entry)) (now (pairing .entry)) (heightsTaken (now (coords .entry)) (now (heights .entry))))) × (now (output .exit) ≡ overwrite (fileOf (now (coords .entry)) (now (corners .entry)) (now (pairing .entry)) (heightsTaken (now (coords .entry)) (now (heights .entry)))) (now (output .entry))) × Works (length (now (corners .entry))) (now (names .entry)) (now (points .entry)) (now (ends .entry)) (now (marks .entry)) (now (ring .entry)) (now (names .exit)) (now (points .exit)) (now (ends .exit)) (now (marks .exit)) (now (ring .exit)) ⌝ }
+    requires { ⌜ LayersTested (paired (now coords) (now corners) (now pairing)) (takenHeights low (now heights) count)
+        (work (now names) (now points) (now ends) (now marks) (now ring)) ⌝
+        ∗ ⌜ Sweeping (mesh (now coords) (now corners)) (takenHeights low (now heights) count) 0
+        (cornerLists (now ring) (now heads) (now marks) (length (now corners))) ⌝
+        ∗ ⌜ length (takenFile (paired (now coords) (now corners) (now pairing)) (takenHeights low (now heights) count)) ≤ length (now output) ⌝ }
+    ensures { λ r. ⌜ r ≡ length (takenFile (paired (coords .entry .now) (corners .entry .now) (pairing .entry .now))
+        (takenHeights low (heights .entry .now) count)) ⌝ }
+    ensures { λ _. ⌜ output .exit .now ≡ overwrite (takenFile (paired (coords .entry .now) (corners .entry .now) (pairing .entry .now))
+        (takenHeights low (heights .entry .now) count)) (output .entry .now) ⌝ }
+    ensures { λ _. ⌜ Works (length (corners .entry .now))
+        (work (names .entry .now) (points .entry .now) (ends .entry .now) (marks .entry .now) (ring .entry .now))
+        (work (names .exit .now) (points .exit .now) (ends .exit .now) (marks .exit .now) (ring .exit .now)) ⌝ }
 {
     let mut p = write_number(output, 0, count as u64);
     let mut active = corners.len();

@@ -1,78 +1,76 @@
--- The lines of a listing, word by word.
-use Prim.Native.Nat.{ℕ, _^_, _≤_, _<_}
-use mathlib.Core.Path.{_≡_, refl, sym}
-use mathlib.Core.List.{List, [], _∷_, _++_, flatten}
+-- The lines of a listing, word by word, and how long they are.
+use Prim.Native.Nat.{ℕ, _+_, _^_, _≤_, _<_}
+use mathlib.Core.Path.{_≡_, refl, sym, ap, _∙_}
+use mathlib.Core.List.{List, [], _∷_, flatten}
 use native.Mathlib.Omega.{arith}
 use lib.ListN.{length, length-append}
 use lib.IntN.{ℤ}
 use lib.Signed.{mag}
-use Rattle.mesh.specs.Refusals.{numberOf, placeOf}
-use Rattle.mesh.specs.declared.Refusal.{Refusal}
-use Rattle.mesh.specs.declared.Refusal.the-variants.{Size, Range, Vertex, Triangle, Doubled, Open, Pairing, Order, Room, Passed, Ring, Height, File, Output, Layer, Used}
-use Rattle.decimals.specs.Decimals.{decimal, signedDecimal}
+use Rattle.mesh.specs.Refusals.{Told, refusal}
 use Rattle.decimals.specs.DecimalLaws.{decimal-word, signed-word}
-use Rattle.decimals.specs.Texts.{HasRoom}
-use Rattle.decimals.specs.TextLaws.{Writing, writing}
-use Rattle.lines.specs.Lines.{layersWord, layerWord, refusedWord, space, lineEnd, refusedLine, layersLine, layerLine}
+use Rattle.decimals.specs.Texts.{HasRoom, Puts}
+use Rattle.decimals.specs.TextLaws.{Writing, writing, next-room, next-put, all-put}
+use Rattle.lines.specs.Lines.{refusedWords, refusedLine, layersWords, layersLine, layerWords, layerLine}
 use Rattle.lines.specs.Steps.{mostFirst, mostLine, mostRefused}
 
-module _ {l : List ℕ} {at : ℕ} where
-  pub refused-start : (r : Refusal) {n p : ℕ} → HasRoom l at (refusedLine r) → n ≡ numberOf r → p ≡ placeOf r → Writing l at (refusedLine r) l at (refusedWord ∷ decimal n ∷ space ∷ decimal p ∷ lineEnd ∷ [])
-  unfolding refusedLine
-  refused-start r h e f = writing (omega (arith, h .within)) (λ i. flatten (refusedWord ∷ decimal (sym e i) ∷ space ∷ decimal (sym f i) ∷ lineEnd ∷ []))
+-- ---- a line goes to a position of an output l, which has room for it and is m now: those words that are left go to p
 
-  pub layers-start : (count : ℕ) → HasRoom l at (layersLine count) → Writing l at (layersLine count) l at (layersWord ∷ decimal count ∷ lineEnd ∷ [])
-  unfolding layersLine
-  layers-start count h = writing (omega (arith, h .within)) refl
+pub record Words (l : List ℕ) (at : ℕ) (line m : List ℕ) (p : ℕ) (words : List (List ℕ)) : Type 0 where
+  pub room : HasRoom l at line
+  pub left : Writing l at line m p words
 
-  pub layer-start : (j k : ℕ) {h g a b : ℤ} → HasRoom l at (layerLine h j k a) → g ≡ h → b ≡ a
-      → Writing l at (layerLine h j k a) l at (layerWord ∷ signedDecimal g ∷ space ∷ decimal j ∷ space ∷ decimal k ∷ space ∷ signedDecimal b ∷ lineEnd ∷ [])
-  unfolding layerLine
-  layer-start j k r e f =
-      writing (omega (arith, r .within)) (λ i. flatten (layerWord ∷ signedDecimal (sym e i) ∷ space ∷ decimal j ∷ space ∷ decimal k ∷ space ∷ signedDecimal (sym f i) ∷ lineEnd ∷ []))
+words-start : {l : List ℕ} {at : ℕ} {line : List ℕ} {words : List (List ℕ)} → HasRoom l at line → line ≡ flatten words → Words l at line l at words
+words-start h e = record { room = h; left = writing (omega (arith, h .within)) e }
 
--- ---- how long they are
+module _ {l : List ℕ} {at : ℕ} {line m : List ℕ} {p : ℕ} where
+  module _ {w : List ℕ} {ws : List (List ℕ)} (k : Words l at line m p (w ∷ ws)) where
+    pub word-room : HasRoom m p w
+    word-room = next-room (k .left) (k .room)
 
-number-small : (r : Refusal) → numberOf r < 2 ^ 64
-number-small (Size p) = omega arith
-number-small (Range p) = omega arith
-number-small (Vertex p) = omega arith
-number-small (Triangle p) = omega arith
-number-small (Doubled p) = omega arith
-number-small (Open p) = omega arith
-number-small (Pairing p) = omega arith
-number-small (Order p) = omega arith
-number-small (Room p) = omega arith
-number-small (Passed p) = omega arith
-number-small (Ring p) = omega arith
-number-small (Height p) = omega arith
-number-small (File p) = omega arith
-number-small (Output p) = omega arith
-number-small (Layer p) = omega arith
-number-small (Used p) = omega arith
+    pub word-put : {q : ℕ} {n : List ℕ} → Puts m p w q n → Words l at line n q ws
+    word-put v = record { room = k .room; left = next-put (k .left) v }
 
-pub refused-short : (r : Refusal) → placeOf r < 2 ^ 64 → length (refusedLine r) ≤ mostRefused
-unfolding refusedLine flatten
-refused-short r h =
-    let n = decimal-word (numberOf r) (number-small r) in
-    let p = decimal-word (placeOf r) h in
-    omega (arith, n, p, length-append (decimal (numberOf r)) (space ++ (decimal (placeOf r) ++ lineEnd)), length-append (decimal (placeOf r)) lineEnd)
+  pub words-put : Words l at line m p [] → Puts l at line p m
+  words-put k = all-put (k .left)
 
-pub refused-room : {l : List ℕ} (r : Refusal) {p : ℕ} → p ≡ placeOf r → p < 2 ^ 64 → mostRefused ≤ length l → HasRoom l 0 (refusedLine r)
-refused-room r e h g = record { within = omega (arith, refused-short r (omega arith)) }
+-- ---- how long a line is: as long as its words
+
+abbrev total : List (List ℕ) → ℕ
+total [] = 0
+total (w ∷ ws) = length w + total ws
+
+total-length : (ws : List (List ℕ)) → length (flatten ws) ≡ total ws
+unfolding flatten
+total-length [] = refl
+total-length (w ∷ ws) = length-append w (flatten ws) ∙ ap (λ (n : ℕ). length w + n) (total-length ws)
+
+-- ---- each line
+
+refused-short : (r : Told) → r .number < 2 ^ 64 → r .place < 2 ^ 64 → length (refusedLine r) ≤ mostRefused
+unfolding refusedLine
+refused-short r g h = omega (arith, total-length (refusedWords r), decimal-word (r .number) g, decimal-word (r .place) h)
+
+pub refused-words : {l : List ℕ} (r : Told) {n p : ℕ} → n ≡ r .number → p ≡ r .place → n < 2 ^ 64 → p < 2 ^ 64 → mostRefused ≤ length l
+    → Words l 0 (refusedLine r) l 0 (refusedWords (refusal n p))
+unfolding refusedLine
+refused-words r e f g h long =
+    words-start (record { within = omega (arith, refused-short r (omega arith) (omega arith)) }) (λ i. flatten (refusedWords (refusal (sym e i) (sym f i))))
 
 pub layers-short : (count : ℕ) → count < 2 ^ 64 → length (layersLine count) ≤ mostFirst
-unfolding layersLine flatten
-layers-short count h = omega (arith, decimal-word count h, length-append (decimal count) lineEnd)
+unfolding layersLine
+layers-short count h = omega (arith, total-length (layersWords count), decimal-word count h)
+
+pub layers-words : {l : List ℕ} {at : ℕ} (count : ℕ) → HasRoom l at (layersLine count) → Words l at (layersLine count) l at (layersWords count)
+unfolding layersLine
+layers-words count h = words-start h refl
 
 pub layer-short : (h : ℤ) (j k : ℕ) (a : ℤ) → mag h < 2 ^ 63 → j < 2 ^ 64 → k < 2 ^ 64 → mag a < 2 ^ 63 → length (layerLine h j k a) ≤ mostLine
-unfolding layerLine flatten
+unfolding layerLine
 layer-short h j k a eh ej ek ea =
-    let u = signed-word h eh in
-    let v = decimal-word j ej in
-    let w = decimal-word k ek in
-    let x = signed-word a ea in
-    let e = signedDecimal a ++ lineEnd in
-    let d = decimal k ++ (space ++ e) in
-    let c = decimal j ++ (space ++ d) in
-    omega (arith, u, v, w, x, length-append (signedDecimal h) (space ++ c), length-append (decimal j) (space ++ d), length-append (decimal k) (space ++ e), length-append (signedDecimal a) lineEnd)
+    omega (arith, total-length (layerWords h j k a), signed-word h eh, decimal-word j ej, decimal-word k ek, signed-word a ea)
+
+-- the height and the area as the calls get them
+pub layer-words : {l : List ℕ} {at : ℕ} {h g : ℤ} (j k : ℕ) {a b : ℤ} → g ≡ h → b ≡ a → HasRoom l at (layerLine h j k a)
+    → Words l at (layerLine h j k a) l at (layerWords g j k b)
+unfolding layerLine
+layer-words j k e f r = words-start r (λ i. flatten (layerWords (sym e i) j k (sym f i)))

@@ -9,6 +9,7 @@ use lib.IntN.{ℤ, pos, natAbs}
 use Rattle.laws.specs.Tables.{overwrite}
 use Rattle.laws.specs.TableLaws.{overwrite-at}
 use Rattle.mesh.specs.Corners.{largest, mostPoints}
+use Rattle.mesh.specs.Meshes.{Mesh}
 use Rattle.section.specs.Contours.{namesOf, endsFrom, endsOf}
 use Rattle.section.specs.Layers.{contourAt}
 use Rattle.points.specs.Points.{pointsOf}
@@ -31,7 +32,8 @@ before rs i = length (namesOf (take i rs))
 before-next : (rs : List (List ℕ)) (i : ℕ) → i < length rs → before rs (suc i) ≡ before rs i + length (contourAt rs i)
 before-next [] i h = absurd (omega arith)
 before-next (r ∷ rs) zero h = omega (arith, length-append r [])
-before-next (r ∷ rs) (suc i) h = omega (arith, length-append r (namesOf (take (suc i) rs)), length-append r (namesOf (take i rs)), before-next rs i (omega arith))
+before-next (r ∷ rs) (suc i) h =
+    omega (arith, length-append r (namesOf (take (suc i) rs)), length-append r (namesOf (take i rs)), before-next rs i (omega arith))
 
 names-split : (rs : List (List ℕ)) (i : ℕ) → i < length rs → namesOf rs ≡ namesOf (take i rs) ++ (contourAt rs i ++ namesOf (drop (suc i) rs))
 names-split [] i h = absurd (omega arith)
@@ -58,12 +60,12 @@ few-contours (r ∷ rs) f = omega (arith, length-append r (namesOf rs), f 0 (ome
 
 -- ---- the tables
 
-module _ (coords : List ℤ) (corners : List ℕ) (h : ℤ) (rs : List (List ℕ)) (points : List ℤ) (ends : List ℕ) where
+module _ (m : Mesh) (h : ℤ) (rs : List (List ℕ)) (points : List ℤ) (ends : List ℕ) where
   abbrev all : List ℤ
-  all = pointsOf coords corners h (namesOf rs)
+  all = pointsOf m h (namesOf rs)
 
   abbrev pointsAfter : List ℤ
-  pointsAfter = overwrite (pointsOf coords corners h (namesOf rs)) points
+  pointsAfter = overwrite (pointsOf m h (namesOf rs)) points
 
   abbrev endsAfter : List ℕ
   endsAfter = overwrite (endsOf rs) ends
@@ -77,15 +79,23 @@ module _ (coords : List ℤ) (corners : List ℕ) (h : ℤ) (rs : List (List ℕ
     prior = by i l
       where
         by : (k : ℕ) → k < length rs → priorEnd endsAfter k ≡ before rs k
-        by zero m = refl
-        by (suc k) m = overwrite-at (endsOf rs) ends k 0 (omega (arith, length-ends 0 rs)) ∙ end-at 0 rs k (omega arith) ∙ omega arith
+        by zero q = refl
+        by (suc k) q = overwrite-at (endsOf rs) ends k 0 (omega (arith, length-ends 0 rs)) ∙ end-at 0 rs k (omega arith) ∙ omega arith
 
     within : before rs (suc i) ≤ length (namesOf rs)
-    within = omega (arith, ap length (names-split rs i l), length-append (namesOf (take i rs)) (contourAt rs i ++ namesOf (drop (suc i) rs)), length-append (contourAt rs i) (namesOf (drop (suc i) rs)), before-next rs i l)
+    within =
+        let later = namesOf (drop (suc i) rs) in
+        omega (
+          arith,
+          ap length (names-split rs i l),
+          length-append (namesOf (take i rs)) (contourAt rs i ++ later),
+          length-append (contourAt rs i) later,
+          before-next rs i l,
+        )
 
     long : 2 * length (namesOf rs) ≤ length pointsAfter
     unfolding overwrite
-    long = omega (arith, length-append all (drop (length all) points), length-points coords corners h (namesOf rs))
+    long = omega (arith, length-append all (drop (length all) points), length-points m h (namesOf rs))
 
     there : i < length endsAfter
     unfolding overwrite
@@ -93,53 +103,58 @@ module _ (coords : List ℤ) (corners : List ℕ) (h : ℤ) (rs : List (List ℕ
 
     -- the points, by those before contour i, its own and those after it
     abbrev front : List ℤ
-    front = pointsOf coords corners h (namesOf (take i rs))
+    front = pointsOf m h (namesOf (take i rs))
 
     abbrev its : List ℤ
-    its = pointsOf coords corners h (contourAt rs i)
+    its = pointsOf m h (contourAt rs i)
 
     abbrev back : List ℤ
-    back = pointsOf coords corners h (namesOf (drop (suc i) rs)) ++ drop (length all) points
+    back = pointsOf m h (namesOf (drop (suc i) rs)) ++ drop (length all) points
 
     split : pointsAfter ≡ front ++ (its ++ back)
     unfolding overwrite
     split =
         let tail = drop (length all) points in
-        let rest = pointsOf coords corners h (namesOf (drop (suc i) rs)) in
-        ap (λ (ns : List ℕ). pointsOf coords corners h ns ++ tail) (names-split rs i l)
-        ∙ ap (λ (ps : List ℤ). ps ++ tail) (points-append coords corners h (namesOf (take i rs)) (contourAt rs i ++ namesOf (drop (suc i) rs)))
-        ∙ ap (λ (ps : List ℤ). (front ++ ps) ++ tail) (points-append coords corners h (contourAt rs i) (namesOf (drop (suc i) rs)))
+        let rest = pointsOf m h (namesOf (drop (suc i) rs)) in
+        ap (λ (ns : List ℕ). pointsOf m h ns ++ tail) (names-split rs i l)
+        ∙ ap (λ (ps : List ℤ). ps ++ tail) (points-append m h (namesOf (take i rs)) (contourAt rs i ++ namesOf (drop (suc i) rs)))
+        ∙ ap (λ (ps : List ℤ). (front ++ ps) ++ tail) (points-append m h (contourAt rs i) (namesOf (drop (suc i) rs)))
         ∙ append-assoc front (its ++ rest) tail
         ∙ ap (λ (ps : List ℤ). front ++ ps) (append-assoc its rest tail)
 
     -- Contour i of the tables is contour i
-    pub contour-here : contourOf pointsAfter endsAfter i ≡ pointsOf coords corners h (contourAt rs i)
+    pub contour-here : contourOf pointsAfter endsAfter i ≡ pointsOf m h (contourAt rs i)
     contour-here =
         let n = before-next rs i l in
         let size : ownEnd endsAfter i - priorEnd endsAfter i ≡ length (contourAt rs i) = omega (arith, own, prior, n) in
         contour-is pointsAfter endsAfter i
-        (contour-of (length pointsAfter) endsAfter i (record { there = there; rises = omega (arith, own, prior, n); within = omega (arith, own, within, long) }))
+        (contour-of (length pointsAfter) endsAfter i
+        (record { there = there; rises = omega (arith, own, prior, n); within = omega (arith, own, within, long) }))
         ∙ (λ k. take (2 * size k) (drop (2 * prior k) (split k)))
-        ∙ ap (take (2 * length (contourAt rs i))) (drop-at front (its ++ back) (2 * before rs i) (length-points coords corners h (namesOf (take i rs))))
-        ∙ take-at its back (2 * length (contourAt rs i)) (length-points coords corners h (contourAt rs i))
+        ∙ ap (take (2 * length (contourAt rs i))) (drop-at front (its ++ back) (2 * before rs i) (length-points m h (namesOf (take i rs))))
+        ∙ take-at its back (2 * length (contourAt rs i)) (length-points m h (contourAt rs i))
 
     -- and a run where the points are in range and few
-    pub contour-runs : length (namesOf rs) ≤ mostPoints → ((k : ℕ) → k < length all → natAbs (getD all k (pos 0)) ≤ largest) → Run (contourOf pointsAfter endsAfter i)
+    pub contour-runs : length (namesOf rs) ≤ mostPoints → ((k : ℕ) → k < length all → natAbs (getD all k (pos 0)) ≤ largest)
+        → Run (contourOf pointsAfter endsAfter i)
     contour-runs few ranged =
         contour-run pointsAfter endsAfter i (omega (arith, own, within))
-        (λ k m.
-        let b : k < length all = omega (arith, own, within, length-points coords corners h (namesOf rs)) in
+        (λ k q.
+        let b : k < length all = omega (arith, own, within, length-points m h (namesOf rs)) in
         subst (λ (z : ℤ). natAbs z ≤ largest) (sym (overwrite-at all points k (pos 0) b)) (ranged k b))
 
     pub contour-short : length (namesOf rs) ≤ entries → pointCount (contourOf pointsAfter endsAfter i) ≤ entries
-    contour-short few = omega (arith, ap length contour-here ∙ length-points coords corners h (contourAt rs i), before-next rs i l, within)
+    contour-short few = omega (arith, ap length contour-here ∙ length-points m h (contourAt rs i), before-next rs i l, within)
 
   -- the sum of the areas
-  pub areas-here : areasIn pointsAfter endsAfter (length rs) ≡ areaSum coords corners h rs
+  pub areas-here : areasIn pointsAfter endsAfter (length rs) ≡ areaSum m h rs
   unfolding areasIn areaSum
-  areas-here = sum-same (length rs) (λ i. areaOf (contourOf pointsAfter endsAfter i)) (λ i. areaOf (pointsOf coords corners h (contourAt rs i))) (λ i l. ap areaOf (contour-here i l))
+  areas-here =
+      sum-same (length rs) (λ i. areaOf (contourOf pointsAfter endsAfter i)) (λ i. areaOf (pointsOf m h (contourAt rs i)))
+      (λ i l. ap areaOf (contour-here i l))
 
-  pub summable : ((i : ℕ) → i < length rs → 1 ≤ length (contourAt rs i)) → length (namesOf rs) ≤ entries → ((k : ℕ) → k < length all → natAbs (getD all k (pos 0)) ≤ largest)
+  pub summable : ((i : ℕ) → i < length rs → 1 ≤ length (contourAt rs i)) → length (namesOf rs) ≤ entries
+      → ((k : ℕ) → k < length all → natAbs (getD all k (pos 0)) ≤ largest)
       → Summable pointsAfter endsAfter (length rs)
   summable some few ranged =
       record {

@@ -1,6 +1,6 @@
 -- Summing the areas of contours: the sum has 64 bits.
 use Prim.Native.Nat.{ℕ, _+_, _*_, _^_, _≤_, _<_}
-use mathlib.Core.Path.{_≡_, refl, sym, ap, _∙_}
+use mathlib.Core.Path.{_≡_, refl, sym, ap, _∙_, subst}
 use mathlib.Core.List.{List}
 use native.Mathlib.Omega.{arith}
 use native.Mathlib.Numerals.{add-one}
@@ -13,7 +13,7 @@ use Rattle.laws.specs.Machine.{Rd, got, add-ok, add}
 use Rattle.mesh.specs.declared.Refusal.{Refusal}
 use Rattle.contours.specs.declared.Measured.{Measured}
 use Rattle.contours.specs.declared.Measured.the-variants.{Area, Refused as Turned}
-use Rattle.contours.specs.Areas.{pointCount, crossOf, nextPoint, sumOf, areaOf, measureOf}
+use Rattle.contours.specs.Areas.{pointCount, crossOf, nextPoint, sumOf, areaOf, Measures}
 use Rattle.contours.specs.AreaLaws.{sum-bound, cross-bound, run-measured, area-is}
 use Rattle.contours.specs.Contours.{contourOf}
 use Rattle.contours.specs.Runs.{largestCross, Run}
@@ -22,11 +22,15 @@ use Rattle.lines.specs.Steps.{areasIn, Summable}
 
 -- ---- one contour
 
-pub measured-area : (points : List ℤ) {m : Measured} {a : ℤ} → m ≡ measureOf points → m ≡ Area a → a ≡ areaOf points
-measured-area points {m} {a} e f = area-is points a (sym e ∙ f)
+-- a part of the points that is contour i
+module _ {points run : List ℤ} {result : Measured} (d : Measures run result) (e : run ≡ points) where
+  pub measured-area : {a : ℤ} → result ≡ Area a → a ≡ areaOf points
+  measured-area {a} f = area-is d a f ∙ ap areaOf e
 
-pub never-refused : {points : List ℤ} {m : Measured} {r : Refusal} → Run points → m ≡ measureOf points → m ≡ Turned r → ⊥
-never-refused {points} {m} {r} run e f = let g : Turned r ≡ Area (areaOf points) = sym f ∙ e ∙ run-measured points run in let z : _≡_ {A = ℕ} 0 1 = cc in omega arith
+  pub never-refused : {r : Refusal} → Run points → result ≡ Turned r → ⊥
+  never-refused {r} runs f =
+      let g : Turned r ≡ Area (areaOf run) = sym f ∙ run-measured d (subst Run (sym e) runs) in
+      let z : _≡_ {A = ℕ} 0 1 = cc in omega arith
 
 -- ---- the sum
 
@@ -35,7 +39,8 @@ area-most : (points : List ℤ) → Run points → pointCount points ≤ entries
 unfolding areaOf
 area-most points r h =
     let n = pointCount points in
-    le-trans (sum-bound n largestCross (λ i. crossOf points i (nextPoint n i)) (λ i l. cross-bound points r i (nextPoint n i))) (mul-le-mul-right largestCross h)
+    le-trans (sum-bound n largestCross (λ i. crossOf points i (nextPoint n i)) (λ i l. cross-bound points r i (nextPoint n i)))
+    (mul-le-mul-right largestCross h)
 
 -- i contours are summed
 pub record Summed (points : List ℤ) (ends : List ℕ) (j sum i : ℕ) : Type 0 where
@@ -52,7 +57,8 @@ module _ {points : List ℤ} {ends : List ℕ} {j : ℕ} (s : Summable points en
   sum-most i h =
       let m : i ≤ entries = omega (arith, s .few) in
       le-trans
-      (sum-bound i (entries * largestCross) (λ k. areaOf (contourOf points ends k)) (λ k l. area-most (contourOf points ends k) (s .each k (omega arith)) (s .short k (omega arith))))
+      (sum-bound i (entries * largestCross) (λ k. areaOf (contourOf points ends k))
+      (λ k l. area-most (contourOf points ends k) (s .each k (omega arith)) (s .short k (omega arith))))
       (mul-le-mul-right (entries * largestCross) m)
 
   module _ {sum i : ℕ} (w : Summed points ends j sum i) (h : i < j) (a : ℤ) (fits : mag a < 2 ^ 63) (e : a ≡ areaOf (contourOf points ends i)) where

@@ -1,11 +1,10 @@
--- The lines of the listing program of document 01, and the listing of a part.
+-- The lines of the listing program of document 01, and the listing of a mesh with its pairing.
 use Prim.Native.Nat.{ℕ}
-use mathlib.Core.List.{List, [], _∷_, map, flatten}
+use mathlib.Core.List.{List, [], _∷_, _++_, map, flatten}
 use lib.ListN.{length}
 use lib.IntN.{ℤ}
-use Rattle.mesh.specs.Refusals.{numberOf, placeOf}
-use Rattle.mesh.specs.declared.Refusal.{Refusal}
-use Rattle.pairing.specs.Partners.{pairingOf}
+use Rattle.mesh.specs.Meshes.{Mesh, PairedMesh}
+use Rattle.mesh.specs.Refusals.{Told}
 use Rattle.section.specs.Contours.{namesOf}
 use Rattle.section.specs.Layers.{contourAt}
 use Rattle.points.specs.Points.{pointsOf}
@@ -33,33 +32,45 @@ abbrev pub lineEnd : List ℕ
 lineEnd = 10 ∷ []
 
 -- `the line "refused", number and place`
-unfoldable pub refusedLine : Refusal → List ℕ
-refusedLine r = flatten (refusedWord ∷ decimal (numberOf r) ∷ space ∷ decimal (placeOf r) ∷ lineEnd ∷ [])
+abbrev pub refusedWords : Told → List (List ℕ)
+refusedWords r = refusedWord ∷ decimal (r .number) ∷ space ∷ decimal (r .place) ∷ lineEnd ∷ []
+
+unfoldable pub refusedLine : Told → List ℕ
+refusedLine r = flatten (refusedWords r)
 
 -- "the first line has the layer count"
+abbrev pub layersWords : ℕ → List (List ℕ)
+layersWords count = layersWord ∷ decimal count ∷ lineEnd ∷ []
+
 unfoldable pub layersLine : ℕ → List ℕ
-layersLine count = flatten (layersWord ∷ decimal count ∷ lineEnd ∷ [])
+layersLine count = flatten (layersWords count)
 
 -- "height, contours, points, sum of doubled areas"
+abbrev pub layerWords : ℤ → ℕ → ℕ → ℤ → List (List ℕ)
+layerWords h contours points area =
+    layerWord ∷ signedDecimal h ∷ space ∷ decimal contours ∷ space ∷ decimal points ∷ space ∷ signedDecimal area ∷ lineEnd ∷ []
+
 unfoldable pub layerLine : ℤ → ℕ → ℕ → ℤ → List ℕ
-layerLine h contours points area =
-    flatten (layerWord ∷ signedDecimal h ∷ space ∷ decimal contours ∷ space ∷ decimal points ∷ space ∷ signedDecimal area ∷ lineEnd ∷ [])
+layerLine h contours points area = flatten (layerWords h contours points area)
 
 -- ---- the layers
 
 -- the sum of the doubled areas of some contours, told by their names
-unfoldable pub areaSum : List ℤ → List ℕ → ℤ → List (List ℕ) → ℤ
-areaSum coords corners h rs = sumOf (length rs) (λ i. areaOf (pointsOf coords corners h (contourAt rs i)))
+unfoldable pub areaSum : Mesh → ℤ → List (List ℕ) → ℤ
+areaSum m h rs = sumOf (length rs) (λ i. areaOf (pointsOf m h (contourAt rs i)))
 
 -- the line of a layer with these contours
-unfoldable pub lineOf : List ℤ → List ℕ → ℤ → List (List ℕ) → List ℕ
-lineOf coords corners h rs = layerLine h (length rs) (length (namesOf rs)) (areaSum coords corners h rs)
+unfoldable pub lineOf : Mesh → ℤ → List (List ℕ) → List ℕ
+lineOf m h rs = layerLine h (length rs) (length (namesOf rs)) (areaSum m h rs)
 
--- the line of the layer at height h
-unfoldable pub lineAt : List ℤ → List ℕ → ℤ → List ℕ
-lineAt coords corners h = lineOf coords corners h (contoursOf (section coords corners (pairingOf corners) h))
+-- the line of the layer that Cut gives at height h
+unfoldable pub lineAt : PairedMesh → ℤ → List ℕ
+lineAt m h = lineOf (m .mesh) h (contoursOf (section m h))
 
--- the listing of a part: the first line, and a line for each height taken
-unfoldable pub listing : List ℤ → List ℕ → List ℤ → List ℕ
-listing coords corners heights =
-    flatten (layersLine (length (heightsTaken coords heights)) ∷ map (lineAt coords corners) (heightsTaken coords heights))
+-- a line for each height taken
+abbrev pub linesOf : PairedMesh → List ℤ → List ℕ
+linesOf m heights = flatten (map (lineAt m) (heightsTaken (m .mesh .coords) heights))
+
+-- the listing: the first line, and the others
+unfoldable pub listing : PairedMesh → List ℤ → List ℕ
+listing m heights = layersLine (length (heightsTaken (m .mesh .coords) heights)) ++ linesOf m heights

@@ -1,20 +1,34 @@
--- Internal: what the steps of a listing ask of their tables, and the sum of areas as the code has it.
+-- What the steps of a listing ask: contours that can be summed, tables that have room for a layer, a mesh and heights that can be listed, an output that has
+-- room for every line.
 use Prim.Native.Nat.{ℕ, _≤_, _<_}
-use mathlib.Core.Path.{_≡_}
 use mathlib.Core.List.{List}
 use lib.ListN.{length}
 use lib.IntN.{ℤ}
-use Rattle.pairing.specs.Partners.{pairingOf}
+use Rattle.mesh.specs.Meshes.{PairedMesh}
 use Rattle.section.specs.Section.{Right}
 use Rattle.contours.specs.Areas.{pointCount, sumOf, areaOf}
 use Rattle.contours.specs.Contours.{contourOf}
 use Rattle.contours.specs.Runs.{Run}
+use Rattle.cutter.specs.Cut.{Lengths}
 use Rattle.cutter.specs.Outlines.{Long}
 use Rattle.heights.specs.Heights.{heightsTaken}
 use Rattle.decimals.specs.Texts.{Puts}
 use Rattle.lines.specs.Limits.{heldHeights, entries, mostOutput}
 
--- the sum of the areas of the first j contours that two tables hold
+-- ---- how many bytes a first line, another line and the line of a refusal take at most
+
+abbrev pub mostFirst : ℕ
+mostFirst = 28
+
+abbrev pub mostLine : ℕ
+mostLine = 92
+
+abbrev pub mostRefused : ℕ
+mostRefused = 50
+
+-- ---- one layer
+
+-- the sum of the areas of the first j contours that points and ends hold
 unfoldable pub areasIn : List ℤ → List ℕ → ℕ → ℤ
 areasIn points ends j = sumOf j (λ i. areaOf (contourOf points ends i))
 
@@ -24,34 +38,24 @@ pub record Summable (points : List ℤ) (ends : List ℕ) (j : ℕ) : Type 0 whe
   pub each : (i : ℕ) → i < j → Run (contourOf points ends i)
   pub short : (i : ℕ) → i < j → pointCount (contourOf points ends i) ≤ entries
 
--- no first line, and no other, takes more bytes
-abbrev pub mostFirst : ℕ
-mostFirst = 28
-
-abbrev pub mostLine : ℕ
-mostLine = 92
-
--- a mesh of n corners is small, and the tables have room for its layers
-pub record Workable (n names points ends marks : ℕ) : Type 0 where
+-- a mesh of n corners is small, and tables of these lengths have room for its layers
+pub record Workable (n : ℕ) (l : Lengths) : Type 0 where
   pub few : n ≤ entries
-  pub long : Long n names points ends marks
+  pub long : Long n l
 
 -- a line is written, and is not long
 pub record PutsLine (output : List ℕ) (at : ℕ) (line : List ℕ) (end : ℕ) (output′ : List ℕ) : Type 0 where
   pub puts : Puts output at line end output′
   pub short : length line ≤ mostLine
 
--- a mesh with the pairing that Check makes, and heights of which not too many are taken
-pub record Listable (coords : List ℤ) (corners pairing : List ℕ) (heights : List ℤ) : Type 0 where
-  pub right : Right coords corners pairing
-  pub paired : pairing ≡ pairingOf corners
-  pub few : length (heightsTaken coords heights) ≤ heldHeights
+-- ---- all layers
 
--- the first line at most is written, to an output that has room for all
-pub record Begun (output : List ℕ) (at : ℕ) : Type 0 where
+-- a mesh that the tests of Cut pass, and heights of which not too many are taken
+pub record Listable (m : PairedMesh) (heights : List ℤ) : Type 0 where
+  pub right : Right m
+  pub few : length (heightsTaken (m .mesh .coords) heights) ≤ heldHeights
+
+-- the first line at most stands before this position, in an output that has room for all
+pub record FirstLine (output : List ℕ) (at : ℕ) : Type 0 where
   pub first : at ≤ mostFirst
   pub long : mostOutput ≤ length output
-
--- no line of a refusal takes more bytes
-abbrev pub mostRefused : ℕ
-mostRefused = 50

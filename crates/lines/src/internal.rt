@@ -1,18 +1,18 @@
-// Internal: the lines of a listing and the layers of a mesh, written into an output that has room, as each `requires` says.
+// The lines of a listing and the layers of a mesh, written into an output that has room, as each `requires` says.
 ghost use mathlib.Core.Path.{_≡_};
 ghost use Prim.Native.Nat.{_+_, _≤_};
-ghost use mathlib.Core.List.{map, flatten};
 ghost use lib.ListN.{length};
+ghost use Rattle.mesh.specs.Meshes.{paired};
+ghost use Rattle.mesh.specs.Refusals.{toldOf};
 ghost use Rattle.section.specs.Section.{Right};
-ghost use Rattle.cutter.specs.Cut.{section, contoursOf};
+ghost use Rattle.cutter.specs.Cut.{lent, lengthsOf};
 ghost use Rattle.contours.specs.Areas.{areaOf};
 ghost use Rattle.contours.specs.Contours.{contourOf};
 ghost use Rattle.contours.specs.Runs.{Run};
-ghost use Rattle.heights.specs.Heights.{heightsTaken};
 ghost use Rattle.decimals.specs.Texts.{HasRoom, Puts};
-ghost use Rattle.lines.specs.Lines.{refusedLine, layersLine, layerLine, lineOf, lineAt, listing};
 ghost use Rattle.lines.specs.Limits.{mostOutput};
-ghost use Rattle.lines.specs.Steps.{areasIn, Summable, mostLine, Workable, PutsLine, Listable, Begun, mostRefused};
+ghost use Rattle.lines.specs.Lines.{refusedLine, layersLine, layerLine, lineAt, linesOf, listing};
+ghost use Rattle.lines.specs.Steps.{mostLine, mostRefused, areasIn, Summable, Workable, PutsLine, Listable, FirstLine};
 use answers::number;
 use answers::place;
 use contours::Measured;
@@ -31,7 +31,7 @@ use mesh::Refusal;
 // Writes the line of a refusal, and returns its length. All after it stays.
 pub fn write_refusal(output: &mut [u8], r: Refusal) -> usize
     requires { ⌜ mostRefused ≤ length (now output) ⌝ }
-    ensures { λ e. ⌜ Puts (now (output .entry)) 0 (refusedLine r) e (now (output .exit)) ⌝ }
+    ensures { λ e. ⌜ Puts (output .entry .now) 0 (refusedLine (toldOf r)) e (output .exit .now) ⌝ }
 {
     let n = number(r) as u64;
     let p = place(r) as u64;
@@ -45,7 +45,7 @@ pub fn write_refusal(output: &mut [u8], r: Refusal) -> usize
 // Writes the first line at a position, and returns the position after it. All before and after stays, here and below.
 fn write_layers_line(output: &mut [u8], at: usize, count: usize) -> usize
     requires { ⌜ HasRoom (now output) at (layersLine count) ⌝ }
-    ensures { λ r. ⌜ Puts (now (output .entry)) at (layersLine count) r (now (output .exit)) ⌝ }
+    ensures { λ r. ⌜ Puts (output .entry .now) at (layersLine count) r (output .exit .now) ⌝ }
 {
     let a = write_text(output, at, b"layers ");
     let b = write_decimal(output, a, count as u64);
@@ -62,7 +62,7 @@ fn write_layer_line(
     area: i64,
 ) -> usize
     requires { ⌜ HasRoom (now output) at (layerLine h contours points area) ⌝ }
-    ensures { λ r. ⌜ Puts (now (output .entry)) at (layerLine h contours points area) r (now (output .exit)) ⌝ }
+    ensures { λ r. ⌜ Puts (output .entry .now) at (layerLine h contours points area) r (output .exit .now) ⌝ }
 {
     let a = write_text(output, at, b"layer ");
     let b = write_signed(output, a, h as i64);
@@ -78,7 +78,7 @@ fn write_layer_line(
 // The area of contour j.
 fn contour_area(points: &[i32], ends: &[u32], j: usize) -> i64
     requires { ⌜ Run (contourOf (now points) (now ends) j) ⌝ }
-    ensures { λ r. ⌜ r ≡ areaOf (contourOf (now (points .entry)) (now (ends .entry)) j) ⌝ }
+    ensures { λ r. ⌜ r ≡ areaOf (contourOf (points .entry .now) (ends .entry .now) j) ⌝ }
 {
     let a = area(contour(points, ends, j));
     match a {
@@ -90,7 +90,7 @@ fn contour_area(points: &[i32], ends: &[u32], j: usize) -> i64
 // The sum of the areas of the first j contours.
 fn sum_areas(points: &[i32], ends: &[u32], j: usize) -> i64
     requires { ⌜ Summable (now points) (now ends) j ⌝ }
-    ensures { λ r. ⌜ r ≡ areasIn (now (points .entry)) (now (ends .entry)) j ⌝ }
+    ensures { λ r. ⌜ r ≡ areasIn (points .entry .now) (ends .entry .now) j ⌝ }
 {
     let mut sum: i64 = 0;
     let mut i: usize = 0;
@@ -114,8 +114,11 @@ fn list_layer(
     output: &mut [u8],
     at: usize,
 ) -> usize
-    requires { ⌜ Right (now coords) (now corners) (now pairing) ⌝ ∗ ⌜ Workable (length (now corners)) (length (now names)) (length (now points)) (length (now ends)) (length (now marks)) ⌝ ∗ ⌜ at + mostLine ≤ length (now output) ⌝ }
-    ensures { λ r. ⌜ PutsLine (now (output .entry)) at (lineOf (now (coords .entry)) (now (corners .entry)) h (contoursOf (section (now (coords .entry)) (now (corners .entry)) (now (pairing .entry)) h))) r (now (output .exit)) ⌝ }
+    requires { ⌜ Right (paired (now coords) (now corners) (now pairing)) ⌝
+        ∗ ⌜ Workable (length (now corners)) (lengthsOf (lent (now names) (now points) (now ends) (now marks))) ⌝
+        ∗ ⌜ at + mostLine ≤ length (now output) ⌝ }
+    ensures { λ r. ⌜ PutsLine (output .entry .now) at
+        (lineAt (paired (coords .entry .now) (corners .entry .now) (pairing .entry .now)) h) r (output .exit .now) ⌝ }
 {
     let s = slice(coords, corners, pairing, h, names, points, ends, marks);
     match s {
@@ -140,8 +143,11 @@ fn list_lines(
     output: &mut [u8],
     at: usize,
 ) -> usize
-    requires { ⌜ Listable (now coords) (now corners) (now pairing) (now heights) ⌝ ∗ ⌜ Workable (length (now corners)) (length (now names)) (length (now points)) (length (now ends)) (length (now marks)) ⌝ ∗ ⌜ Begun (now output) at ⌝ }
-    ensures { λ r. ⌜ Puts (now (output .entry)) at (flatten (map (lineAt (now (coords .entry)) (now (corners .entry))) (heightsTaken (now (coords .entry)) (now (heights .entry))))) r (now (output .exit)) ⌝ }
+    requires { ⌜ Listable (paired (now coords) (now corners) (now pairing)) (now heights) ⌝
+        ∗ ⌜ Workable (length (now corners)) (lengthsOf (lent (now names) (now points) (now ends) (now marks))) ⌝
+        ∗ ⌜ FirstLine (now output) at ⌝ }
+    ensures { λ r. ⌜ Puts (output .entry .now) at
+        (linesOf (paired (coords .entry .now) (corners .entry .now) (pairing .entry .now)) (heights .entry .now)) r (output .exit .now) ⌝ }
 {
     let n = taken_count(coords, heights);
     let low = base_z(coords, heights);
@@ -178,8 +184,11 @@ pub fn list_layers(
     marks: &mut [u32],
     output: &mut [u8],
 ) -> usize
-    requires { ⌜ Listable (now coords) (now corners) (now pairing) (now heights) ⌝ ∗ ⌜ Workable (length (now corners)) (length (now names)) (length (now points)) (length (now ends)) (length (now marks)) ⌝ ∗ ⌜ mostOutput ≤ length (now output) ⌝ }
-    ensures { λ r. ⌜ Puts (now (output .entry)) 0 (listing (now (coords .entry)) (now (corners .entry)) (now (heights .entry))) r (now (output .exit)) ⌝ }
+    requires { ⌜ Listable (paired (now coords) (now corners) (now pairing)) (now heights) ⌝
+        ∗ ⌜ Workable (length (now corners)) (lengthsOf (lent (now names) (now points) (now ends) (now marks))) ⌝
+        ∗ ⌜ mostOutput ≤ length (now output) ⌝ }
+    ensures { λ r. ⌜ Puts (output .entry .now) 0
+        (listing (paired (coords .entry .now) (corners .entry .now) (pairing .entry .now)) (heights .entry .now)) r (output .exit .now) ⌝ }
 {
     let n = taken_count(coords, heights);
     let p = write_layers_line(output, 0, n);

@@ -1,37 +1,47 @@
 -- What `list` answers at its two returns.
-use Prim.Native.Nat.{ℕ, _≤_, _<_}
+use Prim.Native.Nat.{ℕ, _*_, _≤_, _<_}
 use mathlib.Core.Path.{_≡_, refl, sym, ap, _∙_}
-use mathlib.Core.Bool.{Bool, cond}
+use mathlib.Core.Bool.{false}
 use mathlib.Core.List.{List, []}
 use native.Mathlib.Omega.{arith}
+use borrow.Author.Tests.{lt-ltb, le-ltb}
 use lib.ListN.{length}
 use lib.Seq.{sets}
-use borrow.Author.Tests.{lt-ltb, le-ltb}
 use Rattle.laws.specs.Tables.{overwrite}
 use Rattle.laws.specs.TableLaws.{overwrite-none, overwrite-more}
+use Rattle.mesh.specs.Operation.{gives}
+use Rattle.mesh.specs.OperationLaws.{whole-refused, whole-fine, verdict-one, after-fine, after-kept, does-refuse, does-give}
+use Rattle.cutter.specs.Cut.{Lengths}
 use Rattle.decimals.specs.Texts.{Puts}
+use Rattle.lines.specs.Limits.{entries, mostOutput}
 use Rattle.lister.specs.declared.Listed.the-variants.{Length, Short}
-use Rattle.lister.specs.Listing.{listed, answerFor, outputFor, Lists}
-use Rattle.lines.specs.Limits.{mostOutput}
+use Rattle.lister.specs.Listing.{listed, shortList, Lists}
+use Rattle.lister.specs.Steps.{ListTables}
+
+-- tables of these lengths are long enough
+pub zeros-held : {pairing order : ℕ} {l : Lengths} → pairing ≡ entries → order ≡ entries → l .names ≡ entries → l .points ≡ 2 * entries → l .ends ≡ entries
+    → l .marks ≡ entries → ListTables pairing order l
+zeros-held a b c d e f =
+    record {
+      pairing-size = a;
+      order-size = b;
+      long = record { names-long = omega arith; points-long = omega arith; ends-long = omega arith; marks-long = omega arith };
+    }
+
+-- a text at the front of an output
+front : {text output : List ℕ} {n : ℕ} {output′ : List ℕ} → Puts output 0 text n output′ → output′ ≡ overwrite text output
+front {text} {output} v =
+    v .is ∙ ap (λ (l : List ℕ). sets l 0 text) (sym (overwrite-none output))
+    ∙ overwrite-more text [] output 0 refl (omega (arith, v .within, v .ends))
 
 module _ {input output : List ℕ} where
   pub too-short : length output < mostOutput → Lists input output Short output
-  unfolding answerFor outputFor
   too-short h =
-      let e = lt-ltb (length output) mostOutput h in
-      record {
-        answers = ap (λ (b : Bool). cond b Short (Length (length (listed input)))) (sym e);
-        writes = ap (λ (b : Bool). cond b output (overwrite (listed input) output)) (sym e);
-      }
+      does-refuse (whole-refused (λ i. tt) _ (lt-ltb (length output) mostOutput h) ∙ verdict-one (shortList output)) refl refl
+      (after-kept (λ r. false) (listed input) 0 0 output tt refl)
 
   pub written : {n : ℕ} {output′ : List ℕ} → mostOutput ≤ length output → Puts output 0 (listed input) n output′ → Lists input output (Length n) output′
-  unfolding answerFor outputFor
   written {n} h v =
-      let e = le-ltb (length output) mostOutput h in
       let size : n ≡ length (listed input) = omega (arith, v .ends) in
-      let front : sets output 0 (listed input) ≡ overwrite (listed input) output =
-      ap (λ (l : List ℕ). sets l 0 (listed input)) (sym (overwrite-none output)) ∙ overwrite-more (listed input) [] output 0 refl (omega (arith, v .within)) in
-      record {
-        answers = ap Length size ∙ ap (λ (b : Bool). cond b Short (Length (length (listed input)))) (sym e);
-        writes = v .is ∙ front ∙ ap (λ (b : Bool). cond b output (overwrite (listed input) output)) (sym e);
-      }
+      does-give (whole-fine (λ i. tt) _ (le-ltb (length output) mostOutput h) ∙ verdict-one (shortList output)) refl (ap gives size)
+      (front v ∙ after-fine (λ r. false) (listed input) 0 0 output)

@@ -1,4 +1,5 @@
--- None of All layers' refusals is left out of the list: with all of them the listing program would refuse the same inputs, by the same numbers at the same places.
+-- None of All layers' refusals is left out of the list: with all of them the listing program would refuse the same inputs, by the same numbers at the same
+-- places.
 use Prim.Native.Nat.{ℕ, _*_, _≤_}
 use mathlib.Core.Path.{_≡_, refl, sym, ap, _∙_}
 use mathlib.Core.Bool.{true, not, _||_}
@@ -6,56 +7,79 @@ use mathlib.Core.List.{List, [], _∷_, _++_, map}
 use native.Mathlib.Omega.{arith}
 use borrow.Author.Tests.{ltb-false, le-ltb, le-leb, leb-true, not-false}
 use lib.Dec.{ltb}
-use lib.ListN.{length, replicate}
+use lib.ListN.{length, replicate, length-replicate}
+use lib.IntN.{ℤ}
 use Rattle.laws.specs.Booleans.{and-parts, and-of, or-parts}
 use Rattle.mesh.specs.Corners.{vertexCount, triangleCount}
-use Rattle.mesh.specs.Order.{orderOf}
-use Rattle.mesh.specs.Tests.{size, range, vertex, triangle, pairs, ordered}
-use Rattle.mesh.specs.Refusals.{Condition, test, _then_, verdict}
-use Rattle.mesh.specs.RefusalLaws.{None, more, done, none-fine, fine-none, fine-nowhere, verdict-join, join-next}
-use Rattle.mesh.specs.declared.Verdict.{Verdict}
-use Rattle.mesh.specs.declared.Verdict.the-variants.{Fine, Refused}
-use Rattle.pairing.specs.Partners.{pairingOf}
-use Rattle.checker.specs.Check.{roomFor, answer, after, Checks}
+use Rattle.mesh.specs.Meshes.{OrderedMesh, ordered}
+use Rattle.mesh.specs.Operation.{gives, refuses, Finding, fine, Condition, test, _then_, verdict, leftBy}
+use Rattle.mesh.specs.OperationLaws.{None, more, done, Nowhere, none-fine, fine-none, fine-nowhere, then-fine, verdict-join, join-next}
+use Rattle.mesh.specs.OrderTableLaws.{ordered-rank}
+use Rattle.mesh.specs.Refusals.{Told}
+use Rattle.mesh.specs.Tests.{size, range, vertex, triangle, pairs, orders}
+use Rattle.checker.specs.Check.{CheckTables, checkTables, roomFor, tests, edgeTests, checking, Checks}
 use Rattle.checker.specs.CheckLaws.{Promise, promise}
+use Rattle.checker.specs.declared.Checked.the-variants.{Accepted}
 use Rattle.section.specs.Section.{Right}
 use Rattle.section.specs.RightLaws.{right-of}
-use Rattle.cutter.specs.Cut.{room, roomFor as cutRoom}
-use Rattle.sweep.specs.Operations.{ringRoom}
+use Rattle.cutter.specs.Cut.{lengths, roomFor as cutRoom}
 use Rattle.heights.specs.Heights.{heightsTaken, tooManyHeights, fallingHeight}
-use Rattle.heights.specs.HeightLaws.{falling-taken}
-use Rattle.layers.specs.AllLayers.{layersTests, usedAt}
-use Rattle.layers.specs.LayersLaws.{used-nowhere}
+use Rattle.heights.specs.HeightLaws.{falling-taken, nowhere-rising}
+use Rattle.layers.specs.AllLayers.{climbed, workRoomFor, workRoom, layersTests, usedAt}
+use Rattle.layers.specs.ClimbLaws.{used-never}
 use Rattle.formats.specs.LayerFile.{mostLayers}
-use Rattle.formats.specs.PartFile.{Part}
-use Rattle.parts.specs.Parts.{form}
+use Rattle.formats.specs.PartFile.{Part, partOf}
+use Rattle.formats.specs.WholeFiles.{form}
+use Rattle.parts.specs.Parts.{partIn}
 use Rattle.lines.specs.Limits.{heldVertices, heldTriangles, heldHeights, entries}
-use Rattle.lister.specs.Listing.{longInput, beyond, limits, checks, refusalsOf}
+use Rattle.lister.specs.Listing.{partMesh, longInput, beyond, limits, checks, refusalsOf}
 
--- the tables that the check leaves
-abbrev pub checkedPairing : Part → List ℕ
-checkedPairing p = after (verdict (checks p)) (pairingOf (p .corners)) (replicate entries 0)
+-- ---- every refusal
 
-abbrev pub checkedOrder : Part → List ℕ
-checkedOrder p = after (verdict (checks p)) (orderOf (p .coords)) (replicate entries 0)
+-- the tables that the check leaves, of so many zeros
+abbrev pub zeros : List ℕ
+zeros = replicate entries 0
+
+abbrev pub checkedTables : Part → CheckTables
+checkedTables p = leftBy (checking (partMesh p, checkTables zeros zeros))
+
+abbrev pub checkedPart : Part → OrderedMesh
+checkedPart p = ordered (p .coords) (p .corners) (checkedTables p .pairing) (checkedTables p .order)
 
 -- the refusals of All layers but 14, with these tables and work tables of so many entries
-abbrev pub layersBut14 : Part → List Condition
+abbrev pub layersBut14 : Part → List (Condition Told)
 layersBut14 p =
-    layersTests (p .coords) (p .corners) (checkedPairing p) (checkedOrder p) (p .heights) entries (2 * entries) entries entries entries
-    ++ map (usedAt (p .coords) (p .corners) (checkedPairing p)) (heightsTaken (p .coords) (p .heights))
+    layersTests (checkedPart p) (p .heights) (lengths entries (2 * entries) entries entries) entries
+    ++ map usedAt (climbed (checkedPart p) zeros (heightsTaken (p .coords) (p .heights)))
 
 -- "Input size comes first, then 13, these limits, the check, and the refusals of All layers but 14"
-abbrev pub everyRefusal : List ℕ → Part → List Condition
-everyRefusal input p = longInput input ∷ form input ∷ limits p ∷ (checks p ++ layersBut14 p)
+abbrev pub everyRefusal : List ℕ → List (Condition Told)
+everyRefusal input = longInput input ∷ form input (partOf input) ∷ limits (partIn input) ∷ (checks (partIn input) ++ layersBut14 (partIn input))
 
-module _ (p : Part) (l : None (limits p ∷ [])) (c : None (checks p)) where
-  checked : Checks (p .coords) (p .corners) (replicate entries 0) (replicate entries 0) (answer (verdict (checks p))) (checkedPairing p) (checkedOrder p)
-  checked = record { answers = refl; pairs = refl; orders = refl }
+-- ---- two lists that begin alike answer the same if they do so where the beginning refuses nothing
+
+then-same : (f g h : Finding Told) → (f ≡ fine → g ≡ h) → (f then g) ≡ (f then h)
+unfolding _then_
+then-same (gives tt) g h e = e refl
+then-same (refuses r) g h e = refl
+
+-- ---- a part within the limits that Check accepts
+
+module _ (p : Part) (l : Nowhere (limits p)) (c : None (checks p)) where
+  abbrev hs : List ℤ
+  hs = heightsTaken (p .coords) (p .heights)
+
+  sized : length zeros ≡ entries
+  sized = length-replicate {A = ℕ} entries 0
+
+  passes : verdict (checking (partMesh p, checkTables zeros zeros) .refusals) ≡ fine
+  passes = (λ i. verdict (tests (partMesh p) (sized i) (sized i) ++ edgeTests (p .corners))) ∙ none-fine (checks p) c
+
+  checked : Checks (partMesh p) (checkTables zeros zeros) Accepted (checkedTables p)
+  checked = record { answers = then-fine passes; leaves = refl }
 
   promised : Promise checked
-  unfolding answer
-  promised = promise checked (ap answer (none-fine (checks p) c))
+  promised = promise checked refl
 
   sizes : (length (p .corners) ≤ entries) × (vertexCount (p .coords) ≤ entries)
   unfolding roomFor
@@ -66,75 +90,79 @@ module _ (p : Part) (l : None (limits p ∷ [])) (c : None (checks p)) where
           let r = and-parts _ _ (not-false _ (m 0 (omega arith))) in
           (leb-true _ _ (r .0), leb-true _ _ (r .1))
 
-  few : length (heightsTaken (p .coords) (p .heights)) ≤ heldHeights
+  few : length hs ≤ heldHeights
   unfolding beyond
-  few = go l
-    where
-      go : None (limits p ∷ []) → length (heightsTaken (p .coords) (p .heights)) ≤ heldHeights
-      go (more m done) =
-          let a = or-parts (ltb heldVertices (vertexCount (p .coords))) (ltb heldTriangles (triangleCount (p .corners)) || ltb heldHeights (length (heightsTaken (p .coords) (p .heights)))) (m 0 (omega arith)) in
-          ltb-false heldHeights (length (heightsTaken (p .coords) (p .heights))) (or-parts (ltb heldTriangles (triangleCount (p .corners))) (ltb heldHeights (length (heightsTaken (p .coords) (p .heights)))) (a .1) .1)
+  few =
+      let triangles = ltb heldTriangles (triangleCount (p .corners)) in
+      let a = or-parts (ltb heldVertices (vertexCount (p .coords))) (triangles || ltb heldHeights (length hs)) (l 0 (omega arith)) in
+      ltb-false heldHeights (length hs) (or-parts triangles (ltb heldHeights (length hs)) (a .1) .1)
 
-  right : Right (p .coords) (p .corners) (checkedPairing p)
+  paired-right : Nowhere (pairs (p .corners) (checkedTables p .pairing))
+  paired-right = fine-nowhere (pairs (p .corners) (checkedTables p .pairing)) (sym (promised .pairing-fine))
+
+  ordered-right : Nowhere (orders (p .coords) (checkedTables p .order))
+  ordered-right = fine-nowhere (orders (p .coords) (checkedTables p .order)) (sym (promised .order-fine))
+
+  right : Right (checkedPart p .paired)
   right = go c
     where
-      go : None (checks p) → Right (p .coords) (p .corners) (checkedPairing p)
-      go (more s (more m (more x (more y (more z rest))))) =
-          right-of (p .coords) (p .corners) (checkedPairing p) (not-false _ (s 0 (omega arith))) x y z (fine-nowhere (pairs (p .corners) (checkedPairing p)) (sym (promised .pairing-fine)))
+      go : None (checks p) → Right (checkedPart p .paired)
+      go (more s (more m (more x (more y (more z rest))))) = right-of (checkedPart p .paired) (not-false _ (s 0 (omega arith))) x y z paired-right
+
+  -- 16 of heights that rise
+  unused : test (fallingHeight hs) ≡ fine → verdict (map usedAt (climbed (checkedPart p) zeros hs)) ≡ fine
+  unused e =
+      used-never (checkedPart p) zeros right (λ i h. ordered-rank (p .coords) (checkedTables p .order) i (not-false _ (ordered-right i h)) h)
+      (omega (arith, sizes .0, sized)) hs (nowhere-rising hs (fine-nowhere (fallingHeight hs) e))
+
+  room-there : workRoomFor (length (p .corners)) (lengths entries (2 * entries) entries entries) entries ≡ true
+  unfolding workRoomFor cutRoom
+  room-there =
+      let z = sizes .0 in
+      let one = le-leb (length (p .corners)) entries z in
+      and-of (and-of (and-of (and-of one (le-leb (2 * length (p .corners)) (2 * entries) (omega arith))) one) one) one
 
   -- the refusals of All layers before 12
-  abbrev sooner : List Condition
+  abbrev sooner : List (Condition Told)
   sooner =
-      size (p .coords) (p .corners)
+      size (partMesh p)
       ∷ tooManyHeights (p .coords) (p .heights)
-      ∷ room (length (p .corners)) entries (2 * entries) entries entries
-      ∷ ringRoom (p .corners) entries
+      ∷ workRoom (length (p .corners)) (lengths entries (2 * entries) entries entries) entries
       ∷ range (p .coords)
       ∷ vertex (vertexCount (p .coords)) (p .corners)
       ∷ triangle (p .corners)
-      ∷ pairs (p .corners) (checkedPairing p)
-      ∷ ordered (p .coords) (checkedOrder p)
+      ∷ pairs (p .corners) (checkedTables p .pairing)
+      ∷ orders (p .coords) (checkedTables p .order)
       ∷ []
-
-  room-there : cutRoom (length (p .corners)) entries (2 * entries) entries entries ≡ true
-  unfolding cutRoom
-  room-there = let z = sizes .0 in and-of (and-of (and-of (le-leb _ _ z) (le-leb (2 * length (p .corners)) (2 * entries) (omega arith))) (le-leb _ _ z)) (le-leb _ _ z)
 
   none-sooner : None sooner
   none-sooner = go c
     where
       go : None (checks p) → None sooner
       go (more s (more m (more x (more y (more z rest))))) =
-          more s
-          (more (λ i h. le-ltb mostLayers (length (heightsTaken (p .coords) (p .heights))) (omega (arith, few)))
-          (more (λ i h. ap not room-there)
-          (more (λ i h. le-ltb _ _ (sizes .0))
-          (more x
-          (more y
-          (more z
-          (more (fine-nowhere (pairs (p .corners) (checkedPairing p)) (sym (promised .pairing-fine)))
-          (more (fine-nowhere (ordered (p .coords) (checkedOrder p)) (sym (promised .order-fine))) done))))))))
+          more s (more (λ i h. le-ltb mostLayers (length hs) (omega (arith, few)))
+          (more (λ i h. ap not room-there) (more x (more y (more z (more paired-right (more ordered-right done)))))))
 
   only-12 : verdict (fallingHeight (p .heights) ∷ []) ≡ verdict (layersBut14 p)
   unfolding verdict
   only-12 =
-      join-next sooner (fallingHeight (heightsTaken (p .coords) (p .heights)) ∷ map (usedAt (p .coords) (p .corners) (checkedPairing p)) (heightsTaken (p .coords) (p .heights))) (sym (none-fine sooner none-sooner)) refl
-      (ap (λ (v : Verdict). v then Fine) (sym (falling-taken (p .coords) (p .heights))) ∙ ap (λ (v : Verdict). test (fallingHeight (heightsTaken (p .coords) (p .heights))) then v) (used-nowhere (p .coords) (p .corners) (checkedPairing p) right (heightsTaken (p .coords) (p .heights))))
+      ap (λ (f : Finding Told). f then fine) (sym (falling-taken (p .coords) (p .heights)))
+      ∙ then-same (test (fallingHeight hs)) fine _ (λ e. sym (unused e))
+      ∙ join-next sooner (fallingHeight hs ∷ map usedAt (climbed (checkedPart p) zeros hs)) (sym (none-fine sooner none-sooner)) refl refl
 
--- a list that goes on in two ways answers the same if the two do where it refuses nothing
-then-same : (v w u : Verdict) → (v ≡ Fine → w ≡ u) → (v then w) ≡ (v then u)
-unfolding _then_
-then-same Fine w u e = e refl
-then-same (Refused r) w u e = refl
+module _ (input : List ℕ) where
+  abbrev its : Part
+  its = partIn input
 
-pub none-left-out : (input : List ℕ) (p : Part) → verdict (refusalsOf input p) ≡ verdict (everyRefusal input p)
-none-left-out input p =
-    verdict-join before (fallingHeight (p .heights) ∷ [])
-    ∙ then-same (verdict before) (verdict (fallingHeight (p .heights) ∷ [])) (verdict (layersBut14 p)) (λ e. go (fine-none before e))
-    ∙ sym (verdict-join before (layersBut14 p))
-  where
-    before : List Condition
-    before = longInput input ∷ form input ∷ limits p ∷ checks p
+  -- the refusals before those of All layers
+  abbrev before : List (Condition Told)
+  before = longInput input ∷ form input (partOf input) ∷ limits its ∷ checks its
 
-    go : None (longInput input ∷ form input ∷ limits p ∷ checks p) → verdict (fallingHeight (p .heights) ∷ []) ≡ verdict (layersBut14 p)
-    go (more a (more b (more l c))) = only-12 p (more l done) c
+  rest-same : None before → verdict (fallingHeight (its .heights) ∷ []) ≡ verdict (layersBut14 its)
+  rest-same (more a (more b (more l c))) = only-12 its l c
+
+  pub none-left-out : verdict (refusalsOf input) ≡ verdict (everyRefusal input)
+  none-left-out =
+      verdict-join before (fallingHeight (its .heights) ∷ [])
+      ∙ then-same (verdict before) (verdict (fallingHeight (its .heights) ∷ [])) (verdict (layersBut14 its)) (λ e. rest-same (fine-none before e))
+      ∙ sym (verdict-join before (layersBut14 its))

@@ -1,68 +1,91 @@
--- The listing program of document 01: its refusals in order, and what it writes for every input.
+-- The listing program of document 01: its refusals in order and what it writes for every input, and the function that writes it into an output.
 use Prim.Native.Nat.{ℕ}
-use mathlib.Core.Path.{_≡_}
-use mathlib.Core.Bool.{Bool, cond, _||_}
+use mathlib.Core.Bool.{Bool, false, _||_}
 use mathlib.Core.List.{List, [], _∷_, _++_}
 use lib.Dec.{ltb}
-use lib.ListN.{length, replicate}
-use Rattle.laws.specs.Tables.{overwrite}
+use lib.ListN.{length}
 use Rattle.mesh.specs.Corners.{vertexCount, triangleCount}
-use Rattle.mesh.specs.Refusals.{Condition, whole, verdict}
-use Rattle.mesh.specs.declared.Refusal.the-variants.{Size}
-use Rattle.mesh.specs.declared.Verdict.{Verdict}
-use Rattle.mesh.specs.declared.Verdict.the-variants.{Fine, Refused}
-use Rattle.checker.specs.Check.{refusals}
+use Rattle.mesh.specs.Meshes.{Mesh, mesh, PairedMesh, paired}
+use Rattle.mesh.specs.Operation.{Answer, gives, refuses, Condition, whole, after, Operation, answerOf, Does}
+use Rattle.mesh.specs.Refusals.{Told, refusal}
+use Rattle.pairing.specs.Partners.{pairingOf}
+use Rattle.checker.specs.Check.{tests, edgeTests}
 use Rattle.formats.specs.PartFile.{Part, partOf}
-use Rattle.parts.specs.Parts.{form, held}
+use Rattle.formats.specs.WholeFiles.{form}
+use Rattle.parts.specs.Parts.{partIn}
 use Rattle.heights.specs.Heights.{heightsTaken, fallingHeight}
-use Rattle.lister.specs.declared.Listed.{Listed}
-use Rattle.lister.specs.declared.Listed.the-variants.{Length, Short}
 use Rattle.lines.specs.Limits.{heldVertices, heldTriangles, heldHeights, mostInput, entries, mostOutput}
 use Rattle.lines.specs.Lines.{refusedLine, listing}
+use Rattle.lister.specs.declared.Listed.{Listed}
+use Rattle.lister.specs.declared.Listed.the-variants.{Length, Short}
+
+-- ---- the mesh of a part, and with the pairing that Check leaves
+
+abbrev pub partMesh : Part → Mesh
+partMesh p = mesh (p .coords) (p .corners)
+
+abbrev pub pairedPart : Part → PairedMesh
+pairedPart p = paired (p .coords) (p .corners) (pairingOf (p .corners))
 
 -- ---- its refusals in order: "Input size comes first, then 13, these limits, the check, and the refusals of All layers but 14"
 
-abbrev pub longInput : List ℕ → Condition
-longInput input = whole Size (ltb mostInput (length input))
+-- 1: past 8,192 bytes of input, place 0
+abbrev pub longInput : List ℕ → Condition Told
+longInput input = whole (refusal 1) (ltb mostInput (length input))
 
--- beyond what it holds; "default ones counted"
+-- 1: a part beyond what it holds, "default ones counted", place 0
 unfoldable pub beyond : Part → Bool
 beyond p =
     ltb heldVertices (vertexCount (p .coords))
     || (ltb heldTriangles (triangleCount (p .corners))
     || ltb heldHeights (length (heightsTaken (p .coords) (p .heights))))
 
-abbrev pub limits : Part → Condition
-limits p = whole Size (beyond p)
+abbrev pub limits : Part → Condition Told
+limits p = whole (refusal 1) (beyond p)
 
--- the check, into tables of so many zeros
-abbrev pub checks : Part → List Condition
-checks p = refusals (p .coords) (p .corners) (replicate entries 0) (replicate entries 0)
+-- the check, into two tables of so many entries
+abbrev pub checks : Part → List (Condition Told)
+checks p = tests (partMesh p) entries entries ++ edgeTests (p .corners)
 
--- of the refusals of All layers 12 is left: the limits rule out 1, the tables 9, and a mesh that Check accepts 2, 3, 4, 7, 8 and 16 (`none-left-out`, EveryLaws)
-abbrev pub refusalsOf : List ℕ → Part → List Condition
-refusalsOf input p = longInput input ∷ form input ∷ limits p ∷ (checks p ++ (fallingHeight (p .heights) ∷ []))
+-- of the refusals of All layers 12 is left: the limits rule out 1, the tables 9, and a mesh that Check accepts 2, 3, 4, 7, 8 and 16 (EveryLaws)
+abbrev pub partRefusals : Part → List (Condition Told)
+partRefusals p = limits p ∷ (checks p ++ (fallingHeight (p .heights) ∷ []))
 
--- ---- what is written: the listing, or on refusal only its line
+abbrev pub refusalsOf : List ℕ → List (Condition Told)
+refusalsOf input = longInput input ∷ form input (partOf input) ∷ partRefusals (partIn input)
 
-unfoldable pub answer : Verdict → Part → List ℕ
-answer Fine p = listing (p .coords) (p .corners) (p .heights)
-answer (Refused r) p = refusedLine r
+-- ---- what it writes
+
+-- it gives the listing of the input's part, and is lent no table
+abbrev pub program : List ℕ → Operation Told (List ℕ) Unit
+program input = record { refusals = refusalsOf input; values = listing (pairedPart (partIn input)) (partIn input .heights); leaves = λ f. tt }
+
+-- the bytes of an answer: the listing, or "on refusal only the line"
+abbrev pub bytesOf : Answer Told (List ℕ) → List ℕ
+bytesOf (gives text) = text
+bytesOf (refuses r) = refusedLine r
 
 -- the program's output for an input
 unfoldable pub listed : List ℕ → List ℕ
-listed input = answer (verdict (refusalsOf input (held (partOf input)))) (held (partOf input))
+listed input = bytesOf (answerOf (program input))
 
--- ---- the function: a shorter output stays as it is
+-- ---- the function, which has one refusal, without a number: the output is shorter than every listing may need
 
-unfoldable pub answerFor : List ℕ → List ℕ → Listed
-answerFor input output = cond (ltb (length output) mostOutput) Short (Length (length (listed input)))
+abbrev pub shortList : List ℕ → Condition Unit
+shortList output = whole (λ i. tt) (ltb (length output) mostOutput)
 
--- else the output starts with what is written, and the rest of it stays
-unfoldable pub outputFor : List ℕ → List ℕ → List ℕ
-outputFor input output = cond (ltb (length output) mostOutput) output (overwrite (listed input) output)
+-- it gives the length of what is written, which stands at the output's front; the rest stays, and all of an output that is too short
+abbrev pub listingInto : List ℕ × List ℕ → Operation Unit ℕ (List ℕ)
+listingInto = λ (input, output). record {
+  refusals = shortList output ∷ [];
+  values = length (listed input);
+  leaves = λ f. after (λ r. false) f (listed input) 0 0 output;
+}
 
--- the function as a whole: its answer and the output at exit
-pub record Lists (input output : List ℕ) (result : Listed) (output′ : List ℕ) : Type 0 where
-  pub answers : result ≡ answerFor input output
-  pub writes : output′ ≡ outputFor input output
+-- what its answer says
+abbrev pub tellListed : Listed → Answer Unit ℕ
+tellListed (Length n) = gives n
+tellListed Short = refuses tt
+
+abbrev pub Lists : List ℕ → List ℕ → Listed → List ℕ → Type 0
+Lists input output result output′ = Does listingInto tellListed (input, output) result output′

@@ -1,14 +1,15 @@
-// Internal: the refusals of an input and its part, and the program with its tables lent.
+// The refusals of an input and its part, and the program with its tables lent.
 ghost use mathlib.Core.Path.{_≡_};
 ghost use Prim.Native.Nat.{_≤_};
 ghost use lib.ListN.{length};
-ghost use Rattle.mesh.specs.Refusals.{verdict};
+ghost use Rattle.mesh.specs.Refusals.{toldOf, tellVerdict};
+ghost use Rattle.cutter.specs.Cut.{lent, lengthsOf};
 ghost use Rattle.decimals.specs.Texts.{Puts};
-ghost use Rattle.lines.specs.Lines.{listing};
-ghost use Rattle.lister.specs.Listing.{answer, listed};
+ghost use Rattle.parts.specs.Parts.{part, partSizesOf};
 ghost use Rattle.lines.specs.Limits.{mostOutput, entries};
+ghost use Rattle.lister.specs.Listing.{listed};
 ghost use Rattle.lister.specs.Listing.{beyond as Listing·beyond};
-ghost use Rattle.lister.specs.Steps.{partWith, partRefusals, Tabled, PartTested, Takes};
+ghost use Rattle.lister.specs.Steps.{heldSizes, ListTables, PartTested, partListed, Takes};
 ghost use Rattle.lister.specs.Steps.{limited as Steps·limited};
 use answers::number;
 use checker::Checked;
@@ -39,7 +40,7 @@ pub enum Taken {
 
 // Whether a part is beyond what the program holds.
 fn beyond(coords: &[i32], corners: &[u32], heights: &[i32]) -> bool
-    ensures { λ r. ⌜ r ≡ Listing·beyond (partWith (now (coords .entry)) (now (corners .entry)) (now (heights .entry))) ⌝ }
+    ensures { λ r. ⌜ r ≡ Listing·beyond (part (coords .entry .now) (corners .entry .now) (heights .entry .now)) ⌝ }
 {
     if HELD_VERTICES < coords.len() / 3 {
         return true;
@@ -59,7 +60,8 @@ fn part_test(
     order: &mut [u32],
 ) -> Verdict
     requires { ⌜ (length (now pairing) ≡ entries) × (length (now order) ≡ entries) ⌝ }
-    ensures { λ r. ⌜ PartTested (partWith (now (coords .entry)) (now (corners .entry)) (now (heights .entry))) (now (pairing .entry)) r (now (pairing .exit)) ⌝ }
+    ensures { λ r. ⌜ PartTested (part (coords .entry .now) (corners .entry .now) (heights .entry .now))
+        (pairing .entry .now) (tellVerdict r) (pairing .exit .now) ⌝ }
 {
     if beyond(coords, corners, heights) {
         return Verdict::Refused(Refusal::Size(0));
@@ -84,8 +86,10 @@ fn list_part(
     marks: &mut [u32],
     output: &mut [u8],
 ) -> usize
-    requires { ⌜ Tabled (length (now pairing)) (length (now order)) (length (now names)) (length (now points)) (length (now ends)) (length (now marks)) ⌝ ∗ ⌜ mostOutput ≤ length (now output) ⌝ }
-    ensures { λ r. ⌜ Puts (now (output .entry)) 0 (answer (verdict (partRefusals (partWith (now (coords .entry)) (now (corners .entry)) (now (heights .entry))))) (partWith (now (coords .entry)) (now (corners .entry)) (now (heights .entry)))) r (now (output .exit)) ⌝ }
+    requires { ⌜ ListTables (length (now pairing)) (length (now order)) (lengthsOf (lent (now names) (now points) (now ends) (now marks))) ⌝
+        ∗ ⌜ mostOutput ≤ length (now output) ⌝ }
+    ensures { λ r. ⌜ Puts (output .entry .now) 0
+        (partListed (part (coords .entry .now) (corners .entry .now) (heights .entry .now))) r (output .exit .now) ⌝ }
 {
     let v = part_test(coords, corners, heights, pairing, order);
     match v {
@@ -109,7 +113,7 @@ fn list_part(
 
 // The refusal of a part that Read part refuses.
 fn limited(r: Refusal) -> Refusal
-    ensures { λ q. ⌜ q ≡ Steps·limited r ⌝ }
+    ensures { λ q. ⌜ toldOf q ≡ Steps·limited (toldOf r) ⌝ }
 {
     if number(r) == 9 {
         return Refusal::Size(0);
@@ -119,8 +123,8 @@ fn limited(r: Refusal) -> Refusal
 
 // Reads a part into the front of three tables.
 fn take_part(input: &[u8], coords: &mut [i32], corners: &mut [u32], heights: &mut [i32]) -> Taken
-    requires { ⌜ (length (now coords) ≡ entries) × (length (now corners) ≡ entries) × (length (now heights) ≡ entries) ⌝ }
-    ensures { λ r. ⌜ Takes (now (input .entry)) r (now (coords .exit)) (now (corners .exit)) (now (heights .exit)) ⌝ }
+    requires { ⌜ partSizesOf (part (now coords) (now corners) (now heights)) ≡ heldSizes ⌝ }
+    ensures { λ r. ⌜ Takes (input .entry .now) r (part (coords .exit .now) (corners .exit .now) (heights .exit .now)) ⌝ }
 {
     if MOST_INPUT < input.len() {
         return Taken::Refused(Refusal::Size(0));
@@ -146,8 +150,10 @@ pub fn list_with(
     marks: &mut [u32],
     output: &mut [u8],
 ) -> usize
-    requires { ⌜ (length (now coords) ≡ entries) × (length (now corners) ≡ entries) × (length (now heights) ≡ entries) ⌝ ∗ ⌜ Tabled (length (now pairing)) (length (now order)) (length (now names)) (length (now points)) (length (now ends)) (length (now marks)) ⌝ ∗ ⌜ mostOutput ≤ length (now output) ⌝ }
-    ensures { λ r. ⌜ Puts (now (output .entry)) 0 (listed (now (input .entry))) r (now (output .exit)) ⌝ }
+    requires { ⌜ partSizesOf (part (now coords) (now corners) (now heights)) ≡ heldSizes ⌝
+        ∗ ⌜ ListTables (length (now pairing)) (length (now order)) (lengthsOf (lent (now names) (now points) (now ends) (now marks))) ⌝
+        ∗ ⌜ mostOutput ≤ length (now output) ⌝ }
+    ensures { λ r. ⌜ Puts (output .entry .now) 0 (listed (input .entry .now)) r (output .exit .now) ⌝ }
 {
     let a = take_part(input, coords, corners, heights);
     match a {

@@ -15,7 +15,7 @@ pub enum Listed {
 
 // Writes the listing of a part file, or the line of its refusal, into the front of an output.
 pub fn list(input: &[u8], output: &mut [u8]) -> Listed
-    ensures { λ r. ⌜ Lists (now (input .entry)) (now (output .entry)) r (now (output .exit)) ⌝ }
+    ensures { λ r. ⌜ Lists (input .entry .now) (output .entry .now) r (output .exit .now) ⌝ }
 {
     if output.len() < MOST_OUTPUT {
         return Listed::Short;

@@ -15,7 +15,7 @@ enum Input {
 // One read into a buffer from a position on: the position after what came.
 fn read_on(buffer: &mut [u8], done: usize) -> Input
     requires { ⌜ done ≤ length (now buffer) ⌝ }
-    ensures { λ r. ⌜ Within done (length (now (buffer .exit))) r ⌝ }
+    ensures { λ r. ⌜ Within done (length (buffer .exit .now)) r ⌝ }
 {
     let got = libc::read(STDIN_FILENO, &mut buffer[done..]);
     if got < 0 {
@@ -27,7 +27,7 @@ fn read_on(buffer: &mut [u8], done: usize) -> Input
 
 // Reads until the buffer is full or the input ends.
 fn read_input(buffer: &mut [u8]) -> Input
-    ensures { λ r. ⌜ Within 0 (length (now (buffer .exit))) r ⌝ }
+    ensures { λ r. ⌜ Within 0 (length (buffer .exit .now)) r ⌝ }
 {
     let mut done: usize = 0;
     while done < buffer.len() {

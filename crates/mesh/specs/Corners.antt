@@ -33,14 +33,14 @@ triangleOf c = c / 3
 abbrev pub nextCorner : ℕ → ℕ
 nextCorner c = 3 * (c / 3) + (c + 1) % 3
 
--- corner c stands for the directed edge from startOf to endOf
+-- corner c stands for the directed edge from startOf to endOf. Both are asked of corners of whole triangles only: 1 comes before all that asks them
 abbrev pub startOf : List ℕ → ℕ → ℕ
 startOf corners c = getD corners c 0
 
 abbrev pub endOf : List ℕ → ℕ → ℕ
 endOf corners c = getD corners (nextCorner c) 0
 
--- coordinate 0, 1 or 2 of vertex v: its x, y or z
+-- coordinate 0, 1 or 2 of vertex v: its x, y or z. It is asked of vertices only: 3 and 8 come before it, and the order and the heights count vertices
 abbrev pub coordOf : List ℤ → ℕ → ℕ → ℤ
 coordOf coords axis v = getD coords (3 * v + axis) (pos 0)
 

@@ -11,9 +11,9 @@ use lib.ListN.{length, getD}
 use lib.IntN.{ℤ}
 use Rattle.laws.specs.Booleans.{and-parts, and-of}
 use Rattle.mesh.specs.Corners.{vertexCount}
-use Rattle.mesh.specs.Order.{before, place, orderUpTo, orderOf}
+use Rattle.mesh.specs.Order.{before, place, orderUpTo, orderOf, rank, Ranked}
 use Rattle.mesh.specs.Tests.{orderedAt}
-use Rattle.mesh.specs.RankLaws.{rank, before-total, rank-inj, rank-below}
+use Rattle.mesh.specs.RankLaws.{before-total, rank-inj, rank-below}
 use Rattle.mesh.specs.RisingLaws.{rank-full}
 
 module _ (coords : List ℤ) where
@@ -45,7 +45,8 @@ module _ (coords : List ℤ) where
       place-all [] h (suc i) l = absurd (not-suc-le-zero l)
       place-all (u ∷ us) h i l = by (before coords v u) i l (place-all us (λ j k. h (suc j) (omega arith)))
         where
-          by : (b : Bool) (i : ℕ) → i ≤ suc (length us) → ((j : ℕ) → j ≤ length us → P (getD (place coords v us) j 0)) → P (getD (cond b (v ∷ u ∷ us) (u ∷ place coords v us)) i 0)
+          by : (b : Bool) (i : ℕ) → i ≤ suc (length us) → ((j : ℕ) → j ≤ length us → P (getD (place coords v us) j 0))
+              → P (getD (cond b (v ∷ u ∷ us) (u ∷ place coords v us)) i 0)
           by true zero l rest = p
           by true (suc i) l rest = h i l
           by false zero l rest = h 0 (omega arith)
@@ -113,12 +114,6 @@ module _ (coords : List ℤ) where
       rank-inj coords (getD (orderOf coords) (rank coords v) 0) v (order-vertex (rank coords v) h) l (order-rank (rank coords v) h)
 
 -- ---- a table that is right at a place
-
--- entry i is there, and is the vertex of rank i
-pub record Ranked (coords : List ℤ) (order : List ℕ) (i : ℕ) : Type 0 where
-  pub there : i < length order
-  pub vertex : getD order i 0 < vertexCount coords
-  pub rankIs : rank coords (getD order i 0) ≡ i
 
 module _ (coords : List ℤ) (order : List ℕ) (i : ℕ) where
   pub ordered-rank : orderedAt coords order i ≡ true → i < vertexCount coords → Ranked coords order i

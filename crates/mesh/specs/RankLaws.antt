@@ -16,10 +16,7 @@ use Rattle.laws.specs.CountLaws.{count-lt, count-bound}
 use Rattle.laws.specs.Integers.{up, dn, le-in, lt-in, lt-out}
 use Rattle.mesh.specs.Corners.{vertexCount, zOf}
 use Rattle.mesh.specs.Order.{before}
-
--- how many vertices stand before v
-abbrev pub rank : List ℤ → ℕ → ℕ
-rank coords v = count (vertexCount coords) (λ u. before coords u v)
+pub use Rattle.mesh.specs.Order.{rank}
 
 -- a comparison of integers as one of naturals
 
@@ -52,7 +49,8 @@ module _ (coords : List ℤ) where
       by : (a b : Bool) → ltZ (zOf coords u) (zOf coords v) ≡ a → ltZ (zOf coords v) (zOf coords u) ≡ b → (a || (not b && ltb u v)) ≡ true → Earlier u v
       by true b p q e = lower (lower-sum (zOf coords u) (zOf coords v) p)
       by false true p q e = absurd (clash e refl)
-      by false false p q e = level (omega (arith, not-lower-sum (zOf coords u) (zOf coords v) p, not-lower-sum (zOf coords v) (zOf coords u) q)) (ltb-true u v e)
+      by false false p q e =
+          level (omega (arith, not-lower-sum (zOf coords u) (zOf coords v) p, not-lower-sum (zOf coords v) (zOf coords u) q)) (ltb-true u v e)
 
   before-of : (u v : ℕ) → Earlier u v → before coords u v ≡ true
   unfolding before

@@ -1,14 +1,30 @@
--- Refusals: document 01's number and place of each, and the one way in which a list of them is tested, "the first that fits, at the least place".
+-- Refusals as document 01 tells them, by number and place, and what an enum's cases tell.
 use Prim.Native.Nat.{ℕ}
-use mathlib.Core.Bool.{Bool, cond}
+use mathlib.Core.Bool.{Bool, false, _||_}
 use mathlib.Core.List.{List, [], _∷_}
-use Rattle.laws.specs.Least.{least, some}
+use lib.Dec.{eqb}
+use Rattle.mesh.specs.Operation.{Answer, gives, refuses}
 use Rattle.mesh.specs.declared.Refusal.{Refusal}
-use Rattle.mesh.specs.declared.Refusal.the-variants.{Size, Range, Vertex, Triangle, Doubled, Open, Pairing, Order, Room, Passed, Ring, Height, File, Output, Layer, Used}
+use Rattle.mesh.specs.declared.Refusal.the-variants.{Size, Range, Vertex, Triangle, Doubled, Open, Pairing, Order, Room, Passed, Ring, Height, File}
+use Rattle.mesh.specs.declared.Refusal.the-variants.{Output, Layer, Used}
 use Rattle.mesh.specs.declared.Verdict.{Verdict}
 use Rattle.mesh.specs.declared.Verdict.the-variants.{Fine, Refused}
 
--- document 01's number
+-- document 01's number and place
+pub record Told : Type 0 where
+  pub number : ℕ
+  pub place : ℕ
+
+abbrev pub refusal : ℕ → ℕ → Told
+refusal number place = record { number = number; place = place }
+
+-- one of these numbers
+abbrev pub numbered : List ℕ → Told → Bool
+numbered [] r = false
+numbered (n ∷ ns) r = eqb (r .number) n || numbered ns r
+
+-- ---- the enums
+
 abbrev pub numberOf : Refusal → ℕ
 numberOf (Size p) = 1
 numberOf (Range p) = 2
@@ -27,7 +43,6 @@ numberOf (Output p) = 14
 numberOf (Layer p) = 15
 numberOf (Used p) = 16
 
--- document 01's place
 abbrev pub placeOf : Refusal → ℕ
 placeOf (Size p) = p
 placeOf (Range p) = p
@@ -46,27 +61,16 @@ placeOf (Output p) = p
 placeOf (Layer p) = p
 placeOf (Used p) = p
 
--- one entry of a list of refusals: what is answered at a place, how many places there are, and which of them fit
-pub record Condition : Type 0 where
-  pub refusal : ℕ → Refusal
-  pub places : ℕ
-  pub fits : ℕ → Bool
+abbrev pub toldOf : Refusal → Told
+toldOf r = refusal (numberOf r) (placeOf r)
 
--- a condition on the call as a whole, whose place is 0
-abbrev pub whole : (ℕ → Refusal) → Bool → Condition
-whole r fits = record { refusal = r; places = 1; fits = λ i. fits }
+-- what tests answer
+abbrev pub tellVerdict : Verdict → Answer Told Unit
+tellVerdict Fine = gives tt
+tellVerdict (Refused r) = refuses (toldOf r)
 
--- the least place that fits one condition
-unfoldable pub test : Condition → Verdict
-test k = cond (some (k .places) (k .fits)) (Refused (k .refusal (least (k .places) (k .fits)))) Fine
+-- ---- an answer's number: 0 for a result
 
--- the first verdict that is a refusal
-unfoldable pub _then_ : Verdict → Verdict → Verdict
-_then_ Fine w = w
-_then_ (Refused r) w = Refused r
-
-infixr 20 _then_
--- the first condition that fits, at its least place
-unfoldable pub verdict : List Condition → Verdict
-verdict [] = Fine
-verdict (k ∷ ks) = test k then verdict ks
+abbrev pub numberIn : {G : Type 0} → Answer Told G → ℕ
+numberIn (gives v) = 0
+numberIn (refuses r) = r .number

@@ -7,15 +7,10 @@ use native.Mathlib.Omega.{arith}
 use lib.ListN.{getD}
 use lib.IntN.{ℤ}
 use Rattle.mesh.specs.Corners.{vertexCount}
-use Rattle.mesh.specs.RankLaws.{rank, before-rank, rank-below}
-use Rattle.mesh.specs.Order.{before}
+use Rattle.mesh.specs.Order.{before, rank, RisingPrefix}
+use Rattle.mesh.specs.RankLaws.{before-rank, rank-below}
 
--- the first m entries are vertices, each before the next
-pub record Rising (coords : List ℤ) (order : List ℕ) (m : ℕ) : Type 0 where
-  pub vertex : (i : ℕ) → i < m → getD order i 0 < vertexCount coords
-  pub rises : (i : ℕ) → suc i < m → before coords (getD order i 0) (getD order (suc i) 0) ≡ true
-
-module _ (coords : List ℤ) (order : List ℕ) (m : ℕ) (prefix : Rising coords order m) where
+module _ (coords : List ℤ) (order : List ℕ) (m : ℕ) (prefix : RisingPrefix coords order m) where
   -- the rank of entry i
   abbrev rankAt : ℕ → ℕ
   rankAt i = rank coords (getD order i 0)

@@ -16,6 +16,7 @@ use Rattle.laws.specs.Integers.{up, dn, abs-is, one-zero, le-in, lt-in, lt-out}
 use Rattle.laws.specs.Machine.{same}
 use Rattle.mesh.specs.Corners.{mostVertices, mostTriangles, largest, vertexCount, triangleCount, nextCorner, startOf, endOf}
 use Rattle.mesh.specs.Tests.{sizesFit, Whole, outOfRange, namesNone, namesTwice, pairOf, reverse, pairedAt, unpaired}
+pub use Rattle.mesh.specs.Tests.{Paired}
 
 -- ---- 1
 
@@ -155,19 +156,12 @@ module _ (corners : List ℕ) (c d : ℕ) where
   unfolding reverse
   reverse-no i e h = let g = ne-eqb (startOf corners d) (endOf corners c) (λ q. h (q ∙ ap (λ (k : ℕ). getD corners k 0) (sym e))) in simp g
 
-  pub reverse-as : (i j : ℕ) → i ≡ nextCorner c → j ≡ nextCorner d → getD corners d 0 ≡ getD corners i 0 → eqb (getD corners j 0) (getD corners c 0) ≡ reverse corners c d
+  pub reverse-as : (i j : ℕ) → i ≡ nextCorner c → j ≡ nextCorner d → getD corners d 0 ≡ getD corners i 0
+      → eqb (getD corners j 0) (getD corners c 0) ≡ reverse corners c d
   unfolding reverse
   reverse-as i j e f h =
       let g = eq-eqb (startOf corners d) (endOf corners c) (h ∙ ap (λ (k : ℕ). getD corners k 0) e) in
       rw g (ap (λ (k : ℕ). eqb (getD corners k 0) (getD corners c 0)) f)
-
--- corner c is paired rightly
-pub record Paired (corners pairing : List ℕ) (c : ℕ) : Type 0 where
-  pub there : c < length pairing
-  pub corner : pairOf pairing c < length corners
-  pub turned : reverse corners c (pairOf pairing c) ≡ true
-  pub back-there : pairOf pairing c < length pairing
-  pub back : pairOf pairing (pairOf pairing c) ≡ c
 
 module _ (corners pairing : List ℕ) (c : ℕ) where
   pub paired-of : pairedAt corners pairing c ≡ true → Paired corners pairing c

@@ -1,23 +1,24 @@
 -- The refusals that several operations share: 1, 2, 3, 4, 7 and 8 of document 01.
-use Prim.Native.Nat.{ℕ, _+_, _*_, _/_, _%_, _≤_}
+use Prim.Native.Nat.{ℕ, _+_, _*_, _/_, _%_, _≤_, _<_}
 use mathlib.Core.Path.{_≡_}
-use mathlib.Core.Bool.{Bool, not, _&&_, _||_}
+use mathlib.Core.Bool.{Bool, true, not, _&&_, _||_}
 use mathlib.Core.List.{List, [], _∷_}
 use lib.Dec.{ltb, leb, eqb}
 use lib.ListN.{length, getD}
 use lib.IntN.{ℤ, pos, natAbs}
 use Rattle.mesh.specs.Corners.{mostVertices, mostTriangles, largest, vertexCount, triangleCount, nextCorner, startOf, endOf}
 use Rattle.mesh.specs.Order.{orderOf}
-use Rattle.mesh.specs.Refusals.{Condition, whole}
-use Rattle.mesh.specs.declared.Refusal.the-variants.{Size, Range, Vertex, Triangle, Pairing, Order}
+use Rattle.mesh.specs.Meshes.{Mesh, PairedMesh}
+use Rattle.mesh.specs.Operation.{Condition, whole}
+use Rattle.mesh.specs.Refusals.{Told, refusal}
 
 -- ---- 1: a table length not a multiple of three or a count above its limit, place 0
 
 unfoldable pub sizesFit : ℕ → ℕ → Bool
 sizesFit coords corners = eqb (coords % 3) 0 && eqb (corners % 3) 0 && leb (coords / 3) mostVertices && leb (corners / 3) mostTriangles
 
-abbrev pub size : List ℤ → List ℕ → Condition
-size coords corners = whole Size (not (sizesFit (length coords) (length corners)))
+abbrev pub size : Mesh → Condition Told
+size m = whole (refusal 1) (not (sizesFit (length (m .coords)) (length (m .corners))))
 
 -- what 1 establishes of a table of n corners
 pub record Whole (n : ℕ) : Type 0 where
@@ -29,16 +30,16 @@ pub record Whole (n : ℕ) : Type 0 where
 unfoldable pub outOfRange : List ℤ → ℕ → Bool
 outOfRange coords i = ltb largest (natAbs (getD coords i (pos 0)))
 
-abbrev pub range : List ℤ → Condition
-range coords = record { refusal = Range; places = length coords; fits = outOfRange coords }
+abbrev pub range : List ℤ → Condition Told
+range coords = record { tells = refusal 2; places = length coords; fits = outOfRange coords }
 
 -- ---- 3: a corner naming no vertex
 
 unfoldable pub namesNone : ℕ → List ℕ → ℕ → Bool
 namesNone vertices corners c = leb vertices (getD corners c 0)
 
-abbrev pub vertex : ℕ → List ℕ → Condition
-vertex vertices corners = record { refusal = Vertex; places = length corners; fits = namesNone vertices corners }
+abbrev pub vertex : ℕ → List ℕ → Condition Told
+vertex vertices corners = record { tells = refusal 3; places = length corners; fits = namesNone vertices corners }
 
 -- ---- 4: a triangle naming a vertex twice, its first corner
 
@@ -48,11 +49,12 @@ namesTwice corners t =
     || (eqb (getD corners (3 * t + 1) 0) (getD corners (3 * t + 2) 0)
     || eqb (getD corners (3 * t + 2) 0) (getD corners (3 * t) 0))
 
-abbrev pub triangle : List ℕ → Condition
-triangle corners = record { refusal = λ t. Triangle (3 * t); places = triangleCount corners; fits = namesTwice corners }
+abbrev pub triangle : List ℕ → Condition Told
+triangle corners = record { tells = λ t. refusal 4 (3 * t); places = triangleCount corners; fits = namesTwice corners }
 
 -- ---- 7: the least corner whose entry is missing, is no corner, lacks the reverse edge or is not paired back
 
+-- the entry of corner c; that it is there is tested first
 abbrev pub pairOf : List ℕ → ℕ → ℕ
 pairOf pairing c = getD pairing c 0
 
@@ -71,8 +73,16 @@ pairedAt corners pairing c =
 abbrev pub unpaired : List ℕ → List ℕ → ℕ → Bool
 unpaired corners pairing c = not (pairedAt corners pairing c)
 
-abbrev pub pairs : List ℕ → List ℕ → Condition
-pairs corners pairing = record { refusal = Pairing; places = length corners; fits = unpaired corners pairing }
+abbrev pub pairs : List ℕ → List ℕ → Condition Told
+pairs corners pairing = record { tells = refusal 7; places = length corners; fits = unpaired corners pairing }
+
+-- what 7 establishes of corner c
+pub record Paired (corners pairing : List ℕ) (c : ℕ) : Type 0 where
+  pub there : c < length pairing
+  pub corner : pairOf pairing c < length corners
+  pub turned : reverse corners c (pairOf pairing c) ≡ true
+  pub back-there : pairOf pairing c < length pairing
+  pub back : pairOf pairing (pairOf pairing c) ≡ c
 
 -- ---- 8: the least position where the order table is missing an entry or wrong
 
@@ -82,10 +92,10 @@ orderedAt coords order i = ltb i (length order) && eqb (getD order i 0) (getD (o
 abbrev pub disordered : List ℤ → List ℕ → ℕ → Bool
 disordered coords order i = not (orderedAt coords order i)
 
-abbrev pub ordered : List ℤ → List ℕ → Condition
-ordered coords order = record { refusal = Order; places = vertexCount coords; fits = disordered coords order }
+abbrev pub orders : List ℤ → List ℕ → Condition Told
+orders coords order = record { tells = refusal 8; places = vertexCount coords; fits = disordered coords order }
 
 -- ---- 2, 3 and 4 together
 
-abbrev pub mesh : List ℤ → List ℕ → List Condition
-mesh coords corners = range coords ∷ vertex (vertexCount coords) corners ∷ triangle corners ∷ []
+abbrev pub meshTests : Mesh → List (Condition Told)
+meshTests m = range (m .coords) ∷ vertex (vertexCount (m .coords)) (m .corners) ∷ triangle (m .corners) ∷ []

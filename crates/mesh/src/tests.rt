@@ -6,9 +6,10 @@ ghost use Prim.Native.Nat.{ℕ, _+_, _*_, _/_, _<_};
 ghost use lib.ListN.{length};
 ghost use Rattle.laws.specs.Least.{least};
 ghost use Rattle.mesh.specs.Corners.{vertexCount, triangleCount};
-ghost use Rattle.mesh.specs.Refusals.{test, verdict};
-ghost use Rattle.mesh.specs.RefusalLaws.{Nowhere};
-ghost use Rattle.mesh.specs.Tests.{sizesFit, size, outOfRange, range, namesNone, vertex, namesTwice, triangle, mesh};
+ghost use Rattle.mesh.specs.Meshes.{mesh};
+ghost use Rattle.mesh.specs.Operation.{Nowhere, test, verdict};
+ghost use Rattle.mesh.specs.Refusals.{tellVerdict};
+ghost use Rattle.mesh.specs.Tests.{sizesFit, size, outOfRange, range, namesNone, vertex, namesTwice, triangle, meshTests};
 use crate::Refusal;
 use crate::Verdict;
 use crate::internal::wide;
@@ -31,7 +32,7 @@ fn sizes_fit(coords: usize, corners: usize) -> bool
 
 // Refusal 1.
 pub fn size_test(coords: &[i32], corners: &[u32]) -> Verdict
-    ensures { λ r. ⌜ r ≡ test (size (now (coords .entry)) (now (corners .entry))) ⌝ }
+    ensures { λ r. ⌜ tellVerdict r ≡ test (size (mesh (now (coords .entry)) (now (corners .entry)))) ⌝ }
 {
     if sizes_fit(coords.len(), corners.len()) {
         return Verdict::Fine;
@@ -80,7 +81,7 @@ fn first_out(coords: &[i32]) -> usize
 
 // Refusal 2.
 pub fn range_test(coords: &[i32]) -> Verdict
-    ensures { λ r. ⌜ r ≡ test (range (now (coords .entry))) ⌝ }
+    ensures { λ r. ⌜ tellVerdict r ≡ test (range (now (coords .entry))) ⌝ }
 {
     if all_in_range(coords) {
         return Verdict::Fine;
@@ -133,7 +134,7 @@ fn first_stray(vertices: usize, corners: &[u32]) -> usize
 
 // Refusal 3.
 pub fn vertex_test(vertices: usize, corners: &[u32]) -> Verdict
-    ensures { λ r. ⌜ r ≡ test (vertex vertices (now (corners .entry))) ⌝ }
+    ensures { λ r. ⌜ tellVerdict r ≡ test (vertex vertices (now (corners .entry))) ⌝ }
 {
     if all_named(vertices, corners) {
         return Verdict::Fine;
@@ -182,7 +183,7 @@ fn first_degenerate(corners: &[u32]) -> usize
 
 // Refusal 4.
 pub fn triangle_test(corners: &[u32]) -> Verdict
-    ensures { λ r. ⌜ r ≡ test (triangle (now (corners .entry))) ⌝ }
+    ensures { λ r. ⌜ tellVerdict r ≡ test (triangle (now (corners .entry))) ⌝ }
 {
     let t = first_degenerate(corners);
     if t < corners.len() / 3 {
@@ -193,7 +194,7 @@ pub fn triangle_test(corners: &[u32]) -> Verdict
 
 // Refusals 2, 3 and 4.
 pub fn mesh_test(coords: &[i32], corners: &[u32]) -> Verdict
-    ensures { λ r. ⌜ r ≡ verdict (mesh (now (coords .entry)) (now (corners .entry))) ⌝ }
+    ensures { λ r. ⌜ tellVerdict r ≡ verdict (meshTests (mesh (now (coords .entry)) (now (corners .entry)))) ⌝ }
 {
     let a = range_test(coords);
     if let Verdict::Refused(_) = a {

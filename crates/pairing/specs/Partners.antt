@@ -7,28 +7,33 @@ use lib.ListN.{length}
 use Rattle.laws.specs.Least.{least, some}
 use Rattle.laws.specs.Tables.{tabulate}
 use Rattle.mesh.specs.Corners.{startOf, endOf}
-use Rattle.mesh.specs.Refusals.{Condition}
+use Rattle.mesh.specs.Operation.{Condition}
+use Rattle.mesh.specs.Refusals.{Told, refusal}
 use Rattle.mesh.specs.Tests.{reverse}
-use Rattle.mesh.specs.declared.Refusal.the-variants.{Doubled, Open}
 
 -- ---- 5: a corner whose directed edge occurs at another corner too
 
+-- corner d is another than c and has its directed edge
 unfoldable pub twin : List ℕ → ℕ → ℕ → Bool
 twin corners c d = not (eqb d c) && (eqb (startOf corners d) (startOf corners c) && eqb (endOf corners d) (endOf corners c))
 
+-- some corner is so to c
 unfoldable pub doubledAt : List ℕ → ℕ → Bool
 doubledAt corners c = some (length corners) (twin corners c)
 
-abbrev pub doubledEdge : List ℕ → Condition
-doubledEdge corners = record { refusal = Doubled; places = length corners; fits = doubledAt corners }
+-- refusal 5
+abbrev pub doubledEdge : List ℕ → Condition Told
+doubledEdge corners = record { tells = refusal 5; places = length corners; fits = doubledAt corners }
 
 -- ---- 6: a corner whose reverse edge occurs nowhere
 
+-- no corner has the reverse edge of c
 unfoldable pub openAt : List ℕ → ℕ → Bool
 openAt corners c = not (some (length corners) (reverse corners c))
 
-abbrev pub openEdge : List ℕ → Condition
-openEdge corners = record { refusal = Open; places = length corners; fits = openAt corners }
+-- refusal 6
+abbrev pub openEdge : List ℕ → Condition Told
+openEdge corners = record { tells = refusal 6; places = length corners; fits = openAt corners }
 
 -- ---- the pairing
 
@@ -36,6 +41,6 @@ openEdge corners = record { refusal = Open; places = length corners; fits = open
 unfoldable pub partnerOf : List ℕ → ℕ → ℕ
 partnerOf corners c = least (length corners) (reverse corners c)
 
--- the pairing
+-- the partner of each corner in turn
 unfoldable pub pairingOf : List ℕ → List ℕ
 pairingOf corners = tabulate (length corners) (partnerOf corners)

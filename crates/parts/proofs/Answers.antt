@@ -1,6 +1,6 @@
 -- Read part put together: its answer and the three tables at each return.
 use Prim.Native.Nat.{ℕ, _/_, _<_, _≤_}
-use mathlib.Core.Path.{_≡_, sym, ap, _∙_, subst}
+use mathlib.Core.Path.{_≡_, refl, sym, ap, _∙_, subst}
 use mathlib.Core.Bool.{Bool, true, false}
 use mathlib.Core.List.{List}
 use native.Mathlib.Omega.{arith}
@@ -9,14 +9,13 @@ use lib.Dec.{leb}
 use lib.ListN.{length, drop}
 use lib.IntN.{ℤ}
 use Rattle.laws.specs.Tables.{overwrite}
-use Rattle.mesh.specs.Refusals.{verdict}
-use Rattle.mesh.specs.declared.Refusal.{Refusal}
+use Rattle.mesh.specs.Operation.{gives, fine}
+use Rattle.mesh.specs.OperationLaws.{does-refuse, does-give}
+use Rattle.mesh.specs.Refusals.{refusal}
 use Rattle.mesh.specs.declared.Refusal.the-variants.{Room, File}
-use Rattle.mesh.specs.declared.Verdict.{Verdict}
-use Rattle.mesh.specs.declared.Verdict.the-variants.{Refused}
 use Rattle.formats.specs.Formats.{alike, stay, broken}
 use Rattle.formats.specs.Numbers.{word, number, signed}
-use Rattle.formats.specs.PartFile.{signedRun, plainRun, partOf}
+use Rattle.formats.specs.PartFile.{Part, signedRun, plainRun, partOf}
 use Rattle.formats.specs.SequenceLaws.{parsed-length}
 use Rattle.parts.specs.declared.internal.Run.{Run}
 use Rattle.parts.specs.declared.internal.Layout.{Layout}
@@ -24,25 +23,25 @@ use Rattle.parts.specs.declared.internal.Found.{Found}
 use Rattle.parts.specs.declared.internal.Found.the-variants.{Whole, Broken}
 use Rattle.parts.specs.declared.Parted.the-variants.{Counts, Refused as Turned}
 use Rattle.parts.specs.Layouts.{valuesOf, Stands, Fits, partAt, Laid, Finds}
-use Rattle.parts.specs.Parts.{roomFor, held, refusals, answer, after, Reads}
-use Rattle.parts.specs.PartLaws.{room-parts, held-part, broken-verdict, short-verdict, fine-verdict}
+use Rattle.parts.specs.Parts.{part, PartSizes, partSizes, partSizesOf, partRoom, partIn, partCounts, fillsPart, ReadsPart}
+use Rattle.parts.specs.PartLaws.{room-parts, held-part, broken-verdict, short-verdict, fine-verdict, fills-fine, refused-keeps}
 
 -- ---- 9
 
-module _ (n m h a b c : ℕ) where
-  pub no-coords : a < n → false ≡ roomFor n m h a b c
-  unfolding roomFor
-  no-coords l = simp (lt-leb n a l)
+module _ (n t : PartSizes) where
+  pub no-coords : t .coords < n .coords → false ≡ partRoom n t
+  unfolding partRoom
+  no-coords l = simp (lt-leb (n .coords) (t .coords) l)
 
-  pub no-corners : n ≤ a → b < m → false ≡ roomFor n m h a b c
-  unfolding roomFor
-  no-corners k l = simp (le-leb n a k, lt-leb m b l)
+  pub no-corners : n .coords ≤ t .coords → t .corners < n .corners → false ≡ partRoom n t
+  unfolding partRoom
+  no-corners k l = simp (le-leb (n .coords) (t .coords) k, lt-leb (n .corners) (t .corners) l)
 
-  pub only-heights : n ≤ a → m ≤ b → leb h c ≡ roomFor n m h a b c
-  unfolding roomFor
-  only-heights k l = simp (le-leb n a k, le-leb m b l)
+  pub only-heights : n .coords ≤ t .coords → n .corners ≤ t .corners → leb (n .heights) (t .heights) ≡ partRoom n t
+  unfolding partRoom
+  only-heights k l = simp (le-leb (n .coords) (t .coords) k, le-leb (n .corners) (t .corners) l)
 
--- ---- the tables have the sizes that were counted
+-- ---- the tables have the partSizes that were counted
 
 module _ {file : List ℕ} {run : Run} where
   signed-size : Stands signedRun file run → length (valuesOf signedRun file run) ≡ run .count
@@ -66,52 +65,49 @@ module _ (file : List ℕ) {f : Found} (s : Finds file f) where
 
 -- ---- room for the part is room for each of its tables
 
-module _ {file : List ℕ} {l : Layout} (k : Laid file l) (a b c : ℕ) {fits : Bool} (r : fits ≡ roomFor (l .coords .count) (l .corners .count) (l .heights .count) a b c) (t : fits ≡ true) where
-  pub coords-fit : (table : List ℤ) → a ≡ length table → Fits signedRun file (l .coords) table
-  coords-fit table e = record { stands = k .coords-stand; room = omega (arith, room-parts _ _ _ a b c (sym r ∙ t)) }
+-- what was counted
+abbrev pub counted : Layout → PartSizes
+counted l = partSizes (l .coords .count) (l .corners .count) (l .heights .count)
 
-  pub corners-fit : (table : List ℕ) → b ≡ length table → Fits plainRun file (l .corners) table
-  corners-fit table e = record { stands = k .corners-stand; room = omega (arith, room-parts _ _ _ a b c (sym r ∙ t)) }
+module _ {file : List ℕ} {l : Layout} (k : Laid file l) (t : PartSizes) {fits : Bool} (r : fits ≡ partRoom (counted l) t) (e : fits ≡ true) where
+  room : (l .coords .count ≤ t .coords) × (l .corners .count ≤ t .corners) × (l .heights .count ≤ t .heights)
+  room = room-parts (counted l) t (sym r ∙ e)
 
-  pub heights-fit : (table : List ℤ) → c ≡ length table → Fits signedRun file (l .heights) table
-  heights-fit table e = record { stands = k .heights-stand; room = omega (arith, room-parts _ _ _ a b c (sym r ∙ t)) }
+  pub coords-fit : (table : List ℤ) → t .coords ≡ length table → Fits signedRun file (l .coords) table
+  coords-fit table h = record { stands = k .coords-stand; room = omega (arith, room .0) }
+
+  pub corners-fit : (table : List ℕ) → t .corners ≡ length table → Fits plainRun file (l .corners) table
+  corners-fit table h = record { stands = k .corners-stand; room = omega (arith, room .1) }
+
+  pub heights-fit : (table : List ℤ) → t .heights ≡ length table → Fits signedRun file (l .heights) table
+  heights-fit table h = record { stands = k .heights-stand; room = omega (arith, room .2) }
 
 -- ---- the three returns
 
-module _ (file : List ℕ) (coords : List ℤ) (corners : List ℕ) (heights : List ℤ) where
-  turned : (r : Refusal) → verdict (refusals file coords corners heights) ≡ Refused r → Reads file coords corners heights (Turned r) coords corners heights
-  unfolding answer after
-  turned r v =
-      record {
-        answers = ap (λ (v : Verdict). answer v (held (partOf file))) (sym v);
-        coords-are = ap (λ (v : Verdict). after v (held (partOf file) .coords) coords) (sym v);
-        corners-are = ap (λ (v : Verdict). after v (held (partOf file) .corners) corners) (sym v);
-        heights-are = ap (λ (v : Verdict). after v (held (partOf file) .heights) heights) (sym v);
-      }
+-- what was counted is what the part has
+module _ {file : List ℕ} {l : Layout} (k : Laid file l) where
+  same-sizes : partSizesOf (partAt file l) ≡ counted l
+  same-sizes = λ i. partSizes (signed-size (k .coords-stand) i) (plain-size (k .corners-stand) i) (signed-size (k .heights-stand) i)
 
-  pub reads-broken : (place : ℕ) → partOf file ≡ broken place → Reads file coords corners heights (Turned (File place)) coords corners heights
-  reads-broken place e = turned (File place) (broken-verdict file coords corners heights place e)
+  same-room : (t : PartSizes) {fits : Bool} → fits ≡ partRoom (counted l) t → partRoom (partSizesOf (partAt file l)) t ≡ fits
+  same-room t r = ap (λ (n : PartSizes). partRoom n t) same-sizes ∙ sym r
 
-  module _ {l : Layout} (k : Laid file l) {fits : Bool}
-      (r : fits ≡ roomFor (l .coords .count) (l .corners .count) (l .heights .count) (length coords) (length corners) (length heights)) where
-    -- room for what was counted is room for the part
-    same-room : roomFor (length (partAt file l .coords)) (length (partAt file l .corners)) (length (partAt file l .heights)) (length coords) (length corners) (length heights) ≡ fits
-    same-room = (λ i. roomFor (signed-size (k .coords-stand) i) (plain-size (k .corners-stand) i) (signed-size (k .heights-stand) i) (length coords) (length corners) (length heights)) ∙ sym r
+module _ {file : List ℕ} {t : Part} where
+  pub reads-broken : {place : ℕ} → partOf file ≡ broken place → ReadsPart file t (Turned (File place)) t
+  reads-broken {place} e = does-refuse refl (broken-verdict file (partSizesOf t) e) refl (refused-keeps (partIn file) t (refusal 13 place))
 
-    pub reads-short : fits ≡ false → Reads file coords corners heights (Turned (Room 0)) coords corners heights
-    reads-short f = turned (Room 0) (short-verdict file coords corners heights (partAt file l) (k .is) (same-room ∙ f))
+  module _ {l : Layout} (k : Laid file l) {fits : Bool} (r : fits ≡ partRoom (counted l) (partSizesOf t)) where
+    pub reads-short : fits ≡ false → ReadsPart file t (Turned (Room 0)) t
+    reads-short f =
+        does-refuse refl (short-verdict file (partSizesOf t) (k .is) (same-room k (partSizesOf t) r ∙ f)) refl (refused-keeps (partIn file) t (refusal 9 0))
 
-    pub reads-filled : {coords′ : List ℤ} {corners′ : List ℕ} {heights′ : List ℤ} → fits ≡ true
-        → coords′ ≡ overwrite (valuesOf signedRun file (l .coords)) coords → corners′ ≡ overwrite (valuesOf plainRun file (l .corners)) corners
-        → heights′ ≡ overwrite (valuesOf signedRun file (l .heights)) heights
-        → Reads file coords corners heights (Counts (l .coords .count / 3) (l .corners .count / 3) (l .heights .count)) coords′ corners′ heights′
-    unfolding answer after
-    reads-filled t a b c =
-        let v = fine-verdict file coords corners heights (partAt file l) (k .is) (same-room ∙ t) in
-        let h = held-part file coords corners heights (partAt file l) (k .is) in
-        record {
-          answers = (λ i. Counts (sym (signed-size (k .coords-stand)) i / 3) (sym (plain-size (k .corners-stand)) i / 3) (sym (signed-size (k .heights-stand)) i)) ∙ (λ i. answer (sym v i) (sym h i));
-          coords-are = a ∙ (λ i. after (sym v i) (sym h i .coords) coords);
-          corners-are = b ∙ (λ i. after (sym v i) (sym h i .corners) corners);
-          heights-are = c ∙ (λ i. after (sym v i) (sym h i .heights) heights);
-        }
+    pub reads-filled : {t′ : Part} → fits ≡ true
+        → t′ .coords ≡ overwrite (partAt file l .coords) (t .coords)
+        → t′ .corners ≡ overwrite (partAt file l .corners) (t .corners)
+        → t′ .heights ≡ overwrite (partAt file l .heights) (t .heights)
+        → ReadsPart file t (Counts (l .coords .count / 3) (l .corners .count / 3) (l .heights .count)) t′
+    reads-filled e a b c =
+        let is : partAt file l ≡ partIn file = sym (held-part file (k .is)) in
+        does-give refl (fine-verdict file (partSizesOf t) (k .is) (same-room k (partSizesOf t) r ∙ e))
+        ((λ i. gives (sym (same-sizes k) i .coords / 3, sym (same-sizes k) i .corners / 3, sym (same-sizes k) i .heights)) ∙ (λ i. gives (partCounts (is i))))
+        ((λ i. part (a i) (b i) (c i)) ∙ fills-fine (partAt file l) t ∙ (λ i. fillsPart (is i) t fine))

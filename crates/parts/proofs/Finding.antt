@@ -23,7 +23,8 @@ pub record RunTo {A : Type 0} (F : ℕ → Format (List A)) (file : List ℕ) (r
   pub inside : next ≤ length file
   pub parses : (F (run .count)) .parse (drop (run .at) file) ≡ parsed (valuesOf F file run) (drop next file)
 
-run-to : {A : Type 0} (F : ℕ → Format (List A)) (file : List ℕ) (run : Run) (next : ℕ) → Tails (F (run .count)) → run .at ≤ length file → extentAt (F (run .count)) file (run .at) ≡ End next → RunTo F file run next
+run-to : {A : Type 0} (F : ℕ → Format (List A)) (file : List ℕ) (run : Run) (next : ℕ) → Tails (F (run .count)) → run .at ≤ length file
+    → extentAt (F (run .count)) file (run .at) ≡ End next → RunTo F file run next
 unfolding valuesOf
 run-to {A} F file run next T h e =
     let q = passed (F (run .count)) file (run .at) next T h e in
@@ -43,16 +44,18 @@ module _ (file : List ℕ) where
   unfolding partOf
   no-vertex-count e = file-refused partFile file 0 (no-vertices file (not-took word file 0 e))
 
-  module _ (v a : ℕ) (e : numberAt word file 0 ≡ Value v a) where
+  module _ {v a : ℕ} (e : numberAt word file 0 ≡ Value v a) where
     pub no-triangle-count : numberAt word file a ≡ Bad → partOf file ≡ broken a
     unfolding partOf
-    no-triangle-count f = let w = took word file 0 v a e in file-refused partFile file a (no-triangles file v a (w .parses) (w .inside) (not-took word file a f))
+    no-triangle-count f =
+        let w = took e in
+        file-refused partFile file a (no-triangles file v a (w .parses) (w .inside) (not-took word file a f))
 
-    pub counted : (t b : ℕ) → numberAt word file a ≡ Value t b → Counted file (3 * v) (3 * t) b
+    pub counted : {t b : ℕ} → numberAt word file a ≡ Value t b → Counted file (3 * v) (3 * t) b
     unfolding counts
-    counted t b f =
-        let w = took word file 0 v a e in
-        let x = took word file a t b f in
+    counted {t} {b} f =
+        let w = took e in
+        let x = took f in
         let p : (number word) .parse file ≡ parsed v (drop a file) = w .parses in
         record { vertices = v; triangles = t; coords-are = refl; corners-are = refl; inside = x .inside; parses = simp (p, x .parses) }
 
@@ -67,27 +70,28 @@ module _ (file : List ℕ) where
     unfolding partFile
     after-counts = headed-next countsOf counts tablesFor file 0 told at (k .parses)
 
-    pub coords-broken : (i : ℕ) → extentAt (plainRun coords) file at ≡ Refused i → partOf file ≡ broken i
+    pub coords-broken : {i : ℕ} → extentAt (plainRun coords) file at ≡ Refused i → partOf file ≡ broken i
     unfolding partOf
-    coords-broken i e =
+    coords-broken {i} e =
         let f : extentAt (signedRun (3 * k .vertices)) file at ≡ Refused i = rw (← (k .coords-are)) (signed-extent coords file at ∙ e) in
         file-refused partFile file i (after-counts ∙ coords-stop told file at i f)
 
-    module _ (b : ℕ) (e : extentAt (plainRun coords) file at ≡ End b) where
+    module _ {b : ℕ} (e : extentAt (plainRun coords) file at ≡ End b) where
       coords-end : extentAt (signedRun (3 * k .vertices)) file at ≡ End b
       coords-end = rw (← (k .coords-are)) (signed-extent coords file at ∙ e)
 
       pub coords-run : RunTo signedRun file (record { at = at; count = coords }) b
       coords-run = signed-to (record { at = at; count = coords }) b (k .inside) e
 
-      pub corners-broken : (i : ℕ) → extentAt (plainRun corners) file b ≡ Refused i → partOf file ≡ broken i
+      pub corners-broken : {i : ℕ} → extentAt (plainRun corners) file b ≡ Refused i → partOf file ≡ broken i
       unfolding partOf
-      corners-broken i f =
+      corners-broken {i} f =
           let g : extentAt (plainRun (3 * k .triangles)) file b ≡ Refused i = rw (← (k .corners-are)) f in
           file-refused partFile file i (after-counts ∙ corners-stop told file at (k .inside) b coords-end i g)
 
-      pub tabled : (c : ℕ) → extentAt (plainRun corners) file b ≡ End c → Tabled file (record { at = at; count = coords }) (record { at = b; count = corners }) c
-      tabled c f =
+      pub tabled : {c : ℕ} → extentAt (plainRun corners) file b ≡ End c
+          → Tabled file (record { at = at; count = coords }) (record { at = b; count = corners }) c
+      tabled {c} f =
           let p = coords-run in
           let q = plain-to (record { at = b; count = corners }) c (p .inside) f in
           record { counted = k; coords-parse = p .parses; corners-parse = q .parses; inside = q .inside }
@@ -102,10 +106,14 @@ module _ (file : List ℕ) where
     n = t .counted .triangles
 
     coords-parsed : (signedRun (3 * v)) .parse (drop (coords .at) file) ≡ parsed (valuesOf signedRun file coords) (drop (corners .at) file)
-    coords-parsed = subst (λ (m : ℕ). (signedRun m) .parse (drop (coords .at) file) ≡ parsed (valuesOf signedRun file coords) (drop (corners .at) file)) (t .counted .coords-are) (t .coords-parse)
+    coords-parsed =
+        subst (λ (m : ℕ). (signedRun m) .parse (drop (coords .at) file) ≡ parsed (valuesOf signedRun file coords) (drop (corners .at) file))
+        (t .counted .coords-are) (t .coords-parse)
 
     corners-parsed : (plainRun (3 * n)) .parse (drop (corners .at) file) ≡ parsed (valuesOf plainRun file corners) (drop at file)
-    corners-parsed = subst (λ (m : ℕ). (plainRun m) .parse (drop (corners .at) file) ≡ parsed (valuesOf plainRun file corners) (drop at file)) (t .counted .corners-are) (t .corners-parse)
+    corners-parsed =
+        subst (λ (m : ℕ). (plainRun m) .parse (drop (corners .at) file) ≡ parsed (valuesOf plainRun file corners) (drop at file))
+        (t .counted .corners-are) (t .corners-parse)
 
     -- after the tables the heights decide
     after-tables : extentAt partFile file 0 ≡ extentAt signedList file at
@@ -116,16 +124,16 @@ module _ (file : List ℕ) where
     unfolding partOf signedList
     no-height-count e = file-refused partFile file at (after-tables ∙ headed-bad length (number word) signedRun file at (t .inside) (not-took word file at e))
 
-    module _ (h k : ℕ) (e : numberAt word file at ≡ Value h k) where
+    module _ {h k : ℕ} (e : numberAt word file at ≡ Value h k) where
       after-height-count : extentAt partFile file 0 ≡ extentAt (signedRun h) file k
       unfolding signedList
-      after-height-count = after-tables ∙ headed-next length (number word) signedRun file at h k (took word file at h k e .parses)
+      after-height-count = after-tables ∙ headed-next length (number word) signedRun file at h k (took e .parses)
 
-      pub heights-broken : (i : ℕ) → extentAt (plainRun h) file k ≡ Refused i → partOf file ≡ broken i
+      pub heights-broken : {i : ℕ} → extentAt (plainRun h) file k ≡ Refused i → partOf file ≡ broken i
       unfolding partOf
-      heights-broken i f = file-refused partFile file i (after-height-count ∙ signed-extent h file k ∙ f)
+      heights-broken {i} f = file-refused partFile file i (after-height-count ∙ signed-extent h file k ∙ f)
 
-      module _ (end : ℕ) (f : extentAt (plainRun h) file k ≡ End end) where
+      module _ {end : ℕ} (f : extentAt (plainRun h) file k ≡ End end) where
         pub left-over : end < length file → partOf file ≡ broken end
         unfolding partOf
         left-over l = file-left-over partFile file end partFile-tails (after-height-count ∙ signed-extent h file k ∙ f) l
@@ -133,9 +141,10 @@ module _ (file : List ℕ) where
         pub laid : length file ≤ end → Laid file (record { coords = coords; corners = corners; heights = record { at = k; count = h } })
         unfolding partOf partFile tablesFor signedList
         laid l =
-            let w = took word file at h k e in
+            let w = took e in
             let r = signed-to (record { at = k; count = h }) end (w .inside) f in
-            let p : (signedRun h) .parse (drop k file) ≡ parsed (valuesOf signedRun file (record { at = k; count = h })) [] = r .parses ∙ ap (parsed (valuesOf signedRun file (record { at = k; count = h }))) (drop-of-length-le file l) in
+            let p : (signedRun h) .parse (drop k file) ≡ parsed (valuesOf signedRun file (record { at = k; count = h })) [] =
+            r .parses ∙ ap (parsed (valuesOf signedRun file (record { at = k; count = h }))) (drop-of-length-le file l) in
             record {
               coords-stand = record { rest = drop (corners .at) file; parses = t .coords-parse };
               corners-stand = record { rest = drop at file; parses = t .corners-parse };

@@ -49,12 +49,12 @@ pub check-start : (file : List ℕ) (at count : ℕ) → at ≤ length file → 
 unfolding plainRun
 check-start file at count h = checking (alike (number word)) stay file tt at count h
 
-module _ {file : List ℕ} {total : Extent} {i : ℕ} (left : ℕ) (w : Checks file total i left) (h : 0 < left) where
+module _ {file : List ℕ} {total : Extent} {i left : ℕ} (w : Checks file total i left) (h : 0 < left) where
   pub check-refused : numberAt word file i ≡ Bad → Refused i ≡ total
   check-refused e = check-bad left w h (not-took word file i e)
 
-  pub check-passed : (v next : ℕ) → numberAt word file i ≡ Value v next → Checks file total next (left - 1)
-  check-passed v next e = let t = took word file i v next e in check-next left w h v next (t .parses) (t .inside)
+  pub check-passed : {v next : ℕ} → numberAt word file i ≡ Value v next → Checks file total next (left - 1)
+  check-passed {v} {next} e = let t = took e in check-next left w h v next (t .parses) (t .inside)
 
 -- ---- the loop that fills
 
@@ -66,7 +66,8 @@ pub record Filling {A : Type 0} (F : Format A) (file : List ℕ) (zs l m : List 
   pub table : Emit l 0 zs m k qs
 
 module _ {A : Type 0} (F : Format A) (file : List ℕ) (zs l : List A) where
-  pub fill-start : (at count : ℕ) (rest : List ℕ) → parseAll (alike F) stay count tt (drop at file) ≡ parsed zs rest → count ≤ length l → Filling F file zs l l at 0 count
+  pub fill-start : (at count : ℕ) (rest : List ℕ) → parseAll (alike F) stay count tt (drop at file) ≡ parsed zs rest → count ≤ length l
+      → Filling F file zs l l at 0 count
   fill-start at count rest e h =
       let n : length zs ≡ count = parsed-length (alike F) stay count tt (drop at file) zs rest e in
       record { qs = zs; rest = rest; parses = e; table = emit-start l 0 zs (omega arith) }
@@ -97,25 +98,31 @@ module _ {A : Type 0} {F : Format A} {file : List ℕ} {zs l m : List A} {i k le
         record { qs = f .others; rest = w .rest; parses = ap (parseAll (alike F) stay (left - 1) tt) (sym y) ∙ f .tail; table = emit-one v (f .others) t }
 
 -- a run of signed numbers
-pub signed-start : {file : List ℕ} {run : Run} {table : List ℤ} → Fits signedRun file run table → Filling (signed word) file (valuesOf signedRun file run) table table (run .at) 0 (run .count)
+pub signed-start : {file : List ℕ} {run : Run} {table : List ℤ} → Fits signedRun file run table
+    → Filling (signed word) file (valuesOf signedRun file run) table table (run .at) 0 (run .count)
 unfolding signedRun
-signed-start {file} {run} {table} f = fill-start (signed word) file (valuesOf signedRun file run) table (run .at) (run .count) (f .stands .rest) (f .stands .parses) (f .room)
+signed-start {file} {run} {table} f =
+    fill-start (signed word) file (valuesOf signedRun file run) table (run .at) (run .count) (f .stands .rest) (f .stands .parses) (f .room)
 
 module _ {file : List ℕ} {zs l m : List ℤ} {i k left : ℕ} (w : Filling (signed word) file zs l m i k left) (h : 0 < left) where
   pub signed-there : numberAt word file i ≡ Bad → ⊥
   signed-there e = fill-there w h (signed-refused word (drop i file) (not-took word file i e))
 
-  pub signed-next : (v next : ℕ) → numberAt word file i ≡ Value v next → {z : ℤ} → z ≡ unzigzag v → Filling (signed word) file zs l (set m k z) next (k + 1) (left - 1)
-  signed-next v next e {z} is = rw is (fill-next w h (unzigzag v) next (signed-parsed word (drop i file) v (drop next file) (took word file i v next e .parses)))
+  pub signed-next : {v next : ℕ} → numberAt word file i ≡ Value v next → {z : ℤ} → z ≡ unzigzag v
+      → Filling (signed word) file zs l (set m k z) next (k + 1) (left - 1)
+  signed-next {v} {next} e {z} is =
+      rw is (fill-next w h (unzigzag v) next (signed-parsed word (drop i file) v (drop next file) (took e .parses)))
 
 -- a run of plain ones
-pub plain-start : {file : List ℕ} {run : Run} {table : List ℕ} → Fits plainRun file run table → Filling (number word) file (valuesOf plainRun file run) table table (run .at) 0 (run .count)
+pub plain-start : {file : List ℕ} {run : Run} {table : List ℕ} → Fits plainRun file run table
+    → Filling (number word) file (valuesOf plainRun file run) table table (run .at) 0 (run .count)
 unfolding plainRun
-plain-start {file} {run} {table} f = fill-start (number word) file (valuesOf plainRun file run) table (run .at) (run .count) (f .stands .rest) (f .stands .parses) (f .room)
+plain-start {file} {run} {table} f =
+    fill-start (number word) file (valuesOf plainRun file run) table (run .at) (run .count) (f .stands .rest) (f .stands .parses) (f .room)
 
 module _ {file zs l m : List ℕ} {i k left : ℕ} (w : Filling (number word) file zs l m i k left) (h : 0 < left) where
   pub plain-there : numberAt word file i ≡ Bad → ⊥
   plain-there e = fill-there w h (not-took word file i e)
 
-  pub plain-next : (v next : ℕ) → numberAt word file i ≡ Value v next → Filling (number word) file zs l (set m k v) next (k + 1) (left - 1)
-  plain-next v next e = fill-next w h v next (took word file i v next e .parses)
+  pub plain-next : {v next : ℕ} → numberAt word file i ≡ Value v next → Filling (number word) file zs l (set m k v) next (k + 1) (left - 1)
+  plain-next {v} {next} e = fill-next w h v next (took e .parses)

@@ -1,4 +1,4 @@
--- Internal: where the tables of a part file stand, and what its two passes ask and answer.
+-- Where the tables of a part file stand, and what its two passes ask and answer.
 use Prim.Native.Nat.{ℕ, _*_, _≤_}
 use mathlib.Core.Path.{_≡_}
 use mathlib.Core.List.{List, []}
@@ -12,7 +12,7 @@ use Rattle.parts.specs.declared.internal.Found.the-variants.{Whole, Brok
 
 -- ---- runs
 
--- the values that were parsed
+-- the values that were parsed; it is asked of runs that stand in the file (`Stands`), so the empty list decides nothing
 abbrev pub values : {A : Type 0} → Parse (List A) → List A
 values (parsed xs rest) = xs
 values (refused rest) = []
@@ -51,7 +51,8 @@ pub record Tabled (file : List ℕ) (coords corners : Run) (at : ℕ) : Type 0 w
 
 -- the part whose tables stand so
 abbrev pub partAt : List ℕ → Layout → Part
-partAt file l = record { coords = valuesOf signedRun file (l .coords); corners = valuesOf plainRun file (l .corners); heights = valuesOf signedRun file (l .heights) }
+partAt file l = record
+    { coords = valuesOf signedRun file (l .coords); corners = valuesOf plainRun file (l .corners); heights = valuesOf signedRun file (l .heights) }
 
 -- the whole file was passed
 pub record Laid (file : List ℕ) (l : Layout) : Type 0 where

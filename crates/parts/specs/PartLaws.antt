@@ -1,184 +1,166 @@
--- What Read part promises: it refuses exactly if a listed condition holds; 13 exactly if the file is not the file of some part; and the file of a part is read as that part.
-use Prim.Native.Nat.{ℕ, _-_, _≤_}
+-- What Read part promises: it refuses exactly if a listed condition holds, at its place; its outcome is the only one; 13 exactly if the file is not the file of
+-- some part; and the file of a part is read as that part.
+use Prim.Native.Nat.{ℕ, _≤_}
 use mathlib.Core.Path.{_≡_, refl, sym, ap, _∙_}
-use mathlib.Core.Bool.{Bool, true, false, not}
+use mathlib.Core.Bool.{true, false, not}
 use mathlib.Core.List.{List, [], _∷_}
 use mathlib.Core.Logic.{_↔_}
 use native.Mathlib.Omega.{arith}
+use borrow.Author.Tests.{leb-true, le-leb}
 use lib.ListN.{length}
-use lib.IntN.{ℤ}
-use borrow.Author.Tests.{leb-true, le-leb, eq-eqb, ne-eqb}
+use lib.IntN.{pos}
 use Rattle.laws.specs.Booleans.{and-parts}
 use Rattle.laws.specs.Tables.{overwrite}
-use Rattle.mesh.specs.Refusals.{test, verdict}
-use Rattle.mesh.specs.RefusalLaws.{First, None, refused-apart, first-refused, refused-first, none-fine, fine-none, nowhere-fine, fits-refused, whole-refused, whole-fine, verdict-one, verdict-stop, verdict-next}
-use Rattle.mesh.specs.declared.Refusal.{Refusal}
-use Rattle.mesh.specs.declared.Refusal.the-variants.{Room, File}
-use Rattle.mesh.specs.declared.Verdict.{Verdict}
-use Rattle.mesh.specs.declared.Verdict.the-variants.{Fine, Refused}
-use Rattle.formats.specs.Formats.{Parse, parsed, refused, Decoded, holds, broken, finished, placed}
+use Rattle.mesh.specs.Operation.{gives, refuses, fine, Condition, test, verdict}
+use Rattle.mesh.specs.OperationLaws.{First, None, whole-refused, whole-fine, then-refused, then-fine, verdict-one, Recovers, after-fine, after-kept}
+use Rattle.mesh.specs.OperationLaws.{refused-verdict, given-verdict, refused-exactly, given-exactly, left-refused, only-outcome}
+use Rattle.mesh.specs.Refusals.{Told, refusal, numbered}
+use Rattle.mesh.specs.RefusalLaws.{refusalOf, refusal-once}
+use Rattle.formats.specs.Formats.{Decoded, holds, broken}
 use Rattle.formats.specs.FormatLaws.{Bytes}
-use Rattle.formats.specs.PartFile.{Part, countsOf, partFile, PartRules, partOf}
+use Rattle.formats.specs.PartFile.{Part, partFile, PartRules, partOf}
 use Rattle.formats.specs.RoundTripLaws.{part-read-back, part-written}
+use Rattle.formats.specs.WholeFileLaws.{decode-inside, held-is, form-first, form-next, fine-holds, thirteen-exactly}
 use Rattle.parts.specs.declared.Parted.{Parted}
 use Rattle.parts.specs.declared.Parted.the-variants.{Counts, Refused as Turned}
-use Rattle.parts.specs.Parts.{brokenAt, form, roomFor, room, held, refusals, answer, after, Reads}
+use Rattle.parts.specs.Parts.{part, PartSizes, partSizesOf, partRoom, noPartRoom, partIn, partTests, partCounts, fillsPart, partReading, tellParted}
+use Rattle.parts.specs.Parts.{ReadsPart}
 
 -- ---- 9
 
-module _ (n m h a b c : ℕ) where
-  pub room-of : n ≤ a → m ≤ b → h ≤ c → roomFor n m h a b c ≡ true
-  unfolding roomFor
-  room-of i j k = simp (le-leb n a i, le-leb m b j, le-leb h c k)
+module _ (n t : PartSizes) where
+  pub room-of : n .coords ≤ t .coords → n .corners ≤ t .corners → n .heights ≤ t .heights → partRoom n t ≡ true
+  unfolding partRoom
+  room-of i j k = simp (le-leb (n .coords) (t .coords) i, le-leb (n .corners) (t .corners) j, le-leb (n .heights) (t .heights) k)
 
-  pub room-parts : roomFor n m h a b c ≡ true → (n ≤ a) × (m ≤ b) × (h ≤ c)
-  unfolding roomFor
-  room-parts e = let p = and-parts _ _ e in let q = and-parts _ _ (p .0) in (leb-true n a (q .0), leb-true m b (q .1), leb-true h c (p .1))
+  pub room-parts : partRoom n t ≡ true → (n .coords ≤ t .coords) × (n .corners ≤ t .corners) × (n .heights ≤ t .heights)
+  unfolding partRoom
+  room-parts e =
+      let p = and-parts _ _ e in
+      let q = and-parts _ _ (p .0) in
+      (leb-true _ _ (q .0), leb-true _ _ (q .1), leb-true _ _ (p .1))
 
 -- ---- the verdict, by what the file holds
 
 -- the place of a refusal lies in the file or at its end
-placed-inside : {A : Type 0} (n : ℕ) (d : Parse A) (place : ℕ) → placed n d ≡ broken place → place ≤ n
-placed-inside n (parsed a r) place e = let z : _≡_ {A = ℕ} 0 1 = cc in absurd (omega arith)
-placed-inside n (refused r) place e = let p : n - length r ≡ place = cc in omega arith
-
 pub broken-inside : (file : List ℕ) (place : ℕ) → partOf file ≡ broken place → place ≤ length file
 unfolding partOf
-broken-inside file place e = placed-inside (length file) (finished (partFile .parse file)) place e
+broken-inside file place e = decode-inside partFile file place e
 
-module _ (file : List ℕ) (coords : List ℤ) (corners : List ℕ) (heights : List ℤ) where
-  abbrev all : Verdict
-  all = verdict (refusals file coords corners heights)
+-- what a file that holds a part holds
+pub held-part : (file : List ℕ) {p : Part} → partOf file ≡ holds p → partIn file ≡ p
+held-part file e = held-is (part [] [] []) e
 
-  pub broken-verdict : (place : ℕ) → partOf file ≡ broken place → all ≡ Refused (File place)
-  unfolding brokenAt
-  broken-verdict place e =
-      sym (verdict-stop (form file) (room (held (partOf file)) (length coords) (length corners) (length heights) ∷ [])
-      (fits-refused (form file) place (omega (arith, broken-inside file place e)) (ap (λ (d : Decoded Part). brokenAt d place) e ∙ eq-eqb place place refl)
-      (λ j l. ap (λ (d : Decoded Part). brokenAt d j) e ∙ ne-eqb j place (λ p. omega arith))) refl)
+module _ (file : List ℕ) (t : PartSizes) where
+  -- the refusals after 13
+  abbrev others : List (Condition Told)
+  others = noPartRoom (partIn file) t ∷ []
 
-  module _ (p : Part) (e : partOf file ≡ holds p) where
-    pub held-part : held (partOf file) ≡ p
-    unfolding held
-    held-part = ap held e
+  pub broken-verdict : {place : ℕ} → partOf file ≡ broken place → verdict (partTests file t) ≡ refuses (refusal 13 place)
+  broken-verdict e = form-first file (partOf file) (broken-inside file) others e
 
-    -- whether the tables have room
-    abbrev fits : Bool
-    fits = roomFor (length (p .coords)) (length (p .corners)) (length (p .heights)) (length coords) (length corners) (length heights)
+  pub verdict-broken : (place : ℕ) → (verdict (partTests file t) ≡ refuses (refusal 13 place)) ↔ (partOf file ≡ broken place)
+  verdict-broken = thirteen-exactly file (partOf file) (broken-inside file) others ((λ j e. omega arith), tt)
 
-    form-fine : Fine ≡ test (form file)
-    unfolding brokenAt
-    form-fine = nowhere-fine (form file) (λ i l. ap (λ (d : Decoded Part). brokenAt d i) e)
+  module _ {p : Part} (e : partOf file ≡ holds p) where
+    left : verdict (partTests file t) ≡ test (noPartRoom p t)
+    left =
+        form-next file (partOf file) (broken-inside file) others e ∙ sym (verdict-one (noPartRoom (partIn file) t))
+        ∙ ap (λ (q : Part). test (noPartRoom q t)) (held-part file e)
 
-    pub short-verdict : fits ≡ false → all ≡ Refused (Room 0)
-    short-verdict f =
-        sym (verdict-next (form file) _ form-fine refl
-        (whole-refused Room _ (ap (λ (q : Part). not (roomFor (length (q .coords)) (length (q .corners)) (length (q .heights)) (length coords) (length corners) (length heights))) held-part ∙ ap not f) ∙ verdict-one _))
+    pub short-verdict : partRoom (partSizesOf p) t ≡ false → verdict (partTests file t) ≡ refuses (refusal 9 0)
+    short-verdict f = left ∙ sym (whole-refused (refusal 9) (not (partRoom (partSizesOf p) t)) (ap not f))
 
-    pub fine-verdict : fits ≡ true → all ≡ Fine
-    fine-verdict f =
-        sym (verdict-next (form file) _ form-fine refl
-        (whole-fine Room _ (ap (λ (q : Part). not (roomFor (length (q .coords)) (length (q .corners)) (length (q .heights)) (length coords) (length corners) (length heights))) held-part ∙ ap not f) ∙ verdict-one _))
+    pub fine-verdict : partRoom (partSizesOf p) t ≡ true → verdict (partTests file t) ≡ fine
+    fine-verdict f = left ∙ sym (whole-fine (refusal 9) (not (partRoom (partSizesOf p) t)) (ap not f))
 
--- ---- what an answer says of the verdict
+  -- where nothing is refused, the file holds a part
+  pub fine-part : verdict (partTests file t) ≡ fine → (p : Part) × (partOf file ≡ holds p)
+  fine-part v = fine-holds file (partOf file) (broken-inside file) others v
 
-pub turned-refused : (v : Verdict) (p : Part) (r : Refusal) → Turned r ≡ answer v p → v ≡ Refused r
-unfolding answer
-turned-refused Fine p r e = let z : _≡_ {A = ℕ} 0 1 = cc in absurd (omega arith)
-turned-refused (Refused q) p r e = cc
+-- ---- the three tables: filled, or as they were
 
-pub counts-fine : (v : Verdict) (p : Part) (a b c : ℕ) → Counts a b c ≡ answer v p → v ≡ Fine
-unfolding answer
-counts-fine Fine p a b c e = refl
-counts-fine (Refused q) p a b c e = let z : _≡_ {A = ℕ} 0 1 = cc in absurd (omega arith)
+module _ (p t : Part) where
+  pub fills-fine : part (overwrite (p .coords) (t .coords)) (overwrite (p .corners) (t .corners)) (overwrite (p .heights) (t .heights)) ≡ fillsPart p t fine
+  fills-fine =
+      λ i. part (after-fine (numbered []) (p .coords) 0 (pos 0) (t .coords) i) (after-fine (numbered []) (p .corners) 0 0 (t .corners) i)
+      (after-fine (numbered []) (p .heights) 0 (pos 0) (t .heights) i)
 
--- a part was read: the three counts, and the tables filled with it
-pub record Holds (p : Part) (coords : List ℤ) (corners : List ℕ) (heights : List ℤ) (result : Parted) (coords′ : List ℤ) (corners′ : List ℕ) (heights′ : List ℤ) : Type 0 where
-  pub counts-are : result ≡ Counts (countsOf p .0) (countsOf p .1) (length (p .heights))
-  pub coords-filled : coords′ ≡ overwrite (p .coords) coords
-  pub corners-filled : corners′ ≡ overwrite (p .corners) corners
-  pub heights-filled : heights′ ≡ overwrite (p .heights) heights
+  pub refused-keeps : (r : Told) → t ≡ fillsPart p t (refuses r)
+  refused-keeps r =
+      λ i. part (after-kept (numbered []) (p .coords) 0 (pos 0) (t .coords) r refl i) (after-kept (numbered []) (p .corners) 0 0 (t .corners) r refl i)
+      (after-kept (numbered []) (p .heights) 0 (pos 0) (t .heights) r refl i)
 
 -- ---- Read part
 
-module _ {file : List ℕ} {coords : List ℤ} {corners : List ℕ} {heights : List ℤ} {result : Parted} {coords′ : List ℤ} {corners′ : List ℕ} {heights′ : List ℤ}
-    (k : Reads file coords corners heights result coords′ corners′ heights′) where
-  -- refused exactly if a listed condition holds, the first that fits, at its place
-  pub refused-exactly : (r : Refusal) → (result ≡ Turned r) ↔ First (refusals file coords corners heights) r
-  unfolding answer
-  refused-exactly r = (
-    (λ e. refused-first (refusals file coords corners heights) r (turned-refused (all file coords corners heights) (held (partOf file)) r (sym e ∙ k .answers))),
-    (λ f. k .answers ∙ ap (λ (v : Verdict). answer v (held (partOf file))) (first-refused (refusals file coords corners heights) r f)),
-  )
+pub parted-recovers : Recovers tellParted
+parted-recovers = record {
+  back = elim [ gives v ↦ Counts (v .0) (v .1) (v .2) | refuses r ↦ Turned (refusalOf r) ];
+  once = elim [ Counts v n k ↦ refl | Turned r ↦ ap Turned (refusal-once r) ];
+}
 
-  -- answered with counts exactly if none holds
-  pub accepted-exactly : ((a : ℕ) × (b : ℕ) × (c : ℕ) × (result ≡ Counts a b c)) ↔ None (refusals file coords corners heights)
-  unfolding answer
-  accepted-exactly = (
-    (λ e. fine-none (refusals file coords corners heights) (counts-fine (all file coords corners heights) (held (partOf file)) (e .0) (e .1) (e .2) (sym (e .3) ∙ k .answers))),
-    (λ n. (_, _, _, k .answers ∙ ap (λ (v : Verdict). answer v (held (partOf file))) (none-fine (refusals file coords corners heights) n))),
-  )
+module _ {file : List ℕ} {t : Part} {result : Parted} {t′ : Part} (k : ReadsPart file t result t′) where
+  -- refused exactly if a listed condition holds, the first that fits; answered with counts exactly if none does; and one outcome only
+  pub parted-refused : (r : Told) → (tellParted result ≡ refuses r) ↔ First (partTests file (partSizesOf t)) r
+  parted-refused = refused-exactly k
+
+  pub parted-given : (tellParted result ≡ gives (partCounts (partIn file))) ↔ None (partTests file (partSizesOf t))
+  parted-given = given-exactly k
+
+  pub parted-only : {other : Parted} {u′ : Part} → ReadsPart file t other u′ → (result ≡ other) × (t′ ≡ u′)
+  parted-only = only-outcome parted-recovers k
 
   -- a refusal changes nothing
-  pub refused-stays : (r : Refusal) → result ≡ Turned r → (coords′ ≡ coords) × (corners′ ≡ corners) × (heights′ ≡ heights)
-  unfolding after
-  refused-stays r e =
-      let v = turned-refused (all file coords corners heights) (held (partOf file)) r (sym e ∙ k .answers) in (
-        k .coords-are ∙ ap (λ (v : Verdict). after v (held (partOf file) .coords) coords) v,
-        k .corners-are ∙ ap (λ (v : Verdict). after v (held (partOf file) .corners) corners) v,
-        k .heights-are ∙ ap (λ (v : Verdict). after v (held (partOf file) .heights) heights) v,
-      )
+  pub refused-stays : {r : Told} → tellParted result ≡ refuses r → t′ ≡ t
+  refused-stays {r} e = left-refused k e ∙ sym (refused-keeps (partIn file) t r)
 
-  -- without a refusal the tables are filled
-  filled : (p : Part) → held (partOf file) ≡ p → all file coords corners heights ≡ Fine → Holds p coords corners heights result coords′ corners′ heights′
-  unfolding answer after
-  filled p e v =
+  -- a part was read: the three counts, and the tables filled with it
+  pub record Holds (p : Part) : Type 0 where
+    pub answered : tellParted result ≡ gives (partCounts p)
+    pub filled : t′ ≡ fillsPart p t fine
+
+  given : {p : Part} → partOf file ≡ holds p → verdict (partTests file (partSizesOf t)) ≡ fine → Holds p
+  given {p} e v =
+      let s : partIn file ≡ p = held-part file e in
       record {
-        counts-are = k .answers ∙ (λ i. answer (v i) (e i));
-        coords-filled = k .coords-are ∙ (λ i. after (v i) (e i .coords) coords);
-        corners-filled = k .corners-are ∙ (λ i. after (v i) (e i .corners) corners);
-        heights-filled = k .heights-are ∙ (λ i. after (v i) (e i .heights) heights);
+        answered = k .answers ∙ sym (then-fine v) ∙ (λ i. gives (partCounts (s i)));
+        filled = k .leaves ∙ (λ i. fillsPart (s i) t (v i));
       }
 
   -- the file of a part is read as this part
-  pub read-back : (p : Part) → PartRules p → file ≡ partFile .encode p → length (p .coords) ≤ length coords → length (p .corners) ≤ length corners → length (p .heights) ≤ length heights
-      → Holds p coords corners heights result coords′ corners′ heights′
+  pub read-back : (p : Part) → PartRules p → file ≡ partFile .encode p
+      → length (p .coords) ≤ length (t .coords) → length (p .corners) ≤ length (t .corners) → length (p .heights) ≤ length (t .heights) → Holds p
   read-back p rules e a b c =
       let h : partOf file ≡ holds p = ap partOf e ∙ part-read-back p rules in
-      filled p (held-part file coords corners heights p h) (fine-verdict file coords corners heights p h (room-of _ _ _ _ _ _ a b c))
+      given h (fine-verdict file (partSizesOf t) h (room-of (partSizesOf p) (partSizesOf t) a b c))
 
   -- what was read is a part, and its file was read
-  pub read-written : Bytes file → (a b c : ℕ) → result ≡ Counts a b c → (p : Part) × PartRules p × (file ≡ partFile .encode p) × Holds p coords corners heights result coords′ corners′ heights′
-  read-written bytes a b c e = by (partOf file) refl
-    where
-      fine : all file coords corners heights ≡ Fine
-      fine = counts-fine (all file coords corners heights) (held (partOf file)) a b c (sym e ∙ k .answers)
+  pub read-written : Bytes file → {v : ℕ × ℕ × ℕ} → tellParted result ≡ gives v → (p : Part) × PartRules p × (file ≡ partFile .encode p) × Holds p
+  read-written bytes e =
+      let v = given-verdict k e .0 in
+      let q = fine-part file (partSizesOf t) v in
+      let w = part-written file (q .0) bytes (q .1) in
+      (q .0, w .0, w .1, given (q .1) v)
 
-      by : (d : Decoded Part) → partOf file ≡ d → (p : Part) × PartRules p × (file ≡ partFile .encode p) × Holds p coords corners heights result coords′ corners′ heights′
-      by (holds p) h = let w = part-written file p bytes h in (p, w .0, w .1, filled p (held-part file coords corners heights p h) fine)
-      by (broken place) h = refused-apart (sym (broken-verdict file coords corners heights place h) ∙ fine)
+  -- refusal 13 is that of the file's format
+  pub broken-exactly : (place : ℕ) → (tellParted result ≡ refuses (refusal 13 place)) ↔ (partOf file ≡ broken place)
+  broken-exactly place = (
+    (λ e. verdict-broken file (partSizesOf t) place .0 (refused-verdict k e)),
+    (λ e. k .answers ∙ sym (then-refused _ (broken-verdict file (partSizesOf t) e))),
+  )
 
   -- 13 exactly if the file is not the file of some part
-  pub broken-exactly : Bytes file → ((place : ℕ) × (result ≡ Turned (File place))) ↔ ((p : Part) → PartRules p → file ≡ partFile .encode p → ⊥)
-  unfolding answer
-  broken-exactly bytes = (
-    (λ e p rules f. sound (e .0) (e .1) p (ap partOf f ∙ part-read-back p rules)),
-    (λ n. by n (partOf file) refl),
-  )
+  pub unwritten-exactly : Bytes file
+      → ((place : ℕ) × (tellParted result ≡ refuses (refusal 13 place))) ↔ ((p : Part) → PartRules p → file ≡ partFile .encode p → ⊥)
+  unwritten-exactly bytes = (to, (λ h. by h (partOf file) refl))
     where
-      sound : (place : ℕ) → result ≡ Turned (File place) → (p : Part) → partOf file ≡ holds p → ⊥
-      sound place e p h = room-or-not (fits file coords corners heights p h) refl
-        where
-          said : all file coords corners heights ≡ Refused (File place)
-          said = turned-refused (all file coords corners heights) (held (partOf file)) (File place) (sym e ∙ k .answers)
+      to : (place : ℕ) × (tellParted result ≡ refuses (refusal 13 place)) → (p : Part) → PartRules p → file ≡ partFile .encode p → ⊥
+      to q p rules w =
+          let e = broken-exactly (q .0) .0 (q .1) in
+          let f = ap partOf w ∙ part-read-back p rules in
+          let z : _≡_ {A = ℕ} 0 1 = cc in omega arith
 
-          room-or-not : (b : Bool) → fits file coords corners heights p h ≡ b → ⊥
-          room-or-not true f = refused-apart (sym said ∙ fine-verdict file coords corners heights p h f)
-          room-or-not false f =
-              let q : Refused (File place) ≡ Refused (Room 0) = sym said ∙ short-verdict file coords corners heights p h f in
-              let z : _≡_ {A = ℕ} 0 1 = cc in
-              omega arith
-
-      by : ((p : Part) → PartRules p → file ≡ partFile .encode p → ⊥) → (d : Decoded Part) → partOf file ≡ d → (place : ℕ) × (result ≡ Turned (File place))
+      by : ((p : Part) → PartRules p → file ≡ partFile .encode p → ⊥) → (d : Decoded Part) → partOf file ≡ d
+          → (place : ℕ) × (tellParted result ≡ refuses (refusal 13 place))
+      by n (broken place) h = (place, broken-exactly place .1 h)
       by n (holds p) h = let w = part-written file p bytes h in absurd (n p (w .0) (w .1))
-      by n (broken place) h = (place, k .answers ∙ (unfold answer in (ap (λ (v : Verdict). answer v (held (partOf file))) (broken-verdict file coords corners heights place h))))

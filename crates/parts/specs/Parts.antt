@@ -1,65 +1,82 @@
 -- Read part of document 01: its refusals in order, what it answers, and what it leaves in the three lent tables.
-use Prim.Native.Nat.{ℕ, _+_}
-use mathlib.Core.Path.{_≡_}
-use mathlib.Core.Bool.{Bool, false, not, _&&_}
+use Prim.Native.Nat.{ℕ}
+use mathlib.Core.Bool.{Bool, not, _&&_}
 use mathlib.Core.List.{List, [], _∷_}
-use lib.Dec.{leb, eqb}
+use lib.Dec.{leb}
 use lib.ListN.{length}
-use lib.IntN.{ℤ}
-use Rattle.laws.specs.Tables.{overwrite}
-use Rattle.mesh.specs.Refusals.{Condition, whole, verdict}
-use Rattle.mesh.specs.declared.Refusal.the-variants.{Room, File}
-use Rattle.mesh.specs.declared.Verdict.{Verdict}
-use Rattle.mesh.specs.declared.Verdict.the-variants.{Fine, Refused}
-use Rattle.formats.specs.Formats.{Decoded, holds, broken}
+use lib.IntN.{ℤ, pos}
+use Rattle.mesh.specs.Operation.{Answer, gives, refuses, Finding, Condition, whole, after, Operation, Does}
+use Rattle.mesh.specs.Refusals.{Told, refusal, numbered, toldOf}
 use Rattle.formats.specs.PartFile.{Part, countsOf, partOf}
+use Rattle.formats.specs.WholeFiles.{form, held}
 use Rattle.parts.specs.declared.Parted.{Parted}
 use Rattle.parts.specs.declared.Parted.the-variants.{Counts, Refused as Turned}
 
--- ---- 13: the first byte of the first value that is cut short, too long or over 32 bits, or the first byte left over; for a missing value the file's length
+-- ---- three tables, as a part has them
 
-unfoldable pub brokenAt : Decoded Part → ℕ → Bool
-brokenAt (holds p) i = false
-brokenAt (broken place) i = eqb i place
+-- the three as a record
+abbrev pub part : List ℤ → List ℕ → List ℤ → Part
+part coords corners heights = record { coords = coords; corners = corners; heights = heights }
 
-abbrev pub form : List ℕ → Condition
-form file = record { refusal = File; places = length file + 1; fits = brokenAt (partOf file) }
+-- how many entries each has
+pub record PartSizes : Type 0 where
+  pub coords : ℕ
+  pub corners : ℕ
+  pub heights : ℕ
 
--- ---- 9: a table has fewer entries than the file has numbers for it, that is three for each vertex or triangle and one for each height
+-- the three lengths as a record
+abbrev pub partSizes : ℕ → ℕ → ℕ → PartSizes
+partSizes coords corners heights = record { coords = coords; corners = corners; heights = heights }
 
-unfoldable pub roomFor : ℕ → ℕ → ℕ → ℕ → ℕ → ℕ → Bool
-roomFor coordCount cornerCount heightCount coords corners heights = leb coordCount coords && leb cornerCount corners && leb heightCount heights
+-- those of three tables
+abbrev pub partSizesOf : Part → PartSizes
+partSizesOf p = partSizes (length (p .coords)) (length (p .corners)) (length (p .heights))
 
-abbrev pub room : Part → ℕ → ℕ → ℕ → Condition
-room p coords corners heights = whole Room (not (roomFor (length (p .coords)) (length (p .corners)) (length (p .heights)) coords corners heights))
+-- ---- 9
 
--- ---- the refusals in order
+-- tables of t entries have room for n
+unfoldable pub partRoom : PartSizes → PartSizes → Bool
+partRoom n t = leb (n .coords) (t .coords) && leb (n .corners) (t .corners) && leb (n .heights) (t .heights)
 
--- what a file holds; one that is refused holds nothing
-unfoldable pub held : Decoded Part → Part
-held (holds p) = p
-held (broken place) = record { coords = []; corners = []; heights = [] }
+-- 9: a table has fewer entries than the file has numbers for it, that is three for each vertex or triangle and one for each height
+abbrev pub noPartRoom : Part → PartSizes → Condition Told
+noPartRoom p t = whole (refusal 9) (not (partRoom (partSizesOf p) t))
 
-abbrev pub refusals : List ℕ → List ℤ → List ℕ → List ℤ → List Condition
-refusals file coords corners heights = form file ∷ room (held (partOf file)) (length coords) (length corners) (length heights) ∷ []
+-- ---- Read part as a whole
 
--- ---- the answer
+-- the part in a file; where the bytes are no part file an empty one, which decides nothing, as 13 comes first
+abbrev pub partIn : List ℕ → Part
+partIn file = held (part [] [] []) (partOf file)
 
--- the counts of vertices, triangles and heights, or the refusal
-unfoldable pub answer : Verdict → Part → Parted
-answer Fine p = Counts (countsOf p .0) (countsOf p .1) (length (p .heights))
-answer (Refused r) p = Turned r
+-- its refusals in order, for tables of so many entries
+abbrev pub partTests : List ℕ → PartSizes → List (Condition Told)
+partTests file t = form file (partOf file) ∷ noPartRoom (partIn file) t ∷ []
 
--- ---- what is written
+-- the counts of vertices, triangles and heights
+abbrev pub partCounts : Part → ℕ × ℕ × ℕ
+partCounts p = (countsOf p .0, countsOf p .1, length (p .heights))
 
--- a lent table after the call: its first entries filled and unused ones as before; after a refusal all as before
-unfoldable pub after : {A : Type 0} → Verdict → List A → List A → List A
-after Fine filled table = overwrite filled table
-after (Refused r) filled table = table
+-- the part in the first entries of the tables; after a refusal all as before
+abbrev pub fillsPart : Part → Part → Finding Told → Part
+fillsPart p t f =
+    part
+    (after (numbered []) f (p .coords) 0 (pos 0) (t .coords))
+    (after (numbered []) f (p .corners) 0 0 (t .corners))
+    (after (numbered []) f (p .heights) 0 (pos 0) (t .heights))
 
--- Read part as a whole: its answer and the three tables at exit
-pub record Reads (file : List ℕ) (coords : List ℤ) (corners : List ℕ) (heights : List ℤ) (result : Parted) (coords′ : List ℤ) (corners′ : List ℕ) (heights′ : List ℤ) : Type 0 where
-  pub answers : result ≡ answer (verdict (refusals file coords corners heights)) (held (partOf file))
-  pub coords-are : coords′ ≡ after (verdict (refusals file coords corners heights)) (held (partOf file) .coords) coords
-  pub corners-are : corners′ ≡ after (verdict (refusals file coords corners heights)) (held (partOf file) .corners) corners
-  pub heights-are : heights′ ≡ after (verdict (refusals file coords corners heights)) (held (partOf file) .heights) heights
+-- Read part of a file and three tables
+abbrev pub partReading : List ℕ × Part → Operation Told (ℕ × ℕ × ℕ) Part
+partReading = λ (file, t). record {
+  refusals = partTests file (partSizesOf t);
+  values = partCounts (partIn file);
+  leaves = fillsPart (partIn file) t;
+}
+
+-- what its answer says
+abbrev pub tellParted : Parted → Answer Told (ℕ × ℕ × ℕ)
+tellParted (Counts v n k) = gives (v, n, k)
+tellParted (Turned r) = refuses (toldOf r)
+
+-- the contract of Read part
+abbrev pub ReadsPart : List ℕ → Part → Parted → Part → Type 0
+ReadsPart file t result t′ = Does partReading tellParted (file, t) result t′

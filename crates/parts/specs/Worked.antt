@@ -5,20 +5,18 @@ use Prim.Native.Nat.{ℕ}
 use lib.IntN.{ℤ, pos, negsuc}
 use Rattle.laws.specs.Least.{least, some}
 use Rattle.laws.specs.Tables.{overwrite}
-use Rattle.mesh.specs.Refusals.{test, _then_, verdict}
-use Rattle.mesh.specs.declared.Refusal.the-variants.{Room, File}
-use Rattle.mesh.specs.declared.Verdict.{Verdict}
-use Rattle.mesh.specs.declared.Verdict.the-variants.{Refused}
+use Rattle.mesh.specs.Operation.{Answer, gives, refuses, test, _then_, verdict, after, answerOf, leftBy}
+use Rattle.mesh.specs.Refusals.{Told, refusal}
 use Rattle.formats.specs.Formats.{holds, encodeAll, parseAll}
 use Rattle.formats.specs.Numbers.{groups, encodeNumber, parseNumber}
 use Rattle.formats.specs.PartFile.{Part, signedRun, plainRun, signedList, counts, tablesFor, partFile, partOf}
-use Rattle.parts.specs.declared.Parted.the-variants.{Counts}
-use Rattle.parts.specs.Parts.{brokenAt, roomFor, held, refusals, answer, after}
+use Rattle.formats.specs.WholeFiles.{brokenAt, held}
+use Rattle.parts.specs.Parts.{part, partRoom, partReading}
 
 -- ---- part P with the heights 0, 5, 10 and 11
 
-part : Part
-part =
+partP : Part
+partP =
     record {
       coords = pos 0 ∷ pos 0 ∷ pos 0 ∷ pos 10 ∷ pos 0 ∷ pos 0 ∷ pos 0 ∷ pos 10 ∷ pos 0 ∷ pos 0 ∷ pos 0 ∷ pos 10 ∷ [];
       corners = 0 ∷ 2 ∷ 1 ∷ 0 ∷ 1 ∷ 3 ∷ 0 ∷ 3 ∷ 2 ∷ 1 ∷ 2 ∷ 3 ∷ [];
@@ -43,57 +41,56 @@ corners = 0 ∷ 0 ∷ 0 ∷ 0 ∷ 0 ∷ 0 ∷ 0 ∷ 0 ∷ 0 ∷ 0 ∷ 0 ∷ 0 �
 heights : List ℤ
 heights = pos 0 ∷ pos 0 ∷ pos 0 ∷ pos 0 ∷ negsuc 6 ∷ []
 
-written : partFile .encode part ≡ file
-unfolding part file partFile tablesFor counts signedList plainRun signedRun encodeNumber groups encodeAll
+written : partFile .encode partP ≡ file
+unfolding partP file partFile tablesFor counts signedList plainRun signedRun encodeNumber groups encodeAll
 written = refl
 
-read : partOf file ≡ holds part
-unfolding part file partOf partFile tablesFor counts signedList plainRun signedRun parseNumber parseAll
+read : partOf file ≡ holds partP
+unfolding partP file partOf partFile tablesFor counts signedList plainRun signedRun parseNumber parseAll
 read = refl
 
--- Read part's verdict on a file
-abbrev on : List ℕ → List ℤ → List ℕ → List ℤ → Verdict
-on bytes a b c = verdict (refusals bytes a b c)
+-- Read part's answer to a call
+abbrev on : List ℕ → Part → Answer Told (ℕ × ℕ × ℕ)
+on bytes t = answerOf (partReading (bytes, t))
 
-answered : answer (on file coords corners heights) (held (partOf file)) ≡ Counts 4 4 4
-unfolding coords corners heights file answer held verdict _then_ test some least brokenAt roomFor partOf partFile tablesFor counts signedList plainRun signedRun parseNumber parseAll
+answered : on file (part coords corners heights) ≡ gives (4, 4, 4)
+unfolding coords corners heights file held verdict _then_ test some least brokenAt partRoom
+    partOf partFile tablesFor counts signedList plainRun signedRun parseNumber parseAll
 answered = refl
 
-coordsAfter : after (on file coords corners heights) (held (partOf file) .coords) coords ≡ part .coords ++ (negsuc 6 ∷ [])
-unfolding part coords corners heights file after overwrite held verdict _then_ test some least brokenAt roomFor partOf partFile tablesFor counts signedList plainRun signedRun parseNumber parseAll
-coordsAfter = refl
-
-cornersAfter : after (on file coords corners heights) (held (partOf file) .corners) corners ≡ part .corners ++ (7 ∷ [])
-unfolding part coords corners heights file after overwrite held verdict _then_ test some least brokenAt roomFor partOf partFile tablesFor counts signedList plainRun signedRun parseNumber parseAll
-cornersAfter = refl
-
-heightsAfter : after (on file coords corners heights) (held (partOf file) .heights) heights ≡ part .heights ++ (negsuc 6 ∷ [])
-unfolding part coords corners heights file after overwrite held verdict _then_ test some least brokenAt roomFor partOf partFile tablesFor counts signedList plainRun signedRun parseNumber parseAll
-heightsAfter = refl
+filled : leftBy (partReading (file, part coords corners heights))
+    ≡ part (partP .coords ++ (negsuc 6 ∷ [])) (partP .corners ++ (7 ∷ [])) (partP .heights ++ (negsuc 6 ∷ []))
+unfolding partP coords corners heights file after overwrite held verdict _then_ test some least brokenAt partRoom
+    partOf partFile tablesFor counts signedList plainRun signedRun parseNumber parseAll
+filled = refl
 
 -- ---- refusals
 
+abbrev none : Part
+none = part [] [] []
+
 -- bytes 80 00: refusal 13, place 0
-needless : on (0x80 ∷ 0x00 ∷ []) coords corners heights ≡ Refused (File 0)
+needless : on (0x80 ∷ 0x00 ∷ []) (part coords corners heights) ≡ refuses (refusal 13 0)
 unfolding verdict _then_ test some least brokenAt partOf partFile tablesFor counts signedList plainRun signedRun parseNumber parseAll
 needless = refl
 
 -- a count of heights that is missing has the file's length as its place, and 13 comes before 9
-missing : on (0x01 ∷ 0x00 ∷ 0x02 ∷ 0x01 ∷ 0x00 ∷ []) [] [] [] ≡ Refused (File 5)
+missing : on (0x01 ∷ 0x00 ∷ 0x02 ∷ 0x01 ∷ 0x00 ∷ []) none ≡ refuses (refusal 13 5)
 unfolding verdict _then_ test some least brokenAt partOf partFile tablesFor counts signedList plainRun signedRun parseNumber parseAll
 missing = refl
 
 -- the first byte left over
-leftOver : on (0x00 ∷ 0x00 ∷ 0x00 ∷ 0x05 ∷ 0x06 ∷ []) [] [] [] ≡ Refused (File 3)
+leftOver : on (0x00 ∷ 0x00 ∷ 0x00 ∷ 0x05 ∷ 0x06 ∷ []) none ≡ refuses (refusal 13 3)
 unfolding verdict _then_ test some least brokenAt partOf partFile tablesFor counts signedList plainRun signedRun parseNumber parseAll
 leftOver = refl
 
 -- as many vertices as 32 bits can tell, of which the first coordinate is missing
-mostTold : on (0xFF ∷ 0xFF ∷ 0xFF ∷ 0xFF ∷ 0x0F ∷ 0x00 ∷ []) [] [] [] ≡ Refused (File 6)
+mostTold : on (0xFF ∷ 0xFF ∷ 0xFF ∷ 0xFF ∷ 0x0F ∷ 0x00 ∷ []) none ≡ refuses (refusal 13 6)
 unfolding verdict _then_ test some least brokenAt partOf partFile tablesFor counts signedList plainRun signedRun parseNumber parseAll
 mostTold = refl
 
 -- P without a fourth height's entry
-short : on file coords corners (pos 0 ∷ pos 0 ∷ pos 0 ∷ []) ≡ Refused (Room 0)
-unfolding coords corners file held verdict _then_ test some least brokenAt roomFor partOf partFile tablesFor counts signedList plainRun signedRun parseNumber parseAll
+short : on file (part coords corners (pos 0 ∷ pos 0 ∷ pos 0 ∷ [])) ≡ refuses (refusal 9 0)
+unfolding coords corners file held verdict _then_ test some least brokenAt partRoom
+    partOf partFile tablesFor counts signedList plainRun signedRun parseNumber parseAll
 short = refl

@@ -1,4 +1,4 @@
-// Internal: the two passes over a part file. One finds its tables and checks every value, the other fills the lent tables.
+// The two passes over a part file. One finds its tables and checks every value, the other fills the lent tables.
 ghost use mathlib.Core.Path.{_≡_};
 ghost use Prim.Native.Nat.{_≤_};
 ghost use lib.ListN.{length};
@@ -37,7 +37,7 @@ pub enum Found {
 // How far so many numbers of 32 bits go, plain ones or those that stand for signed ones.
 fn check_run(file: &[u8], at: usize, count: usize) -> Extent
     requires { ⌜ at ≤ length (now file) ⌝ }
-    ensures { λ r. ⌜ r ≡ extentAt (plainRun count) (now (file .entry)) at ⌝ }
+    ensures { λ r. ⌜ r ≡ extentAt (plainRun count) (file .entry .now) at ⌝ }
 {
     let mut i = at;
     let mut left = count;
@@ -55,7 +55,7 @@ fn check_run(file: &[u8], at: usize, count: usize) -> Extent
 // Finds the heights, which start at a position: their count, and then they and nothing else up to the file's end.
 fn find_heights(file: &[u8], coords: Run, corners: Run, at: usize) -> Found
     requires { ⌜ Tabled (now file) coords corners at ⌝ }
-    ensures { λ r. ⌜ Finds (now (file .entry)) r ⌝ }
+    ensures { λ r. ⌜ Finds (file .entry .now) r ⌝ }
 {
     let n = read_number(file, at, WORD);
     let Number::Value(h, next) = n else {
@@ -82,7 +82,7 @@ fn find_heights(file: &[u8], coords: Run, corners: Run, at: usize) -> Found
 // Finds so many coordinates, so many corners and the heights, from a position on.
 fn find_tables(file: &[u8], coords: usize, corners: usize, at: usize) -> Found
     requires { ⌜ Counted (now file) coords corners at ⌝ }
-    ensures { λ r. ⌜ Finds (now (file .entry)) r ⌝ }
+    ensures { λ r. ⌜ Finds (file .entry .now) r ⌝ }
 {
     let e = check_run(file, at, coords);
     match e {
@@ -106,7 +106,7 @@ fn find_tables(file: &[u8], coords: usize, corners: usize, at: usize) -> Found
 
 // The first pass: the tables of a part file, or its refusal.
 pub fn find_part(file: &[u8]) -> Found
-    ensures { λ r. ⌜ Finds (now (file .entry)) r ⌝ }
+    ensures { λ r. ⌜ Finds (file .entry .now) r ⌝ }
 {
     let n = read_number(file, 0, WORD);
     let Number::Value(v, a) = n else {
@@ -130,7 +130,7 @@ fn signed_word(m: u64) -> i32
 // Fills the front of a table with signed numbers that were checked.
 pub fn fill_signed(file: &[u8], run: Run, table: &mut [i32])
     requires { ⌜ Fits signedRun (now file) run (now table) ⌝ }
-    ensures { λ r. ⌜ now (table .exit) ≡ overwrite (valuesOf signedRun (now (file .entry)) run) (now (table .entry)) ⌝ }
+    ensures { λ r. ⌜ table .exit .now ≡ overwrite (valuesOf signedRun (file .entry .now) run) (table .entry .now) ⌝ }
 {
     let mut i = run.at;
     let mut k: usize = 0;
@@ -151,7 +151,7 @@ pub fn fill_signed(file: &[u8], run: Run, table: &mut [i32])
 // Fills the front of a table with corners that were checked.
 pub fn fill_corners(file: &[u8], run: Run, corners: &mut [u32])
     requires { ⌜ Fits plainRun (now file) run (now corners) ⌝ }
-    ensures { λ r. ⌜ now (corners .exit) ≡ overwrite (valuesOf plainRun (now (file .entry)) run) (now (corners .entry)) ⌝ }
+    ensures { λ r. ⌜ corners .exit .now ≡ overwrite (valuesOf plainRun (file .entry .now) run) (corners .entry .now) ⌝ }
 {
     let mut i = run.at;
     let mut c: usize = 0;

@@ -1,6 +1,6 @@
 // Read part: a part file, read into three lent tables.
 ghost use mathlib.Core.Path.{_≡_};
-ghost use Rattle.parts.specs.Parts.{roomFor, Reads};
+ghost use Rattle.parts.specs.Parts.{part, partSizes, partRoom, ReadsPart};
 use crate::internal::Found;
 use crate::internal::fill_corners;
 use crate::internal::fill_signed;
@@ -17,7 +17,7 @@ pub enum Parted {
 
 // Whether n coordinates, m corners and k heights have room in tables of these lengths.
 fn room_for(n: usize, m: usize, k: usize, coords: usize, corners: usize, heights: usize) -> bool
-    ensures { λ r. ⌜ r ≡ roomFor n m k coords corners heights ⌝ }
+    ensures { λ r. ⌜ r ≡ partRoom (partSizes n m k) (partSizes coords corners heights) ⌝ }
 {
     if coords < n {
         return false;
@@ -35,7 +35,9 @@ pub fn read_part(
     corners: &mut [u32],
     heights: &mut [i32],
 ) -> Parted
-    ensures { λ r. ⌜ Reads (now (file .entry)) (now (coords .entry)) (now (corners .entry)) (now (heights .entry)) r (now (coords .exit)) (now (corners .exit)) (now (heights .exit)) ⌝ }
+    ensures { λ r. ⌜ ReadsPart (file .entry .now)
+        (part (coords .entry .now) (corners .entry .now) (heights .entry .now)) r
+        (part (coords .exit .now) (corners .exit .now) (heights .exit .now)) ⌝ }
 {
     let f = find_part(file);
     match f {

@@ -12,31 +12,33 @@ use mir.Syntax.{w32}
 use mir.Val.{toZ, ofZ}
 use Rattle.laws.specs.Tables.{overwrite}
 use Rattle.laws.specs.TableLaws.{overwrite-none, overwrite-snoc}
+use Rattle.mesh.specs.Meshes.{Mesh}
 use Rattle.points.specs.Points.{pointAt, pointsOf}
 use Rattle.points.specs.PointLaws.{points-append, length-points}
 use Rattle.points.proofs.Reading.{held-is}
 
 -- the table holds the points of the first i of k names
-pub record Written (coords : List ℤ) (corners : List ℕ) (h : ℤ) (names : List ℕ) (table₀ : List ℤ) (k : ℕ) (table : List ℤ) (i : ℕ) : Type 0 where
+pub record Written (m : Mesh) (h : ℤ) (names : List ℕ) (table₀ : List ℤ) (k : ℕ) (table : List ℤ) (i : ℕ) : Type 0 where
   pub upto : i ≤ k
   pub long : length table ≡ length table₀
-  pub holds : table ≡ overwrite (pointsOf coords corners h (take i names)) table₀
+  pub holds : table ≡ overwrite (pointsOf m h (take i names)) table₀
 
-module _ {coords : List ℤ} {corners : List ℕ} {h : ℤ} {names : List ℕ} {table₀ : List ℤ} {k : ℕ} where
-  pub written-none : Written coords corners h names table₀ k table₀ 0
+module _ {m : Mesh} {h : ℤ} {names : List ℕ} {table₀ : List ℤ} {k : ℕ} where
+  pub written-none : Written m h names table₀ k table₀ 0
   unfolding pointsOf
   written-none = record { upto = omega arith; long = refl; holds = sym (overwrite-none table₀) }
 
-  module _ {table : List ℤ} {i : ℕ} (w : Written coords corners h names table₀ k table i) where
+  module _ {table : List ℤ} {i : ℕ} (w : Written m h names table₀ k table i) where
     -- x and y are the results of two calls
-    pub written-more : (c : ℕ) (x y : ℤ) → c ≡ getD names i 0 → mag x < 2 ^ 31 → mag y < 2 ^ 31 → x ≡ pointAt coords corners h 0 c → y ≡ pointAt coords corners h 1 c
-        → i < k → k ≤ length names → 2 * k ≤ length table₀ → Written coords corners h names table₀ k (set (set table (2 * i) (toZ w32 (ofZ w32 x))) (2 * i + 1) (toZ w32 (ofZ w32 y))) (i + 1)
+    pub written-more : (c : ℕ) (x y : ℤ) → c ≡ getD names i 0 → mag x < 2 ^ 31 → mag y < 2 ^ 31 → x ≡ pointAt m h 0 c → y ≡ pointAt m h 1 c
+        → i < k → k ≤ length names → 2 * k ≤ length table₀
+        → Written m h names table₀ k (set (set table (2 * i) (toZ w32 (ofZ w32 x))) (2 * i + 1) (toZ w32 (ofZ w32 y))) (i + 1)
     unfolding pointsOf
-    written-more c x y ec fx fy ex ey l m r =
-        let p = pointsOf coords corners h (take i names) in
+    written-more c x y ec fx fy ex ey l q r =
+        let p = pointsOf m h (take i names) in
         let x′ = toZ w32 (ofZ w32 x) in
         let y′ = toZ w32 (ofZ w32 y) in
-        let n : length p ≡ 2 * i = length-points coords corners h (take i names) ∙ ap (λ (j : ℕ). 2 * j) (length-take-le i names (omega arith)) in
+        let n : length p ≡ 2 * i = length-points m h (take i names) ∙ ap (λ (j : ℕ). 2 * j) (length-take-le i names (omega arith)) in
         record {
           upto = omega arith;
           long = length-set (set table (2 * i) x′) (2 * i + 1) y′ ∙ length-set table (2 * i) x′ ∙ w .long;
@@ -45,10 +47,10 @@ module _ {coords : List ℤ} {corners : List ℕ} {h : ℤ} {names : List ℕ} {
               ∙ ap (λ (t : List ℤ). set t (2 * i + 1) y′) (overwrite-snoc p table₀ x′ (2 * i) (sym n) (omega arith))
               ∙ overwrite-snoc (p ++ (x′ ∷ [])) table₀ y′ (2 * i + 1) (omega (arith, length-append p (x′ ∷ []))) (omega arith)
               ∙ (λ j. overwrite ((p ++ (held-is fx ex j ∷ [])) ++ (held-is fy ey j ∷ [])) table₀)
-              ∙ ap (λ (t : List ℤ). overwrite t table₀) (append-assoc p _ _ ∙ sym (points-append coords corners h (take i names) (c ∷ [])))
-              ∙ ap (λ (t : List ℕ). overwrite (pointsOf coords corners h t) table₀)
+              ∙ ap (λ (t : List ℤ). overwrite t table₀) (append-assoc p _ _ ∙ sym (points-append m h (take i names) (c ∷ [])))
+              ∙ ap (λ (t : List ℕ). overwrite (pointsOf m h t) table₀)
               (ap (λ (d : ℕ). take i names ++ (d ∷ [])) ec ∙ sym (take-suc names i 0 (omega arith)) ∙ ap (λ (j : ℕ). take j names) (sym (add-one i)));
         }
 
-    pub written-all : {g : ℤ} → h ≡ g → i ≡ k → table ≡ overwrite (pointsOf coords corners g (take k names)) table₀
-    written-all e f = w .holds ∙ (λ j. overwrite (pointsOf coords corners (e j) (take (f j) names)) table₀)
+    pub written-all : {g : ℤ} → h ≡ g → i ≡ k → table ≡ overwrite (pointsOf m g (take k names)) table₀
+    written-all e f = w .holds ∙ (λ j. overwrite (pointsOf m (e j) (take (f j) names)) table₀)

@@ -1,10 +1,11 @@
--- Internal: what the tests before it establish of the corner of a mesh whose edge goes up through a height.
+-- A corner whose edge goes up through a height: what the tests of a mesh establish of it.
 use Prim.Native.Nat.{ℕ, _+_, _*_, _≤_, _<_}
 use mathlib.Core.List.{List}
 use lib.ListN.{length}
 use lib.IntN.{ℤ, pos, natAbs}
 use lib.Signed.{_≤ℤ_, _<ℤ_}
 use Rattle.mesh.specs.Corners.{largest, nextCorner, startOf, endOf, coordOf, zOf}
+use Rattle.mesh.specs.Meshes.{Mesh}
 
 -- a fraction n / d in coordinate range
 pub record Fraction (n d : ℤ) : Type 0 where
@@ -22,10 +23,12 @@ pub record Edge (u0 u1 z0 z1 h : ℤ) : Type 0 where
   pub upto : h ≤ℤ z1
 
 -- the edge of corner c goes up through h
-pub record Climbs (coords : List ℤ) (corners : List ℕ) (h : ℤ) (c : ℕ) : Type 0 where
+pub record Climbs (m : Mesh) (h : ℤ) (c : ℕ) : Type 0 where
   pub few : c < 196608
-  pub corner : c < length corners
-  pub next : nextCorner c < length corners
-  pub start-in : 3 * startOf corners c + 2 < length coords
-  pub end-in : 3 * endOf corners c + 2 < length coords
-  pub edge : (axis : ℕ) → axis ≤ 1 → Edge (coordOf coords axis (startOf corners c)) (coordOf coords axis (endOf corners c)) (zOf coords (startOf corners c)) (zOf coords (endOf corners c)) h
+  pub corner : c < length (m .corners)
+  pub next : nextCorner c < length (m .corners)
+  pub start-in : 3 * startOf (m .corners) c + 2 < length (m .coords)
+  pub end-in : 3 * endOf (m .corners) c + 2 < length (m .coords)
+  pub edge : (axis : ℕ) → axis ≤ 1
+      → Edge (coordOf (m .coords) axis (startOf (m .corners) c)) (coordOf (m .coords) axis (endOf (m .corners) c)) (zOf (m .coords) (startOf (m .corners) c))
+      (zOf (m .coords) (endOf (m .corners) c)) h

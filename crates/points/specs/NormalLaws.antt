@@ -1,4 +1,5 @@
--- Laws of "solid on the left": before rounding, and multiplied out, the way through a triangle from crossing to crossing is (−ny, nx) times a number not below zero.
+-- Laws of "solid on the left": before rounding, and multiplied out, the way through a triangle from crossing to crossing
+-- is (−ny, nx) times a number not below zero.
 use mathlib.Core.Path.{_≡_}
 use mathlib.Core.List.{[], _∷_}
 use lib.IntN.{ℤ, negℤ, _-ℤ_, _*ℤ_}

@@ -13,6 +13,7 @@ use Rattle.laws.specs.Integers.{one-zero, abs-is, abs-add, abs-sub, abs-mul, su
 use Rattle.laws.specs.Floor.{floor-is}
 use Rattle.laws.specs.Ring.{x, _⊕_, _⊖_, _⊗_, ring}
 use Rattle.mesh.specs.Corners.{largest, vertexCount, nextCorner, startOf, endOf, coordOf, zOf}
+use Rattle.mesh.specs.Meshes.{Mesh}
 use Rattle.mesh.specs.Tests.{Whole}
 use Rattle.mesh.specs.TestLaws.{next-below}
 use Rattle.points.specs.Points.{numerator, denominator, rounded, exactOver, exactUnder, pointAt, pointsOf}
@@ -54,7 +55,21 @@ module _ (u0 u1 z0 z1 h : ℤ) where
       let p = u0 *ℤ (z1 -ℤ h) in
       let q = u1 *ℤ (h -ℤ z0) in
       let s : natAbs (z1 -ℤ z0) ≡ natAbs (z1 -ℤ h) + natAbs (h -ℤ z0) =
-      omega (arith, le-in l, le-in m, diff z1 z0, diff z1 h, diff h z0, abs-is (z1 -ℤ z0), abs-is (z1 -ℤ h), abs-is (h -ℤ z0), one-zero (z1 -ℤ z0), one-zero (z1 -ℤ h), one-zero (h -ℤ z0)) in
+      omega (
+        arith,
+        le-in l,
+        le-in m,
+        diff z1 z0,
+        diff z1 h,
+        diff h z0,
+        abs-is (z1 -ℤ z0),
+        abs-is (z1 -ℤ h),
+        abs-is (h -ℤ z0),
+        one-zero (z1 -ℤ z0),
+        one-zero
+            (z1 -ℤ h),
+        one-zero (h -ℤ z0),
+      ) in
       omega (
         arith,
         ap natAbs parts,
@@ -87,13 +102,13 @@ edge-point e = let f = edge-fraction e in rounded-in _ _ largest (f .positive) (
 -- ---- the crossing of a corner
 
 -- what the tests 1, 2 and 3 say of a mesh, and two comparisons
-pub climbs-of : (coords : List ℤ) (corners : List ℕ) → Whole (length corners) → ((i : ℕ) → i < length coords → natAbs (getD coords i (pos 0)) ≤ largest)
-    → ((c : ℕ) → c < length corners → startOf corners c < vertexCount coords)
-    → (h : ℤ) (c : ℕ) → c < length corners → zOf coords (startOf corners c) <ℤ h → h ≤ℤ zOf coords (endOf corners c) → Climbs coords corners h c
-climbs-of coords corners w range vertices h c l below upto =
-    let n : nextCorner c < length corners = next-below (length corners) c (w .threes) l in
-    let a : 3 * startOf corners c + 2 < length coords = omega (arith, vertices c l) in
-    let b : 3 * endOf corners c + 2 < length coords = omega (arith, vertices (nextCorner c) n) in
+pub climbs-of : (m : Mesh) → Whole (length (m .corners)) → ((i : ℕ) → i < length (m .coords) → natAbs (getD (m .coords) i (pos 0)) ≤ largest)
+    → ((c : ℕ) → c < length (m .corners) → startOf (m .corners) c < vertexCount (m .coords))
+    → (h : ℤ) (c : ℕ) → c < length (m .corners) → zOf (m .coords) (startOf (m .corners) c) <ℤ h → h ≤ℤ zOf (m .coords) (endOf (m .corners) c) → Climbs m h c
+climbs-of m w range vertices h c l below upto =
+    let n : nextCorner c < length (m .corners) = next-below (length (m .corners)) c (w .threes) l in
+    let a : 3 * startOf (m .corners) c + 2 < length (m .coords) = omega (arith, vertices c l) in
+    let b : 3 * endOf (m .corners) c + 2 < length (m .coords) = omega (arith, vertices (nextCorner c) n) in
     record {
       few = omega (arith, w .few);
       corner = l;
@@ -102,64 +117,67 @@ climbs-of coords corners w range vertices h c l below upto =
       end-in = b;
       edge = λ axis k.
           record {
-            u0-in = range (3 * startOf corners c + axis) (omega arith);
-            u1-in = range (3 * endOf corners c + axis) (omega arith);
-            z0-in = range (3 * startOf corners c + 2) a;
-            z1-in = range (3 * endOf corners c + 2) b;
+            u0-in = range (3 * startOf (m .corners) c + axis) (omega arith);
+            u1-in = range (3 * endOf (m .corners) c + axis) (omega arith);
+            z0-in = range (3 * startOf (m .corners) c + 2) a;
+            z1-in = range (3 * endOf (m .corners) c + 2) b;
             below = below;
             upto = upto;
           };
     }
 
 -- the same by the tests of the code: the start is below h, and the end is not
-pub climbs-by : (coords : List ℤ) (corners : List ℕ) → Whole (length corners) → ((i : ℕ) → i < length coords → natAbs (getD coords i (pos 0)) ≤ largest)
-    → ((c : ℕ) → c < length corners → startOf corners c < vertexCount coords)
-    → (h : ℤ) (c : ℕ) → c < length corners → ltZ (zOf coords (startOf corners c)) h ≡ true → ltZ (zOf coords (endOf corners c)) h ≡ false → Climbs coords corners h c
-climbs-by coords corners w range vertices h c l e f =
-    climbs-of coords corners w range vertices h c l (ltZ-yes (subst T (sym e) tt)) (ltZ-no (subst (λ (b : Bool). T (not b)) (sym f) tt))
+pub climbs-by : (m : Mesh) → Whole (length (m .corners)) → ((i : ℕ) → i < length (m .coords) → natAbs (getD (m .coords) i (pos 0)) ≤ largest)
+    → ((c : ℕ) → c < length (m .corners) → startOf (m .corners) c < vertexCount (m .coords))
+    → (h : ℤ) (c : ℕ) → c < length (m .corners) → ltZ (zOf (m .coords) (startOf (m .corners) c)) h ≡ true
+    → ltZ (zOf (m .coords) (endOf (m .corners) c)) h ≡ false → Climbs m h c
+climbs-by m w range vertices h c l e f =
+    climbs-of m w range vertices h c l (ltZ-yes (subst T (sym e) tt)) (ltZ-no (subst (λ (b : Bool). T (not b)) (sym f) tt))
 
-module _ (coords : List ℤ) (corners : List ℕ) (h : ℤ) where
+module _ (m : Mesh) (h : ℤ) where
   -- the exact crossing by the two ends of the edge
-  module _ (c a b : ℕ) (ea : startOf corners c ≡ a) (eb : endOf corners c ≡ b) where
-    pub over-of : (axis : ℕ) → exactOver coords corners h axis c ≡ numerator (coordOf coords axis a) (coordOf coords axis b) (zOf coords a) (zOf coords b) h
+  module _ (c a b : ℕ) (ea : startOf (m .corners) c ≡ a) (eb : endOf (m .corners) c ≡ b) where
+    pub over-of : (axis : ℕ)
+        → exactOver m h axis c ≡ numerator (coordOf (m .coords) axis a) (coordOf (m .coords) axis b) (zOf (m .coords) a) (zOf (m .coords) b) h
     unfolding exactOver
-    over-of axis = λ i. numerator (coordOf coords axis (ea i)) (coordOf coords axis (eb i)) (zOf coords (ea i)) (zOf coords (eb i)) h
+    over-of axis = λ i. numerator (coordOf (m .coords) axis (ea i)) (coordOf (m .coords) axis (eb i)) (zOf (m .coords) (ea i)) (zOf (m .coords) (eb i)) h
 
-    pub under-of : exactUnder coords corners c ≡ denominator (zOf coords a) (zOf coords b)
+    pub under-of : exactUnder m c ≡ denominator (zOf (m .coords) a) (zOf (m .coords) b)
     unfolding exactUnder
-    under-of = λ i. denominator (zOf coords (ea i)) (zOf coords (eb i))
+    under-of = λ i. denominator (zOf (m .coords) (ea i)) (zOf (m .coords) (eb i))
 
-  module _ (c : ℕ) (t : Climbs coords corners h c) where
-    fraction : (axis : ℕ) → axis ≤ 1 → Fraction (exactOver coords corners h axis c) (exactUnder coords corners c)
+  module _ (c : ℕ) (t : Climbs m h c) where
+    fraction : (axis : ℕ) → axis ≤ 1 → Fraction (exactOver m h axis c) (exactUnder m c)
     unfolding exactOver exactUnder
     fraction axis k = edge-fraction (t .edge axis k)
 
-    pub under-positive : pos 0 <ℤ exactUnder coords corners c
+    pub under-positive : pos 0 <ℤ exactUnder m c
     under-positive = fraction 0 (omega arith) .positive
 
     -- at most half a unit from the exact crossing, multiplied out
-    pub point-near : (axis : ℕ) → 2 * natAbs (exactUnder coords corners c *ℤ pointAt coords corners h axis c -ℤ exactOver coords corners h axis c) ≤ natAbs (exactUnder coords corners c)
+    pub point-near : (axis : ℕ) → 2 * natAbs (exactUnder m c *ℤ pointAt m h axis c -ℤ exactOver m h axis c) ≤ natAbs (exactUnder m c)
     unfolding pointAt
-    point-near axis = rounded-near (exactOver coords corners h axis c) (exactUnder coords corners c) under-positive
+    point-near axis = rounded-near (exactOver m h axis c) (exactUnder m c) under-positive
 
-    pub point-in : (axis : ℕ) → axis ≤ 1 → natAbs (pointAt coords corners h axis c) ≤ largest
+    pub point-in : (axis : ℕ) → axis ≤ 1 → natAbs (pointAt m h axis c) ≤ largest
     unfolding pointAt
-    point-in axis k = rounded-in (exactOver coords corners h axis c) (exactUnder coords corners c) largest under-positive (fraction axis k .inside)
+    point-in axis k = rounded-in (exactOver m h axis c) (exactUnder m c) largest under-positive (fraction axis k .inside)
 
   -- ---- the points of a list of names
 
-  pub points-append : (cs ds : List ℕ) → pointsOf coords corners h (cs ++ ds) ≡ pointsOf coords corners h cs ++ pointsOf coords corners h ds
+  pub points-append : (cs ds : List ℕ) → pointsOf m h (cs ++ ds) ≡ pointsOf m h cs ++ pointsOf m h ds
   unfolding pointsOf
   points-append [] ds = refl
-  points-append (c ∷ cs) ds = ap (λ (l : List ℤ). pointAt coords corners h 0 c ∷ pointAt coords corners h 1 c ∷ l) (points-append cs ds)
+  points-append (c ∷ cs) ds = ap (λ (l : List ℤ). pointAt m h 0 c ∷ pointAt m h 1 c ∷ l) (points-append cs ds)
 
-  pub length-points : (names : List ℕ) → length (pointsOf coords corners h names) ≡ 2 * length names
+  pub length-points : (names : List ℕ) → length (pointsOf m h names) ≡ 2 * length names
   unfolding pointsOf
   length-points [] = refl
   length-points (c ∷ names) = omega (arith, length-points names)
 
   -- entry 2 i + axis is that coordinate of name i
-  pub points-at : (names : List ℕ) (i axis : ℕ) → i < length names → axis ≤ 1 → getD (pointsOf coords corners h names) (2 * i + axis) (pos 0) ≡ pointAt coords corners h axis (getD names i 0)
+  pub points-at : (names : List ℕ) (i axis : ℕ) → i < length names → axis ≤ 1
+      → getD (pointsOf m h names) (2 * i + axis) (pos 0) ≡ pointAt m h axis (getD names i 0)
   unfolding pointsOf
   points-at [] i axis l k = absurd (not-suc-le-zero l)
   points-at (c ∷ names) zero zero l k = refl
@@ -167,21 +185,22 @@ module _ (coords : List ℤ) (corners : List ℕ) (h : ℤ) where
   points-at (c ∷ names) zero (suc (suc axis)) l k = absurd (omega arith)
   points-at (c ∷ names) (suc i) axis l k =
       let e : 2 * suc i + axis ≡ suc (suc (2 * i + axis)) = omega arith in
-      ap (λ (j : ℕ). getD (pointsOf coords corners h (c ∷ names)) j (pos 0)) e ∙ points-at names i axis (le-of-suc-le-suc l) k
+      ap (λ (j : ℕ). getD (pointsOf m h (c ∷ names)) j (pos 0)) e ∙ points-at names i axis (le-of-suc-le-suc l) k
 
-  pub points-x : (names : List ℕ) (i : ℕ) → i < length names → getD (pointsOf coords corners h names) (2 * i) (pos 0) ≡ pointAt coords corners h 0 (getD names i 0)
+  pub points-x : (names : List ℕ) (i : ℕ) → i < length names → getD (pointsOf m h names) (2 * i) (pos 0) ≡ pointAt m h 0 (getD names i 0)
   points-x names i l =
       let e : 2 * i ≡ 2 * i + 0 = omega arith in
-      ap (λ (j : ℕ). getD (pointsOf coords corners h names) j (pos 0)) e ∙ points-at names i 0 l (omega arith)
+      ap (λ (j : ℕ). getD (pointsOf m h names) j (pos 0)) e ∙ points-at names i 0 l (omega arith)
 
-  pub points-y : (names : List ℕ) (i : ℕ) → i < length names → getD (pointsOf coords corners h names) (2 * i + 1) (pos 0) ≡ pointAt coords corners h 1 (getD names i 0)
+  pub points-y : (names : List ℕ) (i : ℕ) → i < length names → getD (pointsOf m h names) (2 * i + 1) (pos 0) ≡ pointAt m h 1 (getD names i 0)
   points-y names i l = points-at names i 1 l (omega arith)
 
   -- all in coordinate range
-  pub points-in : (names : List ℕ) → ((i : ℕ) → i < length names → Climbs coords corners h (getD names i 0)) → (j : ℕ) → j < length (pointsOf coords corners h names) → natAbs (getD (pointsOf coords corners h names) j (pos 0)) ≤ largest
+  pub points-in : (names : List ℕ) → ((i : ℕ) → i < length names → Climbs m h (getD names i 0)) → (j : ℕ) → j < length (pointsOf m h names)
+      → natAbs (getD (pointsOf m h names) j (pos 0)) ≤ largest
   points-in names t j l =
       let e : 2 * (j / 2) + j % 2 ≡ j = omega arith in
       let i : j / 2 < length names = omega (arith, length-points names) in
       let k : j % 2 ≤ 1 = omega arith in
-      subst (λ (n : ℕ). natAbs (getD (pointsOf coords corners h names) n (pos 0)) ≤ largest) e
+      subst (λ (n : ℕ). natAbs (getD (pointsOf m h names) n (pos 0)) ≤ largest) e
       (rw (points-at names (j / 2) (j % 2) i k) (point-in (getD names (j / 2) 0) (t (j / 2) i) (j % 2) k))

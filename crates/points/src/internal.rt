@@ -6,6 +6,7 @@ ghost use Prim.Native.Nat.{ℕ, _+_, _*_, _≤_, _<_};
 ghost use lib.ListN.{length, getD, take};
 ghost use Rattle.laws.specs.Tables.{overwrite};
 ghost use Rattle.mesh.specs.Corners.{coordOf};
+ghost use Rattle.mesh.specs.Meshes.{mesh};
 ghost use Rattle.points.specs.Points.{numerator, denominator, rounded, pointAt, pointsOf};
 ghost use Rattle.points.specs.Climbs.{Fraction, Edge, Climbs};
 
@@ -35,7 +36,7 @@ fn meet(u0: i32, u1: i32, z0: i32, z1: i32, h: i32) -> i32
 // Coordinate 0, 1 or 2 of vertex v.
 fn coordinate(coords: &[i32], axis: usize, v: usize) -> i32
     requires { ⌜ 3 * v + axis < length (now coords) ⌝ }
-    ensures { λ r. ⌜ r ≡ coordOf (now (coords .entry)) axis v ⌝ }
+    ensures { λ r. ⌜ r ≡ coordOf (coords .entry .now) axis v ⌝ }
 {
     let i = 3 * v + axis;
     coords[i]
@@ -43,8 +44,8 @@ fn coordinate(coords: &[i32], axis: usize, v: usize) -> i32
 
 // x (axis 0) or y (axis 1) of the point of corner c.
 pub fn crossing(coords: &[i32], corners: &[u32], h: i32, axis: usize, c: usize) -> i32
-    requires { ⌜ axis ≤ 1 ⌝ ∗ ⌜ Climbs (now coords) (now corners) h c ⌝ }
-    ensures { λ r. ⌜ r ≡ pointAt (now (coords .entry)) (now (corners .entry)) h axis c ⌝ }
+    requires { ⌜ axis ≤ 1 ⌝ ∗ ⌜ Climbs (mesh (now coords) (now corners)) h c ⌝ }
+    ensures { λ r. ⌜ r ≡ pointAt (mesh (coords .entry .now) (corners .entry .now)) h axis c ⌝ }
 {
     let n = next_corner(c);
     let a = wide(corners[c]);
@@ -65,8 +66,10 @@ pub fn put_points(
     points: &mut [i32],
     k: usize,
 )
-    requires { ⌜ (k ≤ length (now names)) × (2 * k ≤ length (now points)) ⌝ ∗ ⌜ ((i : ℕ) → i < k → Climbs (now coords) (now corners) h (getD (now names) i 0)) ⌝ }
-    ensures { λ _. ⌜ now (points .exit) ≡ overwrite (pointsOf (now (coords .entry)) (now (corners .entry)) h (take k (now (names .entry)))) (now (points .entry)) ⌝ }
+    requires { ⌜ (k ≤ length (now names)) × (2 * k ≤ length (now points)) ⌝
+        ∗ ⌜ ((i : ℕ) → i < k → Climbs (mesh (now coords) (now corners)) h (getD (now names) i 0)) ⌝ }
+    ensures { λ _. ⌜ points .exit .now
+        ≡ overwrite (pointsOf (mesh (coords .entry .now) (corners .entry .now)) h (take k (names .entry .now))) (points .entry .now) ⌝ }
 {
     let mut i: usize = 0;
     while i < k {

@@ -1,2 +1,2 @@
-// Points: where the edges of a mesh meet a height: internal, for the cutter.
+// Points: where the edges of a mesh meet a height, for the cutter.
 pub mod internal;

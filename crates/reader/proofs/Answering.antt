@@ -6,15 +6,16 @@ use Prim.Native.Nat.{ℕ, _-_, _*_, _/_, _<_, _≤_, _^_}
 use native.Mathlib.Omega.{arith}
 use lib.Dec.{leb}
 use lib.ListN.{length, drop}
-use lib.IntN.{ℤ}
+use lib.IntN.{pos}
 use lib.Signed.{mag}
 use borrow.Author.Tests.{lt-leb, le-leb, leb-true}
 use Rattle.laws.specs.Booleans.{and-parts}
-use Rattle.mesh.specs.Refusals.{verdict}
+use Rattle.laws.specs.Tables.{overwrite}
+use Rattle.mesh.specs.Operation.{gives, refuses, verdict}
+use Rattle.mesh.specs.OperationLaws.{does-refuse, does-give, after-fine}
+use Rattle.mesh.specs.Refusals.{refusal, numbered, toldOf}
 use Rattle.mesh.specs.declared.Refusal.{Refusal}
-use Rattle.mesh.specs.declared.Refusal.the-variants.{Room}
-use Rattle.mesh.specs.declared.Verdict.{Verdict}
-use Rattle.mesh.specs.declared.Verdict.the-variants.{Refused}
+use Rattle.polygons.specs.Flat.{FlatLayer, flat, flatOf}
 use Rattle.formats.specs.Formats.{Parse, parsed, refused, holds, broken, placed, parseAll, sequence}
 use Rattle.formats.specs.FormatLaws.{finished-in}
 use Rattle.formats.specs.LayerFile.{Layer, mostLayers, contourList, layer, lowest, heightOf, layerFile, layersOf}
@@ -23,25 +24,25 @@ use Rattle.formats.specs.Positions.{numberAt}
 use Rattle.formats.specs.PositionLaws.{took, not-took}
 use Rattle.formats.specs.SequenceLaws.{parsed-length}
 use Rattle.formats.specs.declared.Number.the-variants.{Value, Bad}
-use Rattle.checking.specs.Answers.{final}
 use Rattle.checking.specs.AnswerLaws.{told-parsed}
-use Rattle.reader.specs.Reading.{held, layersIn, layerAt, pointsOf, endsFrom, roomFor, fits, refusals, answer, after, Reads}
-use Rattle.reader.specs.ReadingLaws.{verdict-short, verdict-fine}
-use Rattle.reader.specs.Places.{Stands, Searched, Ready, contoursFrom, FillLayer, FilledLayer}
+use Rattle.formats.specs.WholeFileLaws.{held-is}
+use Rattle.reader.specs.Reading.{layersIn, layerAt, Entries, entries, entriesOf, layerRoom, layerHasRoom, readingTests, fillsLayer, ReadsLayer}
+use Rattle.reader.specs.ReadingLaws.{verdict-short, verdict-fine, refused-keeps}
+use Rattle.reader.specs.Places.{Stands, lastLayers, Searched, Ready, contoursFrom, FillLayer, filledLayer}
 use Rattle.reader.specs.declared.Place.{Place}
 use Rattle.reader.specs.declared.Search.the-variants.{Found, Missing, Broken}
 use Rattle.reader.specs.declared.Reading.the-variants.{Layer as Read, Refused as Turned}
 
 -- ---- room
 
-module _ (contours points pointEntries endEntries : ℕ) where
-  pub room-1 : pointEntries / 2 < points → false ≡ roomFor contours points pointEntries endEntries
-  unfolding roomFor
-  room-1 h = simp (lt-leb (2 * points) pointEntries (omega arith))
+module _ (contours points : ℕ) (n : Entries) where
+  pub room-1 : n .points / 2 < points → false ≡ layerRoom contours points n
+  unfolding layerRoom
+  room-1 h = simp (lt-leb (2 * points) (n .points) (omega arith))
 
-  pub room-2 : points ≤ pointEntries / 2 → leb contours endEntries ≡ roomFor contours points pointEntries endEntries
-  unfolding roomFor
-  room-2 h = simp (le-leb (2 * points) pointEntries (omega arith))
+  pub room-2 : points ≤ n .points / 2 → leb contours (n .ends) ≡ layerRoom contours points n
+  unfolding layerRoom
+  room-2 h = simp (le-leb (2 * points) (n .points) (omega arith))
 
 -- ---- the layers of a file, by their count
 
@@ -49,21 +50,22 @@ pub no-count : (file : List ℕ) → numberAt mostLayers file 0 ≡ Bad → laye
 unfolding layersOf layerFile
 no-count file e = let p = not-took mostLayers file 0 e in simp p (ap broken (omega arith))
 
-module _ (file : List ℕ) (n start : ℕ) (e : numberAt mostLayers file 0 ≡ Value n start) where
-  by-count : layersOf file ≡ placed (length file) ((final (sequence layer heightOf n lowest)) .parse (drop start file))
+module _ (file : List ℕ) {n start : ℕ} (e : numberAt mostLayers file 0 ≡ Value n start) where
+  by-count : layersOf file ≡ placed (length file) (lastLayers n lowest file start)
   unfolding layersOf layerFile
-  by-count = let p = took mostLayers file 0 n start e .parses in simp p
+  by-count = let p = took e .parses in simp p
 
   module _ (i : ℕ) where
-    pub searched-broken : (q : ℕ) → Searched file i ((final (sequence layer heightOf n lowest)) .parse (drop start file)) (Broken q) → layersOf file ≡ broken q
-    searched-broken q w = by-count ∙ by ((final (sequence layer heightOf n lowest)) .parse (drop start file)) w
+    pub searched-broken : {q : ℕ} → Searched file i (lastLayers n lowest file start) (Broken q) → layersOf file ≡ broken q
+    searched-broken {q} w = by-count ∙ by (lastLayers n lowest file start) w
       where
         by : (d : Parse (List Layer)) → Searched file i d (Broken q) → placed (length file) d ≡ broken q
         by (parsed ls r) w = absurd w
         by (refused r) w = let z : length file - length r ≡ q = cc in ap broken z
 
-    pub searched-missing : Searched file i ((final (sequence layer heightOf n lowest)) .parse (drop start file)) Missing → (ls : List Layer) × (layersOf file ≡ holds ls) × (length ls ≤ i)
-    searched-missing w = let q = by ((final (sequence layer heightOf n lowest)) .parse (drop start file)) w in (q .0, by-count ∙ q .1, q .2)
+    pub searched-missing : Searched file i (lastLayers n lowest file start) Missing
+        → (ls : List Layer) × (layersOf file ≡ holds ls) × (length ls ≤ i)
+    searched-missing w = let q = by (lastLayers n lowest file start) w in (q .0, by-count ∙ q .1, q .2)
       where
         by : (d : Parse (List Layer)) → Searched file i d Missing → (ls : List Layer) × (placed (length file) d ≡ holds ls) × (length ls ≤ i)
         by (parsed ls r) w = (ls, refl, w)
@@ -77,10 +79,10 @@ module _ (file : List ℕ) (n start : ℕ) (e : numberAt mostLayers file 0 ≡ V
       pub there : i < length ls
       pub place : Stands file (layerAt ls i) p
 
-    pub searched-found : (p : Place) → Searched file i ((final (sequence layer heightOf n lowest)) .parse (drop start file)) (Found p) → Held p
-    searched-found p w = by ((final (sequence layer heightOf n lowest)) .parse (drop start file)) refl w
+    pub searched-found : {p : Place} → Searched file i (lastLayers n lowest file start) (Found p) → Held p
+    searched-found {p} w = by (lastLayers n lowest file start) refl w
       where
-        by : (d : Parse (List Layer)) → (final (sequence layer heightOf n lowest)) .parse (drop start file) ≡ d → Searched file i d (Found p) → Held p
+        by : (d : Parse (List Layer)) → lastLayers n lowest file start ≡ d → Searched file i d (Found p) → Held p
         by (parsed ls r) q w =
             let j = finished-in (parseAll layer heightOf n lowest (drop start file)) ls r q in
             record {
@@ -94,45 +96,44 @@ module _ (file : List ℕ) (n start : ℕ) (e : numberAt mostLayers file 0 ≡ V
 
 -- ---- the tests
 
-module _ (file : List ℕ) (i points ends : ℕ) where
-  module _ (n start : ℕ) (e : numberAt mostLayers file 0 ≡ Value n start) (p : Place) (h : Held file n start e i p) where
-    same-room : roomFor (p .contours) (p .points) points ends ≡ fits (layerAt (h .ls) i) points ends
-    same-room = λ j. roomFor (h .place .contours j) (h .place .points j) points ends
+module _ {file : List ℕ} {i : ℕ} (n : Entries) where
+  module _ {count start : ℕ} {e : numberAt mostLayers file 0 ≡ Value count start} {p : Place} (h : Held file e i p) where
+    abbrev found : Layer
+    found = layerAt (h .ls) i
 
-    pub refused-short : roomFor (p .contours) (p .points) points ends ≡ false → verdict (refusals file i points ends) ≡ Refused (Room 0)
-    refused-short t = verdict-short file i points ends (h .ls) (h .holding) (h .there) (sym same-room ∙ t)
+    same-room : layerRoom (p .contours) (p .points) n ≡ layerHasRoom found n
+    same-room = λ j. layerRoom (h .place .contours j) (h .place .points j) n
 
-    pub ready : roomFor (p .contours) (p .points) points ends ≡ true → Ready file i points ends n p
-    unfolding roomFor
+    pub refused-short : layerRoom (p .contours) (p .points) n ≡ false → verdict (readingTests file i n) ≡ refuses (refusal 9 0)
+    refused-short t = verdict-short file i n (h .holding) (h .there) (sym same-room ∙ t)
+
+    pub ready : layerRoom (p .contours) (p .points) n ≡ true → Ready file i n count p
+    unfolding layerRoom
     ready t =
-        let s : h .ls ≡ layersIn file = sym (ap held (h .holding)) in
-        let r = and-parts (leb (2 * pointTotal (layerAt (h .ls) i .contours)) points) (leb (length (layerAt (h .ls) i .contours)) ends) (sym same-room ∙ t) in
+        let s : h .ls ≡ layersIn file = sym (held-is [] (h .holding)) in
+        let r = and-parts (leb (2 * pointTotal (found .contours)) (n .points)) (leb (length (found .contours)) (n .ends)) (sym same-room ∙ t) in
+        let long : 2 * pointTotal (found .contours) ≤ n .points = leb-true _ _ (r .0) in
+        let wide : length (found .contours) ≤ n .ends = leb-true _ _ (r .1) in
         record {
-          fine = verdict-fine file i points ends (h .ls) (h .holding) (h .there) (sym same-room ∙ t);
+          passed = verdict-fine file i n (h .holding) (h .there) (sym same-room ∙ t);
           counted = sym (h .counted) ∙ ap length s;
           place = subst (λ (ls : List Layer). Stands file (layerAt ls i) p) s (h .place);
-          points-long = subst (λ (ls : List Layer). 2 * pointTotal (layerAt ls i .contours) ≤ points) s (leb-true (2 * pointTotal (layerAt (h .ls) i .contours)) points (r .0));
-          ends-long = subst (λ (ls : List Layer). length (layerAt ls i .contours) ≤ ends) s (leb-true (length (layerAt (h .ls) i .contours)) ends (r .1));
+          points-long = subst (λ (ls : List Layer). 2 * pointTotal (layerAt ls i .contours) ≤ n .points) s long;
+          ends-long = subst (λ (ls : List Layer). length (layerAt ls i .contours) ≤ n .ends) s wide;
         }
 
 -- ---- the whole operation
 
 -- the height has 32 bits
-pub height-fits : {file : List ℕ} {i points ends n : ℕ} {p : Place} → Ready file i points ends n p → mag (p .height) < 2 ^ 31
+pub height-fits : {file : List ℕ} {i : ℕ} {n : Entries} {count : ℕ} {p : Place} → Ready file i n count p → mag (p .height) < 2 ^ 31
 height-fits w = rw (w .place .height) (w .place .word)
 
-module _ {file : List ℕ} {i : ℕ} {points : List ℤ} {ends : List ℕ} where
-  pub reads-refused : (r : Refusal) → verdict (refusals file i (length points) (length ends)) ≡ Refused r → Reads file i points ends (Turned r) points ends
-  unfolding answer after
-  reads-refused r v =
-      record {
-        answers = ap (λ (v : Verdict). answer v (layersIn file) i) (sym v);
-        fills-points = ap (λ (v : Verdict). after v (pointsOf (layerAt (layersIn file) i .contours)) points) (sym v);
-        fills-ends = ap (λ (v : Verdict). after v (endsFrom 0 (layerAt (layersIn file) i .contours)) ends) (sym v);
-      }
+module _ {file : List ℕ} {i : ℕ} {t : FlatLayer} where
+  pub reads-refused : {r : Refusal} → verdict (readingTests file i (entriesOf t)) ≡ refuses (toldOf r) → ReadsLayer file i t (Turned r) t
+  reads-refused {r} v = does-refuse refl v refl (refused-keeps (layerAt (layersIn file) i) t (toldOf r))
 
-  module _ (n : ℕ) (p : Place) (w : Ready file i (length points) (length ends) n p) where
-    pub fill-ready : FillLayer file (p .at) points ends
+  module _ {count : ℕ} {p : Place} (w : Ready file i (entriesOf t) count p) where
+    pub fill-ready : FillLayer file (p .at) t
     fill-ready =
         record {
           inside = w .place .inside;
@@ -143,16 +144,14 @@ module _ {file : List ℕ} {i : ℕ} {points : List ℤ} {ends : List ℕ} where
           ends-long = w .ends-long;
         }
 
-    pub reads-layer : (points′ : List ℤ) (ends′ : List ℕ) → FilledLayer file (p .at) points ends points′ ends′ → Reads file i points ends (Read n (p .height) (p .contours) (p .points)) points′ ends′
-    unfolding answer after
-    reads-layer points′ ends′ f =
-        let v = w .fine in
-        let s : contoursFrom file (p .at) ≡ layerAt (layersIn file) i .contours =
-        sym (told-parsed (λ cs next. cs) (λ q. []) contourList file (p .at) (layerAt (layersIn file) i .contours) (w .place .next) (w .place .stands)) in
-        record {
-          answers =
-              (λ j. Read (w .counted j) (w .place .height j) (w .place .contours j) (w .place .points j))
-              ∙ ap (λ (v : Verdict). answer v (layersIn file) i) (sym v);
-          fills-points = f .points-table ∙ (λ j. after (sym v j) (pointsOf (s j)) points);
-          fills-ends = f .ends-table ∙ (λ j. after (sym v j) (endsFrom 0 (s j)) ends);
-        }
+    pub reads-layer : {t′ : FlatLayer} → t′ ≡ filledLayer file (p .at) t → ReadsLayer file i t (Read count (p .height) (p .contours) (p .points)) t′
+    reads-layer f =
+        let l = layerAt (layersIn file) i in
+        let s : contoursFrom file (p .at) ≡ l .contours =
+        sym (told-parsed (λ cs next. cs) (λ q. []) contourList file (p .at) (l .contours) (w .place .next) (w .place .stands)) in
+        does-give refl (w .passed) (λ j. gives (w .counted j, w .place .height j, w .place .contours j, w .place .points j))
+        (f
+        ∙ (λ j. flat (overwrite (flatOf (s j) .points) (t .points)) (overwrite (flatOf (s j) .ends) (t .ends)))
+        ∙ (λ j. flat
+        (after-fine (numbered []) (flatOf (l .contours) .points) 0 (pos 0) (t .points) j)
+        (after-fine (numbered []) (flatOf (l .contours) .ends) 0 0 (t .ends) j)))

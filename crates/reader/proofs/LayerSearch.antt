@@ -7,12 +7,12 @@ use native.Mathlib.Nat.{add-zero}
 use lib.ListN.{length, drop, length-append}
 use lib.Seq.{getD-append-add}
 use lib.IntN.{ℤ, pos}
-use Rattle.formats.specs.Formats.{Parse, parsed, refused, Format, andThen, mapped, finished, parseAll, sequence}
+use Rattle.formats.specs.Formats.{Parse, parsed, refused, Format, andThen, mapped, finished, parseAll, state, sequence}
 use Rattle.formats.specs.FormatLaws.{finished-in}
 use Rattle.formats.specs.LayerFile.{Point, Layer, layer, heightOf}
-use Rattle.formats.specs.Positions.{extentAt}
-use Rattle.formats.specs.PositionLaws.{ParsedAt, stopped}
-use Rattle.formats.specs.SequenceLaws.{state, parse-split, parsed-length}
+use Rattle.formats.specs.Positions.{extentAt, ParsedAt}
+use Rattle.formats.specs.PositionLaws.{stopped}
+use Rattle.formats.specs.SequenceLaws.{parse-split, parsed-length}
 use Rattle.formats.specs.declared.Extent.the-variants.{End, Refused}
 use Rattle.checking.specs.Answers.{heightAt, countsAt, levelsAt, final}
 use Rattle.checking.specs.AnswerLaws.{height-read, height-word, Off, Counted, counts-read, levels-read, final-off, height-inside, layer-read}
@@ -20,7 +20,7 @@ use Rattle.checking.specs.declared.Height.the-variants.{Above}
 use Rattle.checking.specs.declared.Counts.the-variants.{End as CountsEnd}
 use Rattle.checking.specs.declared.Levels.the-variants.{End as LevelsEnd}
 use Rattle.reader.specs.Reading.{layerAt}
-use Rattle.reader.specs.Places.{Stands, Searched}
+use Rattle.reader.specs.Places.{Stands, lastLayers, Searched}
 use Rattle.reader.specs.declared.Place.{Place}
 use Rattle.reader.specs.declared.Search.{Search}
 use Rattle.reader.specs.declared.Search.the-variants.{Found, Missing, Broken}
@@ -32,7 +32,8 @@ finished-mapped f (parsed a []) = refl
 finished-mapped f (parsed a (b ∷ r)) = refl
 finished-mapped f (refused r) = refl
 
-extent-end : {A : Type 0} (F : Format A) (file : List ℕ) (at i : ℕ) → extentAt F file at ≡ End i → (a : A) × (r : List ℕ) × (F .parse (drop at file) ≡ parsed a r)
+extent-end : {A : Type 0} (F : Format A) (file : List ℕ) (at i : ℕ) → extentAt F file at ≡ End i
+    → (a : A) × (r : List ℕ) × (F .parse (drop at file) ≡ parsed a r)
 unfolding extentAt
 extent-end {A} F file at i e = by (F .parse (drop at file)) refl
   where
@@ -51,18 +52,19 @@ module _ (more : ℕ) (low : ℤ) (file : List ℕ) (at : ℕ) where
   unfolding parseAll
   first-off e o = let p = o .parses in record { rest = o .rest; parses = simp p; place = o .place }
 
-  pub first-stops : (e : ℕ) → Off (layer low) file at e → Searched file 0 ((final (sequence layer heightOf (suc more) low)) .parse (drop at file)) (Broken e)
-  first-stops e o =
+  pub first-stops : {e : ℕ} → Off (layer low) file at e → Searched file 0 (lastLayers (suc more) low file at) (Broken e)
+  first-stops {e} o =
       searched-off (final (sequence layer heightOf (suc more) low)) file at 0 e
       (final-off (sequence layer heightOf (suc more) low) file at e (first-off e o))
 
   module _ (l : Layer) (next : ℕ) (p : ParsedAt (layer low) file at l next) where
-    after-first : (final (sequence layer heightOf (suc more) low)) .parse (drop at file) ≡ mapped (λ ls. l ∷ ls) ((final (sequence layer heightOf more (l .height))) .parse (drop next file))
+    after-first : lastLayers (suc more) low file at
+        ≡ mapped (λ ls. l ∷ ls) (lastLayers more (l .height) file next)
     unfolding parseAll
     after-first = let q = p .parses in simp q (finished-mapped (λ ls. l ∷ ls) (parseAll layer heightOf more (l .height) (drop next file)))
 
     rest-stops : (e : ℕ) → extentAt (final (sequence layer heightOf more (l .height))) file next ≡ Refused e
-        → Searched file 0 ((final (sequence layer heightOf (suc more) low)) .parse (drop at file)) (Broken e)
+        → Searched file 0 (lastLayers (suc more) low file at) (Broken e)
     rest-stops e f =
         let s = stopped (final (sequence layer heightOf more (l .height))) file next e f in
         let q = s .1 in
@@ -70,15 +72,16 @@ module _ (more : ℕ) (low : ℤ) (file : List ℕ) (at : ℕ) where
         (record { rest = s .0; parses = after-first ∙ simp q; place = s .2 })
 
     first-stands : (e : ℕ) (s : Place) → extentAt (final (sequence layer heightOf more (l .height))) file next ≡ End e → Stands file l s
-        → Searched file 0 ((final (sequence layer heightOf (suc more) low)) .parse (drop at file)) (Found s)
+        → Searched file 0 (lastLayers (suc more) low file at) (Found s)
     first-stands e s f t =
         let q = extent-end (final (sequence layer heightOf more (l .height))) file next e f in
         let u = q .2 in
-        let v : (final (sequence layer heightOf (suc more) low)) .parse (drop at file) ≡ parsed (l ∷ q .0) (q .1) = after-first ∙ simp u in
+        let v : lastLayers (suc more) low file at ≡ parsed (l ∷ q .0) (q .1) = after-first ∙ simp u in
         subst (λ (d : Parse (List Layer)). Searched file 0 d (Found s)) (sym v) (omega arith, t)
 
 -- the same by what the code has read: the height z, and the counts of contours and points
-module _ (more : ℕ) (low : ℤ) (file : List ℕ) (at : ℕ) (h : at ≤ length file) (z : ℤ) (j : ℕ) (e : heightAt low file at ≡ Above z j) (next k m : ℕ) (f : countsAt file j ≡ CountsEnd next k m) where
+module _ (more : ℕ) (low : ℤ) (file : List ℕ) (at : ℕ) (h : at ≤ length file) {z : ℤ} {j : ℕ} (e : heightAt low file at ≡ Above z j)
+    {next k m : ℕ} (f : countsAt file j ≡ CountsEnd next k m) where
   body : (cs : List (List Point)) × Counted file j cs next k m
   body = counts-read file j (height-inside low file at h z j e) next k m f
 
@@ -88,14 +91,16 @@ module _ (more : ℕ) (low : ℤ) (file : List ℕ) (at : ℕ) (h : at ≤ lengt
   one : ParsedAt (layer low) file at (record { height = z; contours = body .0 }) next
   one = layer-read low file at h z j e (body .0) next k m (body .1)
 
-  module _ (x : ℤ) (same : x ≡ z) (i : ℕ) where
-    pub last-stops : extentAt (final (sequence layer heightOf more x)) file next ≡ Refused i → Searched file 0 ((final (sequence layer heightOf (suc more) low)) .parse (drop at file)) (Broken i)
+  module _ {x : ℤ} (same : x ≡ z) {i : ℕ} where
+    pub last-stops : extentAt (final (sequence layer heightOf more x)) file next ≡ Refused i
+        → Searched file 0 (lastLayers (suc more) low file at) (Broken i)
     last-stops g =
         rest-stops more low file at (record { height = z; contours = body .0 }) next one i
         (subst (λ (y : ℤ). extentAt (final (sequence layer heightOf more y)) file next ≡ Refused i) same g)
 
     pub last-passes : extentAt (final (sequence layer heightOf more x)) file next ≡ End i
-        → Searched file 0 ((final (sequence layer heightOf (suc more) low)) .parse (drop at file)) (Found (record { height = x; at = j; contours = k; points = m }))
+        → Searched file 0 (lastLayers (suc more) low file at)
+        (Found (record { height = x; at = j; contours = k; points = m }))
     last-passes g =
         first-stands more low file at (record { height = z; contours = body .0 }) next one i (record { height = x; at = j; contours = k; points = m })
         (subst (λ (y : ℤ). extentAt (final (sequence layer heightOf more y)) file next ≡ End i) same g)
@@ -113,31 +118,34 @@ module _ (more : ℕ) (low : ℤ) (file : List ℕ) (at : ℕ) (h : at ≤ lengt
 
 module _ (n i : ℕ) (low : ℤ) (file : List ℕ) (at : ℕ) where
   split : i ≤ n → (d : Parse (List Layer)) → parseAll layer heightOf i low (drop at file) ≡ d
-      → (final (sequence layer heightOf n low)) .parse (drop at file) ≡ finished (andThen d (λ xs r. mapped (λ ys. xs ++ ys) (parseAll layer heightOf (n - i) (state layer heightOf low xs) r)))
+      → lastLayers n low file at
+      ≡ finished (andThen d (λ xs r. mapped (λ ys. xs ++ ys) (parseAll layer heightOf (n - i) (state layer heightOf low xs) r)))
   split h d e =
       let z : i + (n - i) ≡ n = omega arith in
       ap (λ (k : ℕ). finished (parseAll layer heightOf k low (drop at file))) (sym z)
       ∙ ap finished (parse-split layer heightOf i (n - i) low (drop at file))
-      ∙ ap (λ (d : Parse (List Layer)). finished (andThen d (λ xs r. mapped (λ ys. xs ++ ys) (parseAll layer heightOf (n - i) (state layer heightOf low xs) r)))) e
+      ∙ ap (λ (d : Parse (List Layer)). finished (andThen d
+      (λ xs r. mapped (λ ys. xs ++ ys) (parseAll layer heightOf (n - i) (state layer heightOf low xs) r)))) e
 
-  pub before-stops : i < n → (e : ℕ) → Off (sequence layer heightOf i low) file at e → Searched file i ((final (sequence layer heightOf n low)) .parse (drop at file)) (Broken e)
-  before-stops h e o =
+  pub before-stops : i < n → {e : ℕ} → Off (sequence layer heightOf i low) file at e
+      → Searched file i (lastLayers n low file at) (Broken e)
+  before-stops h {e} o =
       searched-off (final (sequence layer heightOf n low)) file at i e
       (record { rest = o .rest; parses = split (omega arith) (refused (o .rest)) (o .parses); place = o .place })
 
   -- layer 0 of those after the first i
   after-before : i < n → (xs : List Layer) (next : ℕ) → ParsedAt (sequence layer heightOf i low) file at xs next
-      → (s : Search) → Searched file 0 ((final (sequence layer heightOf (suc (n - i - 1)) (state layer heightOf low xs))) .parse (drop next file)) s
-      → Searched file i ((final (sequence layer heightOf n low)) .parse (drop at file)) s
+      → (s : Search) → Searched file 0 (lastLayers (suc (n - i - 1)) (state layer heightOf low xs) file next) s
+      → Searched file i (lastLayers n low file at) s
   after-before h xs next p s w =
       let z : suc (n - i - 1) ≡ n - i = omega arith in
       let k : length xs ≡ i = parsed-length layer heightOf i low (drop at file) xs (drop next file) (p .parses) in
-      let e : (final (sequence layer heightOf n low)) .parse (drop at file) ≡ mapped (λ ys. xs ++ ys) ((final (sequence layer heightOf (suc (n - i - 1)) (state layer heightOf low xs))) .parse (drop next file)) =
+      let e : lastLayers n low file at ≡ mapped (λ ys. xs ++ ys) (lastLayers (suc (n - i - 1)) (state layer heightOf low xs) file next) =
       split (omega arith) (parsed xs (drop next file)) (p .parses)
       ∙ finished-mapped (λ ys. xs ++ ys) (parseAll layer heightOf (n - i) (state layer heightOf low xs) (drop next file))
-      ∙ ap (λ (m : ℕ). mapped (λ ys. xs ++ ys) (finished (parseAll layer heightOf m (state layer heightOf low xs) (drop next file)))) (sym z) in
+      ∙ ap (λ (m : ℕ). mapped (λ ys. xs ++ ys) (lastLayers m (state layer heightOf low xs) file next)) (sym z) in
       subst (λ (d : Parse (List Layer)). Searched file i d s) (sym e)
-      (by k ((final (sequence layer heightOf (suc (n - i - 1)) (state layer heightOf low xs))) .parse (drop next file)) s w)
+      (by k (lastLayers (suc (n - i - 1)) (state layer heightOf low xs) file next) s w)
     where
       by : length xs ≡ i → (d : Parse (List Layer)) (s : Search) → Searched file 0 d s → Searched file i (mapped (λ ys. xs ++ ys) d) s
       by k (refused r) s w = w
@@ -145,30 +153,33 @@ module _ (n i : ℕ) (low : ℤ) (file : List ℕ) (at : ℕ) where
       by k (parsed ys r) Missing w = omega (arith, length-append xs ys)
       by k (parsed ys r) (Found p) w =
           let g : layerAt ys 0 ≡ layerAt (xs ++ ys) i =
-          sym (getD-append-add xs ys 0 (record { height = pos 0; contours = [] })) ∙ ap (λ (j : ℕ). layerAt (xs ++ ys) j) (add-zero (length xs) ∙ k) in
+          sym (getD-append-add xs ys 0 (record { height = pos 0; contours = [] })) ∙ ap (layerAt (xs ++ ys)) (add-zero (length xs) ∙ k) in
           (omega (arith, w .0, length-append xs ys), subst (λ (l : Layer). Stands file l p) g (w .1))
 
   -- the same by what the code has read: the position and the height after the first i layers
-  module _ (h : at ≤ length file) (next : ℕ) (z : ℤ) (e : levelsAt i low file at ≡ LevelsEnd next z) where
+  module _ (h : at ≤ length file) {next : ℕ} {z : ℤ} (e : levelsAt i low file at ≡ LevelsEnd next z) where
     pub before-inside : next ≤ length file
     before-inside = levels-read file at i low h next z e .1 .inside
 
-    pub before-passes : i < n → (x : ℤ) → x ≡ z → (s : Search) → Searched file 0 ((final (sequence layer heightOf (suc (n - i - 1)) x)) .parse (drop next file)) s
-        → Searched file i ((final (sequence layer heightOf n low)) .parse (drop at file)) s
-    before-passes k x f s w =
+    pub before-passes : i < n → {x : ℤ} → x ≡ z → (s : Search)
+        → Searched file 0 (lastLayers (suc (n - i - 1)) x file next) s
+        → Searched file i (lastLayers n low file at) s
+    before-passes k {x} f s w =
         let q = levels-read file at i low h next z e in
         after-before k (q .0) next (q .1) s
-        (subst (λ (y : ℤ). Searched file 0 ((final (sequence layer heightOf (suc (n - i - 1)) y)) .parse (drop next file)) s) (f ∙ sym (q .2)) w)
+        (subst (λ (y : ℤ). Searched file 0 (lastLayers (suc (n - i - 1)) y file next) s) (f ∙ sym (q .2)) w)
 
   -- no layer i
-  pub none-there : n ≤ i → (e : ℕ) → extentAt (final (sequence layer heightOf n low)) file at ≡ End e → Searched file i ((final (sequence layer heightOf n low)) .parse (drop at file)) Missing
-  none-there h e f =
+  pub none-there : n ≤ i → {e : ℕ} → extentAt (final (sequence layer heightOf n low)) file at ≡ End e
+      → Searched file i (lastLayers n low file at) Missing
+  none-there h {e} f =
       let q = extent-end (final (sequence layer heightOf n low)) file at e f in
       let j = finished-in (parseAll layer heightOf n low (drop at file)) (q .0) (q .1) (q .2) in
       let k : length (q .0) ≡ n = parsed-length layer heightOf n low (drop at file) (q .0) [] (j .0) in
       subst (λ (d : Parse (List Layer)). Searched file i d Missing) (sym (q .2)) (omega arith)
 
-  pub all-stop : (e : ℕ) → extentAt (final (sequence layer heightOf n low)) file at ≡ Refused e → Searched file i ((final (sequence layer heightOf n low)) .parse (drop at file)) (Broken e)
-  all-stop e f =
+  pub all-stop : {e : ℕ} → extentAt (final (sequence layer heightOf n low)) file at ≡ Refused e
+      → Searched file i (lastLayers n low file at) (Broken e)
+  all-stop {e} f =
       let s = stopped (final (sequence layer heightOf n low)) file at e f in
       searched-off (final (sequence layer heightOf n low)) file at i e (record { rest = s .0; parses = s .1; place = s .2 })

@@ -1,11 +1,13 @@
 -- A table filled with the points of a contour, one by one: a lemma for each step of `fill_points`.
-use mathlib.Core.Path.{_≡_, refl, sym, _∙_, subst}
+use mathlib.Core.Path.{_≡_, sym, ap, _∙_, subst}
 use mathlib.Core.List.{List, [], _∷_}
 use Prim.Native.Nat.{ℕ, _+_, _*_, _-_, _<_, _≤_}
 use native.Mathlib.Omega.{arith}
 use lib.ListN.{length, drop, set}
 use lib.IntN.{ℤ, pos, natAbs}
 use Rattle.mesh.specs.Corners.{largest}
+use Rattle.polygons.specs.Flat.{numbersOf}
+use Rattle.polygons.specs.FlatLaws.{length-numbers, numbers-none, numbers-first}
 use Rattle.formats.specs.Formats.{parsed, parseAll, sequence}
 use Rattle.formats.specs.FormatLaws.{not-refused}
 use Rattle.formats.specs.LayerFile.{Point, coordinate, point, origin, latest}
@@ -17,12 +19,7 @@ use Rattle.formats.specs.EmitLaws.{Emit, emit-start, emit-one, emit-one-fits, e
 use Rattle.checking.specs.Answers.{coordinateAt}
 use Rattle.checking.specs.AnswerLaws.{told-parsed, coordinate-read, coordinate-off}
 use Rattle.checking.specs.declared.Coordinate.the-variants.{At, Bad}
-use Rattle.reader.specs.Reading.{flatten}
 use Rattle.reader.specs.Places.{pointsFrom, FillPoints, FilledPoints}
-
-pub flatten-length : (ps : List Point) → length (flatten ps) ≡ 2 * length ps
-flatten-length [] = refl
-flatten-length (p ∷ ps) = omega (arith, flatten-length ps)
 
 -- the n points at a position go to the entry `from` of a table l, which is m now: those that are left stand at i, after the point x y, and go to k
 pub record Filling (file : List ℕ) (at n : ℕ) (l : List ℤ) (from : ℕ) (m : List ℤ) (x y : ℤ) (i left k : ℕ) : Type 0 where
@@ -32,7 +29,7 @@ pub record Filling (file : List ℕ) (at n : ℕ) (l : List ℤ) (from : ℕ) (m
   pub qs : List Point
   pub rest : List ℕ
   pub parses : parseAll point latest left (record { x = x; y = y }) (drop i file) ≡ parsed qs rest
-  pub table : Emit l from (flatten (pointsFrom n file at)) m k (flatten qs)
+  pub table : Emit l from (numbersOf (pointsFrom n file at)) m k (numbersOf qs)
 
 pub filling : {file : List ℕ} {at n : ℕ} {l : List ℤ} {from : ℕ} → FillPoints file at n l from → Filling file at n l from l (pos 0) (pos 0) at n from
 filling {file} {at} {n} {l} {from} f =
@@ -45,7 +42,8 @@ filling {file} {at} {n} {l} {from} f =
       qs = f .ps;
       rest = drop (f .next) file;
       parses = f .stands .parses;
-      table = subst (λ (ps : List Point). Emit l from (flatten ps) l from (flatten (f .ps))) e (emit-start l from (flatten (f .ps)) (omega (arith, f .room, flatten-length (f .ps))));
+      table = subst (λ (ps : List Point). Emit l from (numbersOf ps) l from (numbersOf (f .ps))) e
+          (emit-start l from (numbersOf (f .ps)) (omega (arith, f .room, length-numbers (f .ps))));
     }
 
 module _ {file : List ℕ} {at n : ℕ} {l : List ℤ} {from : ℕ} {m : List ℤ} {x y : ℤ} {i left k : ℕ} (w : Filling file at n l from m x y i left k) where
@@ -54,18 +52,18 @@ module _ {file : List ℕ} {at n : ℕ} {l : List ℤ} {from : ℕ} {m : List �
       let q = none point latest left (record { x = x; y = y }) (drop i file) (w .qs) (w .rest) h (w .parses) in
       record {
         next = check-end left (w .check) h;
-        table = emit-end (subst (λ (ps : List Point). Emit l from (flatten (pointsFrom n file at)) m k (flatten ps)) (q .0) (w .table)) .1;
+        table = emit-end (subst (Emit l from (numbersOf (pointsFrom n file at)) m k) (ap numbersOf (q .0) ∙ numbers-none) (w .table)) .1;
       }
 
   module _ (h : 0 < left) where
     head : First point latest left (record { x = x; y = y }) (drop i file) (w .qs) (w .rest)
     head = first point latest left (record { x = x; y = y }) (drop i file) (w .qs) (w .rest) h (w .parses)
 
-    entries : Emit l from (flatten (pointsFrom n file at)) m k (head .value .x ∷ head .value .y ∷ flatten (head .others))
-    entries = subst (λ (ps : List Point). Emit l from (flatten (pointsFrom n file at)) m k (flatten ps)) (head .is) (w .table)
+    entries : Emit l from (numbersOf (pointsFrom n file at)) m k (head .value .x ∷ head .value .y ∷ numbersOf (head .others))
+    entries = subst (Emit l from (numbersOf (pointsFrom n file at)) m k) (ap numbersOf (head .is) ∙ numbers-first (head .value) (head .others)) (w .table)
 
     pub x-fits : k < length m
-    x-fits = emit-one-fits (head .value .x) (head .value .y ∷ flatten (head .others)) entries
+    x-fits = emit-one-fits (head .value .x) (head .value .y ∷ numbersOf (head .others)) entries
 
     pub y-fits : k + 1 < length m
     y-fits = omega (arith, entries .ends, entries .room, entries .size)
@@ -73,7 +71,7 @@ module _ {file : List ℕ} {at n : ℕ} {l : List ℤ} {from : ℕ} {m : List �
     pub x-there : coordinateAt x file i ≡ Bad → ⊥
     x-there e = not-refused (sym (point-no-x (record { x = x; y = y }) (drop i file) (coordinate-off x file i e)) ∙ head .head)
 
-    module _ (nx : ℤ) (j : ℕ) (e : coordinateAt x file i ≡ At nx j) where
+    module _ {nx : ℤ} {j : ℕ} (e : coordinateAt x file i ≡ At nx j) where
       one : ParsedAt (coordinate x) file i nx j
       one = coordinate-read x file i (w .check .inside) nx j e
 
@@ -83,7 +81,7 @@ module _ {file : List ℕ} {at n : ℕ} {l : List ℤ} {from : ℕ} {m : List �
       pub y-there : coordinateAt y file j ≡ Bad → ⊥
       y-there f = not-refused (sym (point-no-y (record { x = x; y = y }) (drop i file) nx (drop j file) (one .parses) (coordinate-off y file j f)) ∙ head .head)
 
-      module _ (ny : ℤ) (next : ℕ) (f : coordinateAt y file j ≡ At ny next) where
+      module _ {ny : ℤ} {next : ℕ} (f : coordinateAt y file j ≡ At ny next) where
         two : ParsedAt (coordinate y) file j ny next
         two = coordinate-read y file j (one .inside) ny next f
 
@@ -98,7 +96,7 @@ module _ {file : List ℕ} {at n : ℕ} {l : List ℤ} {from : ℕ} {m : List �
             let p : parsed (record { x = nx; y = ny }) (drop next file) ≡ parsed (head .value) (head .rest) = sym both ∙ head .head in
             let v : head .value ≡ record { x = nx; y = ny } = cc in
             let r : head .rest ≡ drop next file = cc in
-            let t : Emit l from (flatten (pointsFrom n file at)) m k (nx ∷ ny ∷ flatten (head .others)) = subst (λ (q : Point). Emit l from (flatten (pointsFrom n file at)) m k (q .x ∷ q .y ∷ flatten (head .others))) v entries in
+            let t = subst (λ (q : Point). Emit l from (numbersOf (pointsFrom n file at)) m k (q .x ∷ q .y ∷ numbersOf (head .others))) v entries in
             let s : k + 1 + 1 ≡ k + 2 = omega arith in
             record {
               x-in = x-near;
@@ -108,6 +106,6 @@ module _ {file : List ℕ} {at n : ℕ} {l : List ℤ} {from : ℕ} {m : List �
               rest = w .rest;
               parses = (λ i. parseAll point latest (left - 1) (sym v i) (sym r i)) ∙ head .tail;
               table =
-                  subst (λ (c : ℕ). Emit l from (flatten (pointsFrom n file at)) (set (set m k nx) (k + 1) ny) c (flatten (head .others))) s
-                  (emit-one ny (flatten (head .others)) (emit-one nx (ny ∷ flatten (head .others)) t));
+                  subst (λ (c : ℕ). Emit l from (numbersOf (pointsFrom n file at)) (set (set m k nx) (k + 1) ny) c (numbersOf (head .others))) s
+                  (emit-one ny (numbersOf (head .others)) (emit-one nx (ny ∷ numbersOf (head .others)) t));
             }

@@ -1,22 +1,22 @@
--- Internal: where a layer stands in a file, and what filling the tables from there needs and does.
+-- Where a layer stands in a file, and what filling the tables from there needs and does.
 use Prim.Native.Nat.{ℕ, _+_, _*_, _-_, _<_, _≤_}
 use mathlib.Core.Path.{_≡_}
 use mathlib.Core.List.{List, []}
-use lib.ListN.{length}
+use lib.ListN.{length, drop}
 use lib.Seq.{sets}
 use lib.IntN.{ℤ}
 use Rattle.laws.specs.Tables.{overwrite}
-use Rattle.mesh.specs.Refusals.{verdict}
-use Rattle.mesh.specs.declared.Verdict.the-variants.{Fine, Refused}
+use Rattle.mesh.specs.Operation.{refuses, fine, verdict}
+use Rattle.mesh.specs.Refusals.{toldOf}
+use Rattle.polygons.specs.Flat.{FlatLayer, flat, numbersOf, flatOf}
 use Rattle.formats.specs.Formats.{Parse, parsed, refused, sequence}
 use Rattle.formats.specs.Numbers.{Word}
-use Rattle.formats.specs.LayerFile.{Point, Layer, point, origin, latest, contourList}
+use Rattle.formats.specs.LayerFile.{Point, Layer, point, origin, latest, contourList, layer, heightOf}
 use Rattle.formats.specs.LayerRules.{pointTotal}
-use Rattle.formats.specs.Positions.{extentAt}
-use Rattle.formats.specs.PositionLaws.{ParsedAt}
+use Rattle.formats.specs.Positions.{extentAt, ParsedAt}
 use Rattle.formats.specs.declared.Extent.the-variants.{End}
-use Rattle.checking.specs.Answers.{toldAt}
-use Rattle.reader.specs.Reading.{layersIn, layerAt, flatten, pointsOf, endsFrom, refusals}
+use Rattle.checking.specs.Answers.{toldAt, final}
+use Rattle.reader.specs.Reading.{layersIn, layerAt, Entries, readingTests}
 use Rattle.reader.specs.declared.Place.{Place}
 use Rattle.reader.specs.declared.Search.{Search}
 use Rattle.reader.specs.declared.Search.the-variants.{Found, Missing, Broken}
@@ -33,6 +33,10 @@ pub record Stands (file : List ℕ) (l : Layer) (p : Place) : Type 0 where
   pub next : ℕ
   pub stands : ParsedAt contourList file (p .at) (l .contours) next
 
+-- the last n layers of a file, from a position on, the first of which lies above low
+abbrev pub lastLayers : ℕ → ℤ → List ℕ → ℕ → Parse (List Layer)
+lastLayers n low file at = (final (sequence layer heightOf n low)) .parse (drop at file)
+
 -- what a search for layer i answers, where the layers of the file are parsed so
 abbrev pub Searched : List ℕ → ℕ → Parse (List Layer) → Search → Type 0
 Searched file i (refused r) s = s ≡ Broken (length file - length r)
@@ -40,26 +44,26 @@ Searched file i (parsed ls r) (Found p) = (i < length ls) × Stands file (layerA
 Searched file i (parsed ls r) Missing = length ls ≤ i
 Searched file i (parsed ls r) (Broken q) = ⊥
 
--- the layer that is to be read, for tables of these lengths
-pub record Ready (file : List ℕ) (i points ends count : ℕ) (p : Place) : Type 0 where
-  pub fine : verdict (refusals file i points ends) ≡ Fine
+-- the layer that is to be read, for tables of so many entries
+pub record Ready (file : List ℕ) (i : ℕ) (n : Entries) (count : ℕ) (p : Place) : Type 0 where
+  pub passed : verdict (readingTests file i n) ≡ fine
   pub counted : count ≡ length (layersIn file)
   pub place : Stands file (layerAt (layersIn file) i) p
-  pub points-long : 2 * pointTotal (layerAt (layersIn file) i .contours) ≤ points
-  pub ends-long : length (layerAt (layersIn file) i .contours) ≤ ends
+  pub points-long : 2 * pointTotal (layerAt (layersIn file) i .contours) ≤ n .points
+  pub ends-long : length (layerAt (layersIn file) i .contours) ≤ n .ends
 
 -- what the tests of a call answer
-abbrev pub Located : List ℕ → ℕ → ℕ → ℕ → Location → Type 0
-Located file i points ends (At count p) = Ready file i points ends count p
-Located file i points ends (Turned r) = verdict (refusals file i points ends) ≡ Refused r
+abbrev pub Located : List ℕ → ℕ → Entries → Location → Type 0
+Located file i n (At count p) = Ready file i n count p
+Located file i n (Turned r) = verdict (readingTests file i n) ≡ refuses (toldOf r)
 
 -- ---- filling
 
--- n points from a position on
+-- n points from a position on; they stand there wherever it is asked (`FillPoints`), so the empty list decides nothing
 abbrev pub pointsFrom : ℕ → List ℕ → ℕ → List Point
 pointsFrom n = toldAt (λ ps next. ps) (λ q. []) (sequence point latest n origin)
 
--- the contours of a layer from a position on
+-- the contours of a layer from a position on, likewise (`FillLayer`)
 abbrev pub contoursFrom : List ℕ → ℕ → List (List Point)
 contoursFrom = toldAt (λ cs next. cs) (λ q. []) contourList
 
@@ -74,18 +78,19 @@ pub record FillPoints (file : List ℕ) (at n : ℕ) (points : List ℤ) (from :
 -- they were written, and stand up to r
 pub record FilledPoints (file : List ℕ) (at n : ℕ) (points : List ℤ) (from r : ℕ) (points′ : List ℤ) : Type 0 where
   pub next : End r ≡ extentAt (sequence point latest n origin) file at
-  pub table : points′ ≡ sets points from (flatten (pointsFrom n file at))
+  pub table : points′ ≡ sets points from (numbersOf (pointsFrom n file at))
 
 -- contours stand there, and the tables have room for them
-pub record FillLayer (file : List ℕ) (at : ℕ) (points : List ℤ) (ends : List ℕ) : Type 0 where
+pub record FillLayer (file : List ℕ) (at : ℕ) (t : FlatLayer) : Type 0 where
   pub inside : at ≤ length file
   pub cs : List (List Point)
   pub next : ℕ
   pub stands : ParsedAt contourList file at cs next
-  pub points-long : 2 * pointTotal cs ≤ length points
-  pub ends-long : length cs ≤ length ends
+  pub points-long : 2 * pointTotal cs ≤ length (t .points)
+  pub ends-long : length cs ≤ length (t .ends)
 
 -- they were written
-pub record FilledLayer (file : List ℕ) (at : ℕ) (points : List ℤ) (ends : List ℕ) (points′ : List ℤ) (ends′ : List ℕ) : Type 0 where
-  pub points-table : points′ ≡ overwrite (pointsOf (contoursFrom file at)) points
-  pub ends-table : ends′ ≡ overwrite (endsFrom 0 (contoursFrom file at)) ends
+abbrev pub filledLayer : List ℕ → ℕ → FlatLayer → FlatLayer
+filledLayer file at t =
+    let filled = flatOf (contoursFrom file at) in
+    flat (overwrite (filled .points) (t .points)) (overwrite (filled .ends) (t .ends))

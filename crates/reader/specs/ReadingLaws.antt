@@ -1,27 +1,34 @@
--- What Read layer promises: it refuses exactly if a listed condition holds; 13 exactly if the file is not the encoding of layers that obey the rules; and from such a file it gives the layer.
-use Prim.Native.Nat.{ℕ, _-_, _*_, _≤_, _<_}
+-- What Read layer promises: it refuses exactly if a listed condition holds, at its place; its outcome is the only one; 13 exactly if the file is not the
+-- encoding
+-- of layers that obey the rules; and from such a file it gives the layer.
+use Prim.Native.Nat.{ℕ, _*_, _≤_, _<_}
 use mathlib.Core.Path.{_≡_, refl, sym, ap, _∙_}
 use mathlib.Core.Bool.{Bool, true, false, not}
-use mathlib.Core.List.{List}
-use mathlib.Core.Logic.{_⊎_, ⊎-elim, _↔_}
+use mathlib.Core.List.{List, [], _∷_}
+use mathlib.Core.Logic.{_↔_}
 use native.Mathlib.Omega.{arith}
+use borrow.Author.Tests.{lt-leb, le-leb, leb-false}
+use lib.Dec.{leb}
 use lib.ListN.{length}
-use lib.IntN.{ℤ}
-use borrow.Author.Tests.{lt-leb, le-leb, eq-eqb, ne-eqb}
-use Rattle.laws.specs.Booleans.{and-of, split-lt}
-use Rattle.laws.specs.Tables.{overwrite}
-use Rattle.mesh.specs.Refusals.{Condition, verdict}
-use Rattle.mesh.specs.RefusalLaws.{First, here, later, more, done, Nowhere, refused-apart, first-refused, refused-first, none-fine}
-use Rattle.mesh.specs.declared.Refusal.{Refusal}
-use Rattle.mesh.specs.declared.Refusal.the-variants.{Room, File, Layer as Absent}
-use Rattle.mesh.specs.declared.Verdict.{Verdict}
-use Rattle.mesh.specs.declared.Verdict.the-variants.{Fine, Refused}
-use Rattle.formats.specs.Formats.{Parse, parsed, refused, Decoded, holds, broken, finished, placed}
+use lib.IntN.{ℤ, pos}
+use Rattle.laws.specs.Booleans.{and-of}
+use Rattle.mesh.specs.Operation.{gives, refuses, Finding, fine, Condition, whole, test, verdict}
+use Rattle.mesh.specs.OperationLaws.{First, None, more, whole-refused, whole-fine, then-refused, then-fine, verdict-one, fine-none, Recovers}
+use Rattle.mesh.specs.OperationLaws.{refused-verdict, given-verdict, refused-exactly, given-exactly, left-given, left-refused, only-outcome, after-fine}
+use Rattle.mesh.specs.OperationLaws.{after-kept}
+use Rattle.mesh.specs.Refusals.{Told, refusal, numbered}
+use Rattle.mesh.specs.RefusalLaws.{refusalOf, refusal-once}
+use Rattle.polygons.specs.Flat.{FlatLayer, flat, flatOf}
+use Rattle.formats.specs.Formats.{Decoded, holds, broken}
 use Rattle.formats.specs.FormatLaws.{Bytes}
 use Rattle.formats.specs.LayerFile.{Layer, layerFile, layersOf}
 use Rattle.formats.specs.LayerRules.{pointTotal, Rules}
 use Rattle.formats.specs.RoundTripLaws.{layers-read-back, layers-written}
-use Rattle.reader.specs.Reading.{held, layersIn, layerAt, pointsOf, endsFrom, wrongFile, noLayer, roomFor, fits, noRoom, refusals, found, answer, after, Reads}
+use Rattle.formats.specs.WholeFiles.{form, held}
+use Rattle.formats.specs.WholeFileLaws.{decode-inside, held-is, form-first, form-next, fine-holds, thirteen-exactly}
+use Rattle.reader.specs.Reading.{layersIn, layerAt, noLayer, Entries, entriesOf, layerRoom, layerHasRoom, noLayerRoom, readingTests, layerCounts}
+use Rattle.reader.specs.Reading.{fillsLayer, layerReading}
+use Rattle.reader.specs.Reading.{tellReading, ReadsLayer}
 use Rattle.reader.specs.declared.Reading.{Reading}
 use Rattle.reader.specs.declared.Reading.the-variants.{Layer as Found, Refused as Turned}
 
@@ -30,169 +37,134 @@ use Rattle.reader.specs.declared.Reading.the-variants.{Layer as Found, R
 -- 13's place lies in the file or at its end
 pub broken-inside : (file : List ℕ) (p : ℕ) → layersOf file ≡ broken p → p ≤ length file
 unfolding layersOf
-broken-inside file p e = by (finished (layerFile .parse file)) e
-  where
-    by : (d : Parse (List Layer)) → placed (length file) d ≡ broken p → p ≤ length file
-    by (parsed ls r) q = let z : _≡_ {A = ℕ} 0 1 = cc in absurd (omega arith)
-    by (refused r) q = let z : length file - length r ≡ p = cc in omega arith
+broken-inside file p e = decode-inside layerFile file p e
 
-module _ (file : List ℕ) (i points ends : ℕ) where
-  pub verdict-broken : (p : ℕ) → layersOf file ≡ broken p → verdict (refusals file i points ends) ≡ Refused (File p)
-  verdict-broken p e =
-      first-refused (refusals file i points ends) (File p)
-      (here {k = wrongFile file} p (omega (arith, broken-inside file p e)) (rw e (eq-eqb p p refl)) (λ j l. rw e (ne-eqb p j (λ (q : p ≡ j). omega arith))))
+module _ (file : List ℕ) (i : ℕ) (n : Entries) where
+  -- the refusals after 13, of these layers
+  abbrev rest : List Layer → List (Condition Told)
+  rest ls = noLayer ls i ∷ noLayerRoom (layerAt ls i) n ∷ []
 
-  module _ (ls : List Layer) (e : layersOf file ≡ holds ls) where
-    whole-file : Nowhere (wrongFile file)
-    whole-file j l = rw e refl
+  abbrev others : List (Condition Told)
+  others = rest (layersIn file)
 
-    pub verdict-absent : length ls ≤ i → verdict (refusals file i points ends) ≡ Refused (Absent 0)
-    verdict-absent h =
-        first-refused (refusals file i points ends) (Absent 0)
-        (later whole-file (here {k = noLayer file i} 0 (omega arith) (rw e (le-leb (length ls) i h)) (λ j l. absurd (omega arith))))
+  pub verdict-broken : {p : ℕ} → layersOf file ≡ broken p → verdict (readingTests file i n) ≡ refuses (refusal 13 p)
+  verdict-broken e = form-first file (layersOf file) (broken-inside file) others e
+
+  pub broken-verdict : (p : ℕ) → (verdict (readingTests file i n) ≡ refuses (refusal 13 p)) ↔ (layersOf file ≡ broken p)
+  broken-verdict = thirteen-exactly file (layersOf file) (broken-inside file) others ((λ j e. omega arith), ((λ j e. omega arith), tt))
+
+  module _ {ls : List Layer} (e : layersOf file ≡ holds ls) where
+    left : verdict (readingTests file i n) ≡ verdict (rest ls)
+    left = form-next file (layersOf file) (broken-inside file) others e ∙ ap (λ (ls : List Layer). verdict (rest ls)) (held-is [] e)
+
+    pub verdict-absent : length ls ≤ i → verdict (readingTests file i n) ≡ refuses (refusal 15 0)
+    unfolding verdict
+    verdict-absent h = left ∙ sym (then-refused _ (sym (whole-refused (refusal 15) (leb (length ls) i) (le-leb (length ls) i h))))
 
     module _ (h : i < length ls) where
-      there : Nowhere (noLayer file i)
-      there j l = rw e (lt-leb (length ls) i h)
+      there : verdict (rest ls) ≡ test (noLayerRoom (layerAt ls i) n)
+      unfolding verdict
+      there = sym (verdict-one (noLayerRoom (layerAt ls i) n) ∙ then-fine (sym (whole-fine (refusal 15) (leb (length ls) i) (lt-leb (length ls) i h))))
 
-      pub verdict-short : fits (layerAt ls i) points ends ≡ false → verdict (refusals file i points ends) ≡ Refused (Room 0)
-      verdict-short t =
-          first-refused (refusals file i points ends) (Room 0)
-          (later whole-file (later there (here {k = noRoom file i points ends} 0 (omega arith) (rw e (ap not t)) (λ j l. absurd (omega arith)))))
+      pub verdict-short : layerHasRoom (layerAt ls i) n ≡ false → verdict (readingTests file i n) ≡ refuses (refusal 9 0)
+      verdict-short t = left ∙ there ∙ sym (whole-refused (refusal 9) (not (layerHasRoom (layerAt ls i) n)) (ap not t))
 
-      pub verdict-fine : fits (layerAt ls i) points ends ≡ true → verdict (refusals file i points ends) ≡ Fine
-      verdict-fine t = none-fine (refusals file i points ends) (more whole-file (more there (more {k = noRoom file i points ends} (λ j l. rw e (ap not t)) done)))
+      pub verdict-fine : layerHasRoom (layerAt ls i) n ≡ true → verdict (readingTests file i n) ≡ fine
+      verdict-fine t = left ∙ there ∙ sym (whole-fine (refusal 9) (not (layerHasRoom (layerAt ls i) n)) (ap not t))
 
--- one of these holds
-data Case (file : List ℕ) (i points ends : ℕ) : Type 0 where
-  is-broken : (p : ℕ) → layersOf file ≡ broken p → verdict (refusals file i points ends) ≡ Refused (File p) → Case file i points ends
-  is-absent : verdict (refusals file i points ends) ≡ Refused (Absent 0) → Case file i points ends
-  is-short : verdict (refusals file i points ends) ≡ Refused (Room 0) → Case file i points ends
-  is-fine : (ls : List Layer) → layersOf file ≡ holds ls → i < length ls → verdict (refusals file i points ends) ≡ Fine → Case file i points ends
+  -- where nothing is refused, the file holds layers, and layer i is one of them
+  pub fine-there : verdict (readingTests file i n) ≡ fine → (ls : List Layer) × (layersOf file ≡ holds ls) × (i < length ls)
+  fine-there v = by (fine-holds file (layersOf file) (broken-inside file) others v) (fine-none (readingTests file i n) v)
+    where
+      by : (ls : List Layer) × (layersOf file ≡ holds ls) → None (readingTests file i n) → (ls : List Layer) × (layersOf file ≡ holds ls) × (i < length ls)
+      by q (more a (more b c)) = (q .0, q .1, omega (arith, leb-false (length (layersIn file)) i (b 0 (omega arith)), ap length (held-is [] (q .1))))
 
-case-of : (file : List ℕ) (i points ends : ℕ) → Case file i points ends
-case-of file i points ends = by (layersOf file) refl
-  where
-    room : (ls : List Layer) → layersOf file ≡ holds ls → i < length ls → (b : Bool) → fits (layerAt ls i) points ends ≡ b → Case file i points ends
-    room ls e h true t = is-fine ls e h (verdict-fine file i points ends ls e h t)
-    room ls e h false t = is-short (verdict-short file i points ends ls e h t)
+pub room-of : (l : Layer) (n : Entries) → 2 * pointTotal (l .contours) ≤ n .points → length (l .contours) ≤ n .ends → layerHasRoom l n ≡ true
+unfolding layerRoom
+room-of l n h g = and-of (le-leb (2 * pointTotal (l .contours)) (n .points) h) (le-leb (length (l .contours)) (n .ends) g)
 
-    by : (d : Decoded (List Layer)) → layersOf file ≡ d → Case file i points ends
-    by (broken p) e = is-broken p e (verdict-broken file i points ends p e)
-    by (holds ls) e =
-        ⊎-elim (λ h. room ls e h (fits (layerAt ls i) points ends) refl) (λ h. is-absent (verdict-absent file i points ends ls e h)) (split-lt i (length ls))
-
-pub room-of : (l : Layer) (points ends : ℕ) → 2 * pointTotal (l .contours) ≤ points → length (l .contours) ≤ ends → fits l points ends ≡ true
-unfolding roomFor
-room-of l points ends h g = and-of (le-leb (2 * pointTotal (l .contours)) points h) (le-leb (length (l .contours)) ends g)
-
--- ---- what an answer says of the verdict
-
-turned-refused : (v : Verdict) (ls : List Layer) (i : ℕ) (r : Refusal) → Turned r ≡ answer v ls i → v ≡ Refused r
-unfolding answer
-turned-refused Fine ls i r e = absurd (let z : _≡_ {A = ℕ} 0 1 = cc in omega arith)
-turned-refused (Refused q) ls i r e = cc
-
-found-fine : (v : Verdict) (ls : List Layer) (i n : ℕ) (h : ℤ) (k m : ℕ) → Found n h k m ≡ answer v ls i → v ≡ Fine
-unfolding answer
-found-fine Fine ls i n h k m e = refl
-found-fine (Refused q) ls i n h k m e = absurd (let z : _≡_ {A = ℕ} 0 1 = cc in omega arith)
+-- a refusal leaves both tables as they were
+pub refused-keeps : (l : Layer) (t : FlatLayer) (r : Told) → t ≡ fillsLayer l t (refuses r)
+refused-keeps l t r =
+    λ j. flat (after-kept (numbered []) (flatOf (l .contours) .points) 0 (pos 0) (t .points) r refl j)
+    (after-kept (numbered []) (flatOf (l .contours) .ends) 0 0 (t .ends) r refl j)
 
 -- ---- Read layer
 
--- the refusals of a call
-abbrev listed : List ℕ → ℕ → List ℤ → List ℕ → List Condition
-listed file i points ends = refusals file i (length points) (length ends)
+pub reading-recovers : Recovers tellReading
+reading-recovers = record {
+  back = elim [ gives v ↦ Found (v .0) (v .1) (v .2) (v .3) | refuses r ↦ Turned (refusalOf r) ];
+  once = elim [ Found n h k m ↦ refl | Turned r ↦ ap Turned (refusal-once r) ];
+}
 
-module _ {file : List ℕ} {i : ℕ} {points : List ℤ} {ends : List ℕ} {result : Reading} {points′ : List ℤ} {ends′ : List ℕ} (c : Reads file i points ends result points′ ends′) where
-  refused-by : (r : Refusal) → result ≡ Turned r → verdict (listed file i points ends) ≡ Refused r
-  refused-by r e = turned-refused (verdict (listed file i points ends)) (layersIn file) i r (sym e ∙ c .answers)
+module _ {file : List ℕ} {i : ℕ} {t : FlatLayer} {result : Reading} {t′ : FlatLayer} (c : ReadsLayer file i t result t′) where
+  -- refused exactly if a listed condition holds, the first that fits; answered exactly if none does; and one outcome only
+  pub reading-refused : (r : Told) → (tellReading result ≡ refuses r) ↔ First (readingTests file i (entriesOf t)) r
+  reading-refused = refused-exactly c
 
-  -- refused exactly if a listed condition holds, the first that fits
-  pub refused-exactly : (r : Refusal) → (result ≡ Turned r) ↔ First (refusals file i (length points) (length ends)) r
-  unfolding answer
-  refused-exactly r = (
-    (λ e. refused-first (listed file i points ends) r (refused-by r e)),
-    (λ f. c .answers ∙ ap (λ (v : Verdict). answer v (layersIn file) i) (first-refused (listed file i points ends) r f)),
-  )
+  pub reading-given : (tellReading result ≡ gives (layerCounts (layersIn file) i)) ↔ None (readingTests file i (entriesOf t))
+  reading-given = given-exactly c
+
+  pub reading-only : {other : Reading} {u′ : FlatLayer} → ReadsLayer file i t other u′ → (result ≡ other) × (t′ ≡ u′)
+  reading-only = only-outcome reading-recovers c
 
   -- both tables stay on refusal
-  pub refused-stays : (r : Refusal) → result ≡ Turned r → (points′ ≡ points) × (ends′ ≡ ends)
-  unfolding after
-  refused-stays r e =
-      let v = refused-by r e in
-      (c .fills-points ∙ (λ j. after (v j) (pointsOf (layerAt (layersIn file) i .contours)) points), c .fills-ends ∙ (λ j. after (v j) (endsFrom 0 (layerAt (layersIn file) i .contours)) ends))
+  pub refused-stays : {r : Told} → tellReading result ≡ refuses r → t′ ≡ t
+  refused-stays {r} e = left-refused c e ∙ sym (refused-keeps (layerAt (layersIn file) i) t r)
 
   -- refusal 13 is that of the file's format
-  pub broken-exactly : (p : ℕ) → (result ≡ Turned (File p)) ↔ (layersOf file ≡ broken p)
-  unfolding answer
+  pub broken-exactly : (p : ℕ) → (tellReading result ≡ refuses (refusal 13 p)) ↔ (layersOf file ≡ broken p)
   broken-exactly p = (
-    (λ e. to (refused-by (File p) e)),
-    (λ e. c .answers ∙ ap (λ (v : Verdict). answer v (layersIn file) i) (verdict-broken file i (length points) (length ends) p e)),
+    (λ e. broken-verdict file i (entriesOf t) p .0 (refused-verdict c e)),
+    (λ e. c .answers ∙ sym (then-refused _ (verdict-broken file i (entriesOf t) e))),
   )
-    where
-      to : verdict (listed file i points ends) ≡ Refused (File p) → layersOf file ≡ broken p
-      to v = by (case-of file i (length points) (length ends))
-        where
-          by : Case file i (length points) (length ends) → layersOf file ≡ broken p
-          by (is-broken q e w) = let z : q ≡ p = cc in e ∙ ap broken z
-          by (is-absent w) = let z : _≡_ {A = ℕ} 0 1 = cc in absurd (omega arith)
-          by (is-short w) = let z : _≡_ {A = ℕ} 0 1 = cc in absurd (omega arith)
-          by (is-fine ls e h w) = let z : _≡_ {A = ℕ} 0 1 = cc in absurd (omega arith)
 
   -- refused with 13 exactly if the file is not the encoding of layers that obey the rules
-  pub unwritten-exactly : Bytes file → ((p : ℕ) × (result ≡ Turned (File p))) ↔ ((ls : List Layer) → Rules ls → file ≡ layerFile .encode ls → ⊥)
-  unwritten-exactly bytes = (to, fro)
+  pub unwritten-exactly : Bytes file
+      → ((p : ℕ) × (tellReading result ≡ refuses (refusal 13 p))) ↔ ((ls : List Layer) → Rules ls → file ≡ layerFile .encode ls → ⊥)
+  unwritten-exactly bytes = (to, (λ h. by h (layersOf file) refl))
     where
-      to : (p : ℕ) × (result ≡ Turned (File p)) → (ls : List Layer) → Rules ls → file ≡ layerFile .encode ls → ⊥
+      to : (p : ℕ) × (tellReading result ≡ refuses (refusal 13 p)) → (ls : List Layer) → Rules ls → file ≡ layerFile .encode ls → ⊥
       to q ls r w =
           let e = broken-exactly (q .0) .0 (q .1) in
           let f = ap layersOf w ∙ layers-read-back ls r in
           let z : _≡_ {A = ℕ} 0 1 = cc in omega arith
 
-      fro : ((ls : List Layer) → Rules ls → file ≡ layerFile .encode ls → ⊥) → (p : ℕ) × (result ≡ Turned (File p))
-      fro h = by (layersOf file) refl
-        where
-          by : (d : Decoded (List Layer)) → layersOf file ≡ d → (p : ℕ) × (result ≡ Turned (File p))
-          by (broken p) e = (p, broken-exactly p .1 e)
-          by (holds ls) e = let w = layers-written file ls bytes e in absurd (h ls (w .0) (w .1))
+      by : ((ls : List Layer) → Rules ls → file ≡ layerFile .encode ls → ⊥) → (d : Decoded (List Layer)) → layersOf file ≡ d
+          → (p : ℕ) × (tellReading result ≡ refuses (refusal 13 p))
+      by h (broken p) e = (p, broken-exactly p .1 e)
+      by h (holds ls) e = let w = layers-written file ls bytes e in absurd (h ls (w .0) (w .1))
 
-  -- layer i of these layers is answered, and fills the tables
+  -- layer i of these layers is answered, and fillsLayer the tables
   pub record Gives (ls : List Layer) : Type 0 where
-    pub answered : result ≡ found ls (layerAt ls i)
-    pub points-filled : points′ ≡ overwrite (pointsOf (layerAt ls i .contours)) points
-    pub ends-filled : ends′ ≡ overwrite (endsFrom 0 (layerAt ls i .contours)) ends
+    pub answered : tellReading result ≡ gives (layerCounts ls i)
+    pub filled : t′ ≡ fillsLayer (layerAt ls i) t fine
 
-  gives : (ls : List Layer) → layersOf file ≡ holds ls → verdict (listed file i points ends) ≡ Fine → Gives ls
-  unfolding answer after
-  gives ls e v =
-      let s : layersIn file ≡ ls = ap held e in
+  given : {ls : List Layer} → layersOf file ≡ holds ls → verdict (readingTests file i (entriesOf t)) ≡ fine → Gives ls
+  given {ls} e v =
+      let s : layersIn file ≡ ls = held-is [] e in
       record {
-        answered = c .answers ∙ (λ j. answer (v j) (s j) i);
-        points-filled = c .fills-points ∙ (λ j. after (v j) (pointsOf (layerAt (s j) i .contours)) points);
-        ends-filled = c .fills-ends ∙ (λ j. after (v j) (endsFrom 0 (layerAt (s j) i .contours)) ends);
+        answered = c .answers ∙ sym (then-fine v) ∙ (λ j. gives (layerCounts (s j) i));
+        filled = c .leaves ∙ (λ j. fillsLayer (layerAt (s j) i) t (v j));
       }
 
   -- from the encoding of layers that obey the rules, layer i is read into tables that are long enough
   pub read-back : (ls : List Layer) → Rules ls → file ≡ layerFile .encode ls → i < length ls
-      → 2 * pointTotal (layerAt ls i .contours) ≤ length points → length (layerAt ls i .contours) ≤ length ends → Gives ls
+      → 2 * pointTotal (layerAt ls i .contours) ≤ length (t .points) → length (layerAt ls i .contours) ≤ length (t .ends) → Gives ls
   read-back ls r w h p q =
       let e : layersOf file ≡ holds ls = ap layersOf w ∙ layers-read-back ls r in
-      gives ls e (verdict-fine file i (length points) (length ends) ls e h (room-of (layerAt ls i) (length points) (length ends) p q))
+      given e (verdict-fine file i (entriesOf t) e h (room-of (layerAt ls i) (entriesOf t) p q))
 
   -- what is read was written so
   pub record Written (ls : List Layer) : Type 0 where
     pub rules : Rules ls
     pub encoded : file ≡ layerFile .encode ls
     pub there : i < length ls
-    pub given : Gives ls
+    pub gives-it : Gives ls
 
-  pub read-written : Bytes file → (n : ℕ) (h : ℤ) (k m : ℕ) → result ≡ Found n h k m → (ls : List Layer) × Written ls
-  read-written bytes n h k m e =
-      by (found-fine (verdict (listed file i points ends)) (layersIn file) i n h k m (sym e ∙ c .answers)) (case-of file i (length points) (length ends))
-    where
-      by : verdict (listed file i points ends) ≡ Fine → Case file i (length points) (length ends) → (ls : List Layer) × Written ls
-      by v (is-broken p f w) = refused-apart (sym w ∙ v)
-      by v (is-absent w) = refused-apart (sym w ∙ v)
-      by v (is-short w) = refused-apart (sym w ∙ v)
-      by v (is-fine ls f l w) = let x = layers-written file ls bytes f in (ls, record { rules = x .0; encoded = x .1; there = l; given = gives ls f v })
+  pub read-written : Bytes file → {v : ℕ × ℤ × ℕ × ℕ} → tellReading result ≡ gives v → (ls : List Layer) × Written ls
+  read-written bytes e =
+      let v = given-verdict c e .0 in
+      let q = fine-there file i (entriesOf t) v in
+      let w = layers-written file (q .0) bytes (q .1) in
+      (q .0, record { rules = w .0; encoded = w .1; there = q .2; gives-it = given (q .1) v })

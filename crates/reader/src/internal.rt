@@ -1,10 +1,10 @@
-// Internal: the way to one layer of a file, which checks all others too, and what fills the lent tables from it.
+// The way to one layer of a file, which checks all others too, and what fills the lent tables from it.
+ghost use mathlib.Core.Path.{_≡_};
 ghost use Prim.Native.Nat.{suc, _≤_};
-ghost use lib.ListN.{length, drop};
-ghost use Rattle.formats.specs.Formats.{sequence};
-ghost use Rattle.formats.specs.LayerFile.{layer, lowest, heightOf};
-ghost use Rattle.checking.specs.Answers.{final};
-ghost use Rattle.reader.specs.Places.{Searched, FillPoints, FilledPoints, FillLayer, FilledLayer};
+ghost use lib.ListN.{length};
+ghost use Rattle.formats.specs.LayerFile.{lowest};
+ghost use Rattle.polygons.specs.Flat.{flat};
+ghost use Rattle.reader.specs.Places.{lastLayers, Searched, FillPoints, FilledPoints, FillLayer, filledLayer};
 use crate::Place;
 use crate::Search;
 use checking::Coordinate;
@@ -23,7 +23,7 @@ use formats::numbers::read_number;
 // Checks the last layers of a file, one and so many more, the first of which must lie above low; and tells where the first stands.
 fn check_from(file: &[u8], at: usize, more: u64, low: i64) -> Search
     requires { ⌜ at ≤ length (now file) ⌝ }
-    ensures { λ r. ⌜ Searched (now (file .entry)) 0 ((final (sequence layer heightOf (suc more) low)) .parse (drop at (now (file .entry)))) r ⌝ }
+    ensures { λ r. ⌜ Searched (file .entry .now) 0 (lastLayers (suc more) low (file .entry .now) at) r ⌝ }
 {
     let h = read_height(file, at, low);
     let Height::Above(z, j) = h else {
@@ -50,7 +50,7 @@ fn check_from(file: &[u8], at: usize, more: u64, low: i64) -> Search
 // Checks the layers of a file after their count, and tells where layer i stands.
 pub fn find_layer(file: &[u8], at: usize, count: u64, i: u64) -> Search
     requires { ⌜ at ≤ length (now file) ⌝ }
-    ensures { λ r. ⌜ Searched (now (file .entry)) i ((final (sequence layer heightOf count lowest)) .parse (drop at (now (file .entry)))) r ⌝ }
+    ensures { λ r. ⌜ Searched (file .entry .now) i (lastLayers count lowest (file .entry .now) at) r ⌝ }
 {
     if i < count {
         let b = check_layers(file, at, i, -2147483649);
@@ -69,7 +69,7 @@ pub fn find_layer(file: &[u8], at: usize, count: u64, i: u64) -> Search
 // Writes the points of a contour to a table, from an entry on, and returns the position after them in the file.
 fn fill_points(file: &[u8], at: usize, count: u64, points: &mut [i32], from: usize) -> usize
     requires { ⌜ FillPoints (now file) at count (now points) from ⌝ }
-    ensures { λ r. ⌜ FilledPoints (now (file .entry)) at count (now (points .entry)) from r (now (points .exit)) ⌝ }
+    ensures { λ r. ⌜ FilledPoints (file .entry .now) at count (points .entry .now) from r (points .exit .now) ⌝ }
 {
     let mut x: i32 = 0;
     let mut y: i32 = 0;
@@ -98,8 +98,9 @@ fn fill_points(file: &[u8], at: usize, count: u64, points: &mut [i32], from: usi
 
 // Writes the contours of a layer to the two tables, from their first entries on.
 pub fn fill_layer(file: &[u8], at: usize, points: &mut [i32], ends: &mut [u32])
-    requires { ⌜ FillLayer (now file) at (now points) (now ends) ⌝ }
-    ensures { λ _. ⌜ FilledLayer (now (file .entry)) at (now (points .entry)) (now (ends .entry)) (now (points .exit)) (now (ends .exit)) ⌝ }
+    requires { ⌜ FillLayer (now file) at (flat (now points) (now ends)) ⌝ }
+    ensures { λ _. ⌜ flat (points .exit .now) (ends .exit .now)
+        ≡ filledLayer (file .entry .now) at (flat (points .entry .now) (ends .entry .now)) ⌝ }
 {
     let n = read_number(file, at, 4294967295);
     let Number::Value(count, start) = n else {

@@ -1,6 +1,7 @@
 // Read layer: checks a whole layer file, and fills two lent tables with the points and the ends of one of its layers.
 ghost use mathlib.Core.Path.{_≡_};
-ghost use Rattle.reader.specs.Reading.{roomFor, Reads};
+ghost use Rattle.polygons.specs.Flat.{flat};
+ghost use Rattle.reader.specs.Reading.{entries, layerRoom, ReadsLayer};
 ghost use Rattle.reader.specs.Places.{Located};
 use crate::internal::fill_layer;
 use crate::internal::find_layer;
@@ -40,7 +41,7 @@ enum Location {
 
 // Whether tables of these lengths have two entries for each of so many points, and one for each contour.
 fn room_for(contours: u64, count: u64, points: u64, ends: u64) -> bool
-    ensures { λ r. ⌜ r ≡ roomFor contours count points ends ⌝ }
+    ensures { λ r. ⌜ r ≡ layerRoom contours count (entries points ends) ⌝ }
 {
     if points / 2 < count {
         return false;
@@ -50,7 +51,7 @@ fn room_for(contours: u64, count: u64, points: u64, ends: u64) -> bool
 
 // Refusals 13, 15 and 9, for tables of these lengths.
 fn locate(file: &[u8], i: u64, points: u64, ends: u64) -> Location
-    ensures { λ r. ⌜ Located (now (file .entry)) i points ends r ⌝ }
+    ensures { λ r. ⌜ Located (file .entry .now) i (entries points ends) r ⌝ }
 {
     let n = read_number(file, 0, MOST_LAYERS as u64);
     let Number::Value(count, start) = n else {
@@ -71,7 +72,9 @@ fn locate(file: &[u8], i: u64, points: u64, ends: u64) -> Location
 
 // Checks the whole file, then fills the first entries of the lent tables with the points and the ends of layer i.
 pub fn read_layer(file: &[u8], i: usize, points: &mut [i32], ends: &mut [u32]) -> Reading
-    ensures { λ r. ⌜ Reads (now (file .entry)) i (now (points .entry)) (now (ends .entry)) r (now (points .exit)) (now (ends .exit)) ⌝ }
+    ensures { λ r. ⌜ ReadsLayer (file .entry .now) i
+        (flat (points .entry .now) (ends .entry .now)) r
+        (flat (points .exit .now) (ends .exit .now)) ⌝ }
 {
     let a = locate(file, i as u64, points.len() as u64, ends.len() as u64);
     match a {

@@ -11,14 +11,15 @@ use lib.IntN.{ℤ}
 use Rattle.laws.specs.Booleans.{clash, is-true, is-false, and-parts, split-lt}
 use Rattle.laws.specs.Tables.{overwrite}
 use Rattle.laws.specs.TableLaws.{length-snoc, overwrite-none, length-overwrite, overwrite-snoc, overwrite-more}
-use Rattle.section.specs.Section.{below, rising, successor, Among, Right}
+use Rattle.mesh.specs.Meshes.{PairedMesh}
+use Rattle.section.specs.Section.{below, rising, Among, Right}
 use Rattle.section.specs.Rings.{Ring}
 use Rattle.section.specs.Contours.{member, contours, namesOf as flat, traceTo, trace, endsFrom, endsOf}
 use Rattle.section.specs.OrbitLaws.{length-orbit}
 use Rattle.section.specs.LayerLaws.{names-snoc, Leads, leads-on, starting, Begun, begun-start, begun-skip, ring, contour, begun-ring, ring-room, begun-few}
 use Rattle.active.specs.Lists.{nextIn, activeAt}
 use Rattle.active.specs.ListLaws.{next-upto, next-found, next-between}
-use Rattle.rounds.specs.Rounds.{roundOf, stamped, Roundable, Rounded, Outlinable, Outlined, Marked}
+use Rattle.rounds.specs.Rounds.{successorAt, roundOf, stamped, Roundable, Rounded, Outlinable, Followed, Marked}
 use Rattle.rounds.proofs.Stamps.{length-stamped, stamped-join, stamped-other, stamped-same}
 use Rattle.rounds.proofs.Walking.{round-is}
 
@@ -44,37 +45,48 @@ module _ (rises : ℕ → Bool) (next : ℕ → ℕ) (n : ℕ) (leads : Leads ri
   begun-gap : (c m : ℕ) → c ≤ m → Begun rises next n leads c rs → ((x : ℕ) → c ≤ x → x < m → rises x ≡ false) → Begun rises next n leads m rs
   begun-gap c zero l b none = let e : c ≡ 0 = omega arith in subst (λ (k : ℕ). Begun rises next n leads k rs) e b
   begun-gap c (suc m) l b none = ⊎-elim
-      (λ h. let e : rises m ≡ false = none m (omega arith) (omega arith) in begun-skip rises next n leads m rs (begun-gap c m (omega arith) b (λ x a z. none x a (omega arith))) (simp e))
+      (λ h. let e : rises m ≡ false = none m (omega arith) (omega arith) in begun-skip rises next n leads m rs
+      (begun-gap c m (omega arith) b (λ x a z. none x a (omega arith))) (simp e))
       (λ h. let e : c ≡ suc m = omega arith in subst (λ (k : ℕ). Begun rises next n leads k rs) e b)
       (split-lt c (suc m))
 
 -- ---- the pass
 
-module _ (coords : List ℤ) (corners pairing : List ℕ) (h : ℤ) where
+module _ (m : PairedMesh) (h : ℤ) where
+  abbrev coords : List ℤ
+  coords = m .mesh .coords
+
+  abbrev corners : List ℕ
+  corners = m .mesh .corners
+
+  abbrev pairing : List ℕ
+  pairing = m .pairing
+
   abbrev rises : ℕ → Bool
   rises = rising (below coords h) corners
 
   abbrev next : ℕ → ℕ
-  next = successor (below coords h) corners pairing
+  next = successorAt m h
 
-  abbrev leads : Right coords corners pairing → Leads (rising (below coords h) corners) (successor (below coords h) corners pairing) (length corners)
+  abbrev leads : Right m → Leads (rising (below (m .mesh .coords) h) (m .mesh .corners)) (successorAt m h) (length (m .mesh .corners))
   leads right = leads-on (below coords h) corners pairing (right .linked)
 
   pub record Outlining (stamp : ℕ) (ring : List ℕ) (head : ℕ) (names₀ ends₀ marks₀ names ends marks : List ℕ) (c k j : ℕ) : Type 0 where
-    pub given : Outlinable coords corners pairing h stamp ring head names₀ ends₀ marks₀
+    pub given : Outlinable m h stamp ring head names₀ ends₀ marks₀
     pub rings : List (List ℕ)
-    pub begun : Begun (rising (below coords h) corners) (successor (below coords h) corners pairing) (length corners) (leads-on (below coords h) corners pairing (given .right .linked)) c rings
-    pub upto : c ≤ length corners
-    pub here : c < length corners → rising (below coords h) corners c ≡ true
+    pub begun : Begun (rising (below (m .mesh .coords) h) (m .mesh .corners)) (successorAt m h) (length (m .mesh .corners))
+        (leads-on (below (m .mesh .coords) h) (m .mesh .corners) (m .pairing) (given .right .linked)) c rings
+    pub upto : c ≤ length (m .mesh .corners)
+    pub here : c < length (m .mesh .corners) → rising (below (m .mesh .coords) h) (m .mesh .corners) c ≡ true
     pub at-k : k ≡ length (flat rings)
     pub at-j : j ≡ length rings
     pub names-is : names ≡ overwrite (flat rings) names₀
     pub ends-is : ends ≡ overwrite (endsOf rings) ends₀
     pub marks-is : marks ≡ stamped stamp marks₀ (flat rings)
 
-  pub outlining-start : (stamp : ℕ) (ring : List ℕ) (head : ℕ) (names ends marks : List ℕ) → Outlinable coords corners pairing h stamp ring head names ends marks
+  pub outlining-start : {stamp : ℕ} {ring : List ℕ} {head : ℕ} {names ends marks : List ℕ} → Outlinable m h stamp ring head names ends marks
       → Outlining stamp ring head names ends marks names ends marks head 0 0
-  outlining-start stamp ring head names ends marks g =
+  outlining-start {head = head} {names} {ends} g =
       let e : head ≡ nextIn rises (length corners) 0 = g .stands .head-is in
       record {
         given = g;
@@ -90,11 +102,12 @@ module _ (coords : List ℤ) (corners pairing : List ℕ) (h : ℤ) where
         marks-is = refl;
       }
 
-  module _ (stamp : ℕ) (links : List ℕ) (head : ℕ) (names₀ ends₀ marks₀ names ends marks : List ℕ) (c k j : ℕ) (w : Outlining stamp links head names₀ ends₀ marks₀ names ends marks c k j) where
+  module _ {stamp : ℕ} {links : List ℕ} {head : ℕ} {names₀ ends₀ marks₀ names ends marks : List ℕ} {c k j : ℕ}
+      (w : Outlining stamp links head names₀ ends₀ marks₀ names ends marks c k j) where
     abbrev n : ℕ
     n = length corners
 
-    abbrev led : Leads (rising (below coords h) corners) (successor (below coords h) corners pairing) (length corners)
+    abbrev led : Leads (rising (below (m .mesh .coords) h) (m .mesh .corners)) (successorAt m h) (length (m .mesh .corners))
     led = leads (w .given .right)
 
     k-few : k ≤ n
@@ -104,12 +117,14 @@ module _ (coords : List ℤ) (corners pairing : List ℕ) (h : ℤ) where
     names-length = ap length (w .names-is) ∙ length-overwrite (flat (w .rings)) names₀ (omega (arith, k-few, w .at-k, w .given .names-room))
 
     pub ends-length : length ends ≡ length ends₀
-    ends-length = ap length (w .ends-is) ∙ length-overwrite (endsOf (w .rings)) ends₀ (omega (arith, length-ends 0 (w .rings), w .begun .few, w .upto, w .given .ends-room))
+    ends-length =
+        ap length (w .ends-is)
+        ∙ length-overwrite (endsOf (w .rings)) ends₀ (omega (arith, length-ends 0 (w .rings), w .begun .few, w .upto, w .given .ends-room))
 
     pub marks-length : length marks ≡ length marks₀
     marks-length = ap length (w .marks-is) ∙ length-stamped stamp marks₀ (flat (w .rings))
 
-    module _ (l : c < length corners) where
+    module _ (l : c < length (m .mesh .corners)) where
       pub c-small : c < 196608
       c-small = omega (arith, w .given .right .named .whole .few)
 
@@ -126,7 +141,7 @@ module _ (coords : List ℤ) (corners pairing : List ℕ) (h : ℤ) where
       mark-here = ap (λ (t : List ℕ). getD t c 0) (w .marks-is)
 
       -- the next crossing of the list
-      module _ (d : ℕ) (ed : d ≡ getD links c 0) where
+      module _ {d : ℕ} (ed : d ≡ getD links c 0) where
         d-is : d ≡ nextIn rises n (c + 1)
         d-is = ed ∙ w .given .stands .links-are c l (w .here l)
 
@@ -159,7 +174,9 @@ module _ (coords : List ℤ) (corners pairing : List ℕ) (h : ℤ) where
             }
           where
             old : member c (flat (w .rings)) ≡ true
-            old = is-true _ (λ m. let z = w .given .unstamped c l (w .here l) in omega (arith, sym (stamped-other stamp (flat (w .rings)) marks₀ c m) ∙ sym mark-here ∙ e))
+            old =
+                is-true _ (λ m. let z = w .given .unstamped c l (w .here l) in omega
+                (arith, sym (stamped-other stamp (flat (w .rings)) marks₀ c m) ∙ sym mark-here ∙ e))
 
             no-start : starting rises next n led (w .rings) c ≡ false
             no-start = is-false _ (λ s. clash (and-parts (rises c) (not (member c (flat (w .rings)))) s .1) (ap not old))
@@ -169,25 +186,25 @@ module _ (coords : List ℤ) (corners pairing : List ℕ) (h : ℤ) where
           unused : member c (flat (w .rings)) ≡ false
           unused = is-false _ (λ m. e (mark-here ∙ stamped-same stamp (flat (w .rings)) marks₀ c (omega (arith, w .given .marks-room)) m))
 
-          crossing : Among (length corners) (rising (below coords h) corners) c
+          crossing : Among (length (m .mesh .corners)) (rising (below (m .mesh .coords) h) (m .mesh .corners)) c
           crossing = record { below = l; upward = w .here l }
 
-          abbrev r : Ring (successor (below coords h) corners pairing) (length corners) c
+          abbrev r : Ring (successorAt m h) (length (m .mesh .corners)) c
           r = ring rises next n led c (w .rings) (w .begun) crossing unused
 
           abbrev o : List ℕ
           o = contour rises next n led c (w .rings) (w .begun) crossing unused
 
-          round-same : roundOf (below coords h) corners pairing c ≡ o
-          round-same = round-is (below coords h) corners pairing c r
+          round-same : roundOf m h c ≡ o
+          round-same = round-is m h c r
 
-          length-round : length (roundOf (below coords h) corners pairing c) ≡ r .steps
+          length-round : length (roundOf m h c) ≡ r .steps
           length-round = ap length round-same ∙ length-orbit next (r .steps) c
 
           room : k + r .steps ≤ n
           room = omega (arith, w .at-k, ring-room rises next n led c (w .rings) (w .begun) crossing unused)
 
-          pub roundable : Roundable coords corners pairing h names marks c k
+          pub roundable : Roundable m h names marks c k
           roundable =
               record {
                 right = w .given .right;
@@ -196,7 +213,7 @@ module _ (coords : List ℤ) (corners pairing : List ℕ) (h : ℤ) where
                 room = omega (arith, room, length-round, names-length, w .given .names-room);
               }
 
-          module _ {names₁ marks₁ : List ℕ} {k₁ : ℕ} (z : Rounded (below coords h) corners pairing stamp c k names marks names₁ marks₁ k₁) where
+          module _ {names₁ marks₁ : List ℕ} {k₁ : ℕ} (z : Rounded m h stamp c k names marks names₁ marks₁ k₁) where
             pub end-few : k₁ ≤ n
             end-few = omega (arith, z .end-is, room, length-round)
 
@@ -217,25 +234,28 @@ module _ (coords : List ℤ) (corners pairing : List ℕ) (h : ℤ) where
                   at-k = omega (arith, len, ap length all, length-append (flat (w .rings)) o);
                   at-j = omega (arith, w .at-j, length-snoc (w .rings) o);
                   names-is = z .names-are ∙ (λ i. sets (w .names-is i) k (round-same i))
-                      ∙ overwrite-more o (flat (w .rings)) names₀ k (w .at-k) (omega (arith, room, length-orbit next (r .steps) c, w .given .names-room)) ∙ ap (λ (a : List ℕ). overwrite a names₀) (sym all);
+                      ∙ overwrite-more o (flat (w .rings)) names₀ k (w .at-k) (omega (arith, room, length-orbit next (r .steps) c, w .given .names-room))
+                      ∙ ap (λ (a : List ℕ). overwrite a names₀) (sym all);
                   ends-is = (λ i. set (w .ends-is i) j (len i))
-                      ∙ overwrite-snoc (endsOf (w .rings)) ends₀ (0 + length (flat (w .rings)) + length o) j (w .at-j ∙ sym (length-ends 0 (w .rings))) (omega (arith, w .at-j, w .begun .few, w .given .ends-room))
+                      ∙ overwrite-snoc (endsOf (w .rings)) ends₀ (0 + length (flat (w .rings)) + length o) j (w .at-j ∙ sym (length-ends 0 (w .rings)))
+                      (omega (arith, w .at-j, w .begun .few, w .given .ends-room))
                       ∙ ap (λ (a : List ℕ). overwrite a ends₀) (sym (ends-snoc 0 (w .rings) o));
-                  marks-is = z .marks-are ∙ (λ i. stamped stamp (w .marks-is i) (round-same i)) ∙ sym (stamped-join stamp marks₀ (flat (w .rings)) o) ∙ ap (stamped stamp marks₀) (sym all);
+                  marks-is = z .marks-are ∙ (λ i. stamped stamp (w .marks-is i) (round-same i)) ∙ sym (stamped-join stamp marks₀ (flat (w .rings)) o)
+                      ∙ ap (stamped stamp marks₀) (sym all);
                 }
 
     -- after the last crossing
-    module _ (end : length corners ≤ c) where
-      trace-is : trace (below coords h) corners pairing ≡ contours (w .rings)
+    module _ (end : length (m .mesh .corners) ≤ c) where
+      trace-is : trace (below (m .mesh .coords) h) (m .mesh .corners) (m .pairing) ≡ contours (w .rings)
       unfolding trace
       trace-is = let e : c ≡ n = omega (arith, w .upto) in subst (λ (i : ℕ). traceTo rises next n i ≡ contours (w .rings)) e (w .begun .is)
 
-      pub outlined-end : {h₀ : ℤ} → h ≡ h₀ → Outlined coords corners pairing h₀ names₀ ends₀ names ends j k
+      pub outlined-end : {h₀ : ℤ} → h ≡ h₀ → Followed m h₀ names₀ ends₀ names ends j k
       outlined-end e =
-          subst (λ (z : ℤ). Outlined coords corners pairing z names₀ ends₀ names ends j k) e
+          subst (λ (z : ℤ). Followed m z names₀ ends₀ names ends j k) e
           (record { rings = w .rings; is = trace-is; j-is = w .at-j; k-is = w .at-k; names-are = w .names-is; ends-are = w .ends-is })
 
-    pub marked-end : {h₀ : ℤ} → h ≡ h₀ → Marked (activeAt coords corners h₀) (length corners) stamp marks₀ marks
+    pub marked-end : {h₀ : ℤ} → h ≡ h₀ → Marked (activeAt (m .mesh .coords) (m .mesh .corners) h₀) (length (m .mesh .corners)) stamp marks₀ marks
     marked-end e =
         subst (λ (z : ℤ). Marked (activeAt coords corners z) (length corners) stamp marks₀ marks) e
         (record {
@@ -248,9 +268,10 @@ module _ (coords : List ℤ) (corners pairing : List ℕ) (h : ℤ) where
         same i m = ap (λ (t : List ℕ). getD t i 0) (w .marks-is) ∙ stamped-other stamp (flat (w .rings)) marks₀ i m
 
         by : (i : ℕ) → i < n → activeAt coords corners h i ≡ true → (b : Bool) → member i (flat (w .rings)) ≡ b → getD marks i 0 ≤ stamp
-        by i l p true m = omega (arith, ap (λ (t : List ℕ). getD t i 0) (w .marks-is), stamped-same stamp (flat (w .rings)) marks₀ i (omega (arith, w .given .marks-room)) m)
+        by i l p true m =
+            omega (arith, ap (λ (t : List ℕ). getD t i 0) (w .marks-is), stamped-same stamp (flat (w .rings)) marks₀ i (omega (arith, w .given .marks-room)) m)
         by i l p false m = omega (arith, same i m, w .given .unstamped i l p)
 
-pub outlinable-held : {coords : List ℤ} {corners pairing : List ℕ} {h h′ : ℤ} {stamp : ℕ} {ring : List ℕ} {head : ℕ} {names ends marks : List ℕ} → h′ ≡ h
-    → Outlinable coords corners pairing h stamp ring head names ends marks → Outlinable coords corners pairing h′ stamp ring head names ends marks
-outlinable-held {coords} {corners} {pairing} {stamp = stamp} {ring} {head} {names} {ends} {marks} e = subst (λ (z : ℤ). Outlinable coords corners pairing z stamp ring head names ends marks) (sym e)
+pub outlinable-held : {m : PairedMesh} {h h′ : ℤ} {stamp : ℕ} {ring : List ℕ} {head : ℕ} {names ends marks : List ℕ} → h′ ≡ h
+    → Outlinable m h stamp ring head names ends marks → Outlinable m h′ stamp ring head names ends marks
+outlinable-held {m} {stamp = stamp} {ring} {head} {names} {ends} {marks} e = subst (λ (z : ℤ). Outlinable m z stamp ring head names ends marks) (sym e)

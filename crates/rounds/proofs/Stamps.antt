@@ -42,8 +42,10 @@ module _ (s : ℕ) where
   stamped-same [] marks x h e = absurd (clash e refl)
   stamped-same (c ∷ cs) marks x h e = by (eqb x c) refl e (stamped-same cs (set marks c s) x (omega (arith, length-set marks c s)))
     where
-      by : (b : Bool) → eqb x c ≡ b → (b || member x cs) ≡ true → (member x cs ≡ true → getD (stamped s (set marks c s) cs) x 0 ≡ s) → getD (stamped s (set marks c s) cs) x 0 ≡ s
+      by : (b : Bool) → eqb x c ≡ b → (b || member x cs) ≡ true → (member x cs ≡ true → getD (stamped s (set marks c s) cs) x 0 ≡ s)
+          → getD (stamped s (set marks c s) cs) x 0 ≡ s
       by true q z k =
           let y = eqb-true x c q in
-          stamped-kept cs (set marks c s) x (omega (arith, length-set marks c s)) (ap (λ (j : ℕ). getD (set marks c s) j 0) y ∙ getD-set-same marks c s 0 (omega arith))
+          stamped-kept cs (set marks c s) x (omega (arith, length-set marks c s))
+          (ap (λ (j : ℕ). getD (set marks c s) j 0) y ∙ getD-set-same marks c s 0 (omega arith))
       by false q z k = k z

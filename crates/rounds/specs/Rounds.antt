@@ -1,4 +1,4 @@
--- Internal: the contours of a height, each followed from its least crossing on and stamped.
+-- The contours of a height, each followed from its least crossing on and stamped: what that asks of the tables and leaves in them.
 use Prim.Native.Nat.{ℕ, _+_, _≤_, _<_}
 use mathlib.Core.Path.{_≡_}
 use mathlib.Core.Bool.{true, false}
@@ -7,18 +7,23 @@ use lib.ListN.{length, getD, set}
 use lib.Seq.{sets}
 use lib.IntN.{ℤ}
 use Rattle.laws.specs.Tables.{overwrite}
-use Rattle.section.specs.Section.{VertexSet, below, successor, Crossing, Right}
+use Rattle.mesh.specs.Meshes.{PairedMesh}
+use Rattle.section.specs.Section.{below, successor, Crossing, Right}
 use Rattle.section.specs.Contours.{Way, closed, met, walk, contours, namesOf, trace, endsOf}
 use Rattle.active.specs.Lists.{CornerSet, Stands, activeAt}
 use Rattle.active.specs.Levels.{Kept}
+
+-- the successor of a crossing of height h
+abbrev pub successorAt : PairedMesh → ℤ → ℕ → ℕ
+successorAt m h = successor (below (m .mesh .coords) h) (m .mesh .corners) (m .pairing)
 
 abbrev pub placesOf : Way → List ℕ
 placesOf (closed cs) = cs
 placesOf (met p) = []
 
--- the ring from `start`: a walk by itself
-unfoldable pub roundOf : VertexSet → List ℕ → List ℕ → ℕ → List ℕ
-roundOf passed corners pairing start = placesOf (walk (successor passed corners pairing) start (length corners) start [])
+-- the ring of height h from `start`: a walk by itself
+unfoldable pub roundOf : PairedMesh → ℤ → ℕ → List ℕ
+roundOf m h start = placesOf (walk (successorAt m h) start (length (m .mesh .corners)) start [])
 
 -- the table with the entries of these corners set to s
 abbrev pub stamped : ℕ → List ℕ → List ℕ → List ℕ
@@ -26,32 +31,32 @@ stamped s marks [] = marks
 stamped s marks (c ∷ cs) = stamped s (set marks c s) cs
 
 -- what one contour asks
-pub record Roundable (coords : List ℤ) (corners pairing : List ℕ) (h : ℤ) (names marks : List ℕ) (start at : ℕ) : Type 0 where
-  pub right : Right coords corners pairing
-  pub crosses : Crossing (below coords h) corners start
-  pub marks-room : length corners ≤ length marks
-  pub room : at + length (roundOf (below coords h) corners pairing start) ≤ length names
+pub record Roundable (m : PairedMesh) (h : ℤ) (names marks : List ℕ) (start at : ℕ) : Type 0 where
+  pub right : Right m
+  pub crosses : Crossing (below (m .mesh .coords) h) (m .mesh .corners) start
+  pub marks-room : length (m .mesh .corners) ≤ length marks
+  pub room : at + length (roundOf m h start) ≤ length names
 
 -- the contour of `start` stands in names from place `at` on, up to r, and is stamped
-pub record Rounded (passed : VertexSet) (corners pairing : List ℕ) (stamp start at : ℕ) (names marks names′ marks′ : List ℕ) (r : ℕ) : Type 0 where
-  pub end-is : r ≡ at + length (roundOf passed corners pairing start)
-  pub names-are : names′ ≡ sets names at (roundOf passed corners pairing start)
-  pub marks-are : marks′ ≡ stamped stamp marks (roundOf passed corners pairing start)
+pub record Rounded (m : PairedMesh) (h : ℤ) (stamp start at : ℕ) (names marks names′ marks′ : List ℕ) (r : ℕ) : Type 0 where
+  pub end-is : r ≡ at + length (roundOf m h start)
+  pub names-are : names′ ≡ sets names at (roundOf m h start)
+  pub marks-are : marks′ ≡ stamped stamp marks (roundOf m h start)
 
 -- what all contours ask: the list of the crossings, and that no crossing has the stamp or one above it
-pub record Outlinable (coords : List ℤ) (corners pairing : List ℕ) (h : ℤ) (stamp : ℕ) (ring : List ℕ) (head : ℕ) (names ends marks : List ℕ) : Type 0 where
-  pub right : Right coords corners pairing
-  pub stands : Stands (activeAt coords corners h) (length corners) ring head
-  pub ring-room : length corners ≤ length ring
-  pub names-room : length corners ≤ length names
-  pub ends-room : length corners ≤ length ends
-  pub marks-room : length corners ≤ length marks
-  pub unstamped : (c : ℕ) → c < length corners → activeAt coords corners h c ≡ true → getD marks c 0 < stamp
+pub record Outlinable (m : PairedMesh) (h : ℤ) (stamp : ℕ) (ring : List ℕ) (head : ℕ) (names ends marks : List ℕ) : Type 0 where
+  pub right : Right m
+  pub stands : Stands (activeAt (m .mesh .coords) (m .mesh .corners) h) (length (m .mesh .corners)) ring head
+  pub ring-room : length (m .mesh .corners) ≤ length ring
+  pub names-room : length (m .mesh .corners) ≤ length names
+  pub ends-room : length (m .mesh .corners) ≤ length ends
+  pub marks-room : length (m .mesh .corners) ≤ length marks
+  pub unstamped : (c : ℕ) → c < length (m .mesh .corners) → activeAt (m .mesh .coords) (m .mesh .corners) h c ≡ true → getD marks c 0 < stamp
 
 -- the contours of the height stand in names and ends: j of them, of k names
-pub record Outlined (coords : List ℤ) (corners pairing : List ℕ) (h : ℤ) (names ends names′ ends′ : List ℕ) (j k : ℕ) : Type 0 where
+pub record Followed (m : PairedMesh) (h : ℤ) (names ends names′ ends′ : List ℕ) (j k : ℕ) : Type 0 where
   pub rings : List (List ℕ)
-  pub is : trace (below coords h) corners pairing ≡ contours rings
+  pub is : trace (below (m .mesh .coords) h) (m .mesh .corners) (m .pairing) ≡ contours rings
   pub j-is : j ≡ length rings
   pub k-is : k ≡ length (namesOf rings)
   pub names-are : names′ ≡ overwrite (namesOf rings) names

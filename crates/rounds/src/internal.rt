@@ -1,9 +1,10 @@
-// Internal: contours followed by pairing and height, for a right mesh.
+// Contours followed by pairing and height, for a right mesh.
 ghost use mathlib.Core.Path.{_≡_};
 ghost use lib.ListN.{length};
-ghost use Rattle.section.specs.Section.{below, successor, Crossing, Right};
+ghost use Rattle.mesh.specs.Meshes.{paired};
+ghost use Rattle.section.specs.Section.{below, Crossing, Right};
 ghost use Rattle.active.specs.Lists.{activeAt};
-ghost use Rattle.rounds.specs.Rounds.{Roundable, Rounded, Outlinable, Outlined, Marked};
+ghost use Rattle.rounds.specs.Rounds.{successorAt, Roundable, Rounded, Outlinable, Followed, Marked};
 use crate::Counts;
 use active::internal::is_below;
 use mesh::internal::next_corner;
@@ -12,8 +13,8 @@ use mesh::internal::wide;
 
 // The successor of crossing c: its paired corner falls, so that one of the two other corners of that triangle rises, by the third vertex.
 fn successor(coords: &[i32], corners: &[u32], pairing: &[u32], h: i32, c: usize) -> usize
-    requires { ⌜ Right (now coords) (now corners) (now pairing) ⌝ ∗ ⌜ Crossing (below (now coords) h) (now corners) c ⌝ }
-    ensures { λ r. ⌜ r ≡ successor (below (now (coords .entry)) h) (now (corners .entry)) (now (pairing .entry)) c ⌝ }
+    requires { ⌜ Right (paired (now coords) (now corners) (now pairing)) ⌝ ∗ ⌜ Crossing (below (now coords) h) (now corners) c ⌝ }
+    ensures { λ r. ⌜ r ≡ successorAt (paired (coords .entry .now) (corners .entry .now) (pairing .entry .now)) h c ⌝ }
 {
     let d = wide(pairing[c]);
     let e = next_corner(d);
@@ -37,8 +38,9 @@ fn round(
     start: usize,
     at: usize,
 ) -> usize
-    requires { ⌜ Roundable (now coords) (now corners) (now pairing) h (now names) (now marks) start at ⌝ }
-    ensures { λ r. ⌜ Rounded (below (now (coords .entry)) h) (now (corners .entry)) (now (pairing .entry)) stamp start at (now (names .entry)) (now (marks .entry)) (now (names .exit)) (now (marks .exit)) r ⌝ }
+    requires { ⌜ Roundable (paired (now coords) (now corners) (now pairing)) h (now names) (now marks) start at ⌝ }
+    ensures { λ r. ⌜ Rounded (paired (coords .entry .now) (corners .entry .now) (pairing .entry .now)) h stamp start at
+        (names .entry .now) (marks .entry .now) (names .exit .now) (marks .exit .now) r ⌝ }
 {
     let mut c = start;
     let mut k = at;
@@ -66,9 +68,11 @@ pub fn outline(
     ends: &mut [u32],
     marks: &mut [u32],
 ) -> Counts
-    requires { ⌜ Outlinable (now coords) (now corners) (now pairing) h stamp (now ring) head (now names) (now ends) (now marks) ⌝ }
-    ensures { λ r. ⌜ Outlined (now (coords .entry)) (now (corners .entry)) (now (pairing .entry)) h (now (names .entry)) (now (ends .entry)) (now (names .exit)) (now (ends .exit)) (r .contours) (r .names) ⌝ }
-    ensures { λ _. ⌜ Marked (activeAt (now (coords .entry)) (now (corners .entry)) h) (length (now (corners .entry))) stamp (now (marks .entry)) (now (marks .exit)) ⌝ }
+    requires { ⌜ Outlinable (paired (now coords) (now corners) (now pairing)) h stamp (now ring) head (now names) (now ends) (now marks) ⌝ }
+    ensures { λ r. ⌜ Followed (paired (coords .entry .now) (corners .entry .now) (pairing .entry .now)) h
+        (names .entry .now) (ends .entry .now) (names .exit .now) (ends .exit .now) (r .contours) (r .names) ⌝ }
+    ensures { λ _. ⌜ Marked (activeAt (coords .entry .now) (corners .entry .now) h) (length (corners .entry .now)) stamp
+        (marks .entry .now) (marks .exit .now) ⌝ }
 {
     let n = corners.len();
     let mut c = head;

@@ -1,11 +1,14 @@
--- The contours of a section, by walks along the successors, and the layer's names and ends.
-use Prim.Native.Nat.{ℕ, zero, suc, _+_}
+-- The contours of a section, by walks along the successors, and the layer's names; its ends are those of any contours (polygons/Flat).
+use Prim.Native.Nat.{ℕ, zero, suc}
 use mathlib.Core.Bool.{Bool, true, false, not, cond, _&&_, _||_}
 use mathlib.Core.List.{List, [], _∷_, _++_}
 use lib.ListN.{length}
 use lib.Dec.{eqb}
+unfoldable pub use Rattle.polygons.specs.Flat.{endsFrom}
+pub use Rattle.polygons.specs.Flat.{endsOf}
 use Rattle.section.specs.Section.{VertexSet, rising, successor}
 
+-- v stands in the list
 unfoldable pub member : ℕ → List ℕ → Bool
 member v [] = false
 member v (x ∷ xs) = eqb v x || member v xs
@@ -17,6 +20,7 @@ pub data Way : Type 0 where
   closed : List ℕ → Way
   met : ℕ → Way
 
+-- corner c before what the rest of the walk finds
 abbrev pub onward : ℕ → Way → Way
 onward c (closed cs) = closed (c ∷ cs)
 onward c (met p) = met p
@@ -31,6 +35,7 @@ walk next start (suc n) c used =
 
 -- ---- the contours
 
+-- all contours, or refusal 16's crossing
 pub data Traced : Type 0 where
   contours : List (List ℕ) → Traced
   stuck : ℕ → Traced
@@ -40,6 +45,7 @@ abbrev pub namesOf : List (List ℕ) → List ℕ
 namesOf [] = []
 namesOf (r ∷ rs) = r ++ namesOf rs
 
+-- the contours found so far, with what the next walk finds
 abbrev pub more : List (List ℕ) → Way → Traced
 more rs (closed r) = contours (rs ++ (r ∷ []))
 more rs (met p) = stuck p
@@ -61,11 +67,3 @@ traceTo rises next n (suc c) = traceAt rises next n c (traceTo rises next n c)
 -- all contours of the section
 unfoldable pub trace : VertexSet → List ℕ → List ℕ → Traced
 trace passed corners pairing = traceTo (rising passed corners) (successor passed corners pairing) (length corners) (length corners)
-
--- the ends of a layer: for each contour the number of points up to its end, where k came before
-unfoldable pub endsFrom : ℕ → List (List ℕ) → List ℕ
-endsFrom k [] = []
-endsFrom k (r ∷ rs) = (k + length r) ∷ endsFrom (k + length r) rs
-
-abbrev pub endsOf : List (List ℕ) → List ℕ
-endsOf rs = endsFrom 0 rs

@@ -15,10 +15,12 @@ use Rattle.laws.specs.TableLaws.{length-snoc}
 use Rattle.section.specs.Section.{VertexSet, rising, successor, Among, Linked}
 use Rattle.section.specs.SectionLaws.{successor-crosses, successor-injective, two-crossings}
 use Rattle.section.specs.Rings.{iterate, Ring}
+pub use Rattle.section.specs.Rings.{Leads}
 use Rattle.section.specs.RingLaws.{ring-of}
 use Rattle.section.specs.Contours.{member, contours, stuck, namesOf, traceAt, traceTo, trace}
 use Rattle.section.specs.Layers.{first, Contour, contourAt, Distinct, Layer}
-use Rattle.section.specs.OrbitLaws.{member-none, member-join, at-member, distinct-few, orbit, iterate-add, length-orbit, getD-orbit, orbit-at, at-orbit, walk-closes, next-in, distinct-ring}
+use Rattle.section.specs.OrbitLaws.{member-none, member-join, at-member, distinct-few, orbit, iterate-add, length-orbit, getD-orbit, orbit-at, at-orbit}
+use Rattle.section.specs.OrbitLaws.{walk-closes, next-in, distinct-ring}
 
 pub names-snoc : (rs : List (List ℕ)) (r : List ℕ) → namesOf (rs ++ (r ∷ [])) ≡ namesOf rs ++ r
 names-snoc [] r = append-nil r
@@ -43,12 +45,6 @@ module _ (rs : List (List ℕ)) (r : List ℕ) where
 
     snoc-new : member v r ≡ true → member v (namesOf (rs ++ (r ∷ []))) ≡ true
     snoc-new e = snoc-is ∙ or-right (member v (namesOf rs)) (member v r) e
-
--- the corners below n that rise are led to one another, no two to the same and none to itself
-pub record Leads (rises : ℕ → Bool) (next : ℕ → ℕ) (n : ℕ) : Type 0 where
-  pub into : (c : ℕ) → Among n rises c → Among n rises (next c)
-  pub apart : (c d : ℕ) → Among n rises c → Among n rises d → next c ≡ next d → c ≡ d
-  pub moves : (c : ℕ) → Among n rises c → next c ≡ c → ⊥
 
 module _ (rises : ℕ → Bool) (next : ℕ → ℕ) (n : ℕ) (leads : Leads rises next n) where
   -- a contour starts at c
@@ -139,7 +135,9 @@ module _ (rises : ℕ → Bool) (next : ℕ → ℕ) (n : ℕ) (leads : Leads ri
     least-is y e = by (orbit-at next y (ring .steps) c e) (decLt y c)
       where
         by : (i : ℕ) × (i < ring .steps) × (y ≡ iterate next i c) → Dec (y < c) → first contour ≤ y
-        by a (yes l) = absurd (clash (b .every y l (subst (Among n rises) (sym (a .2)) (crosses c x (a .0)))) (ap (λ (v : ℕ). member v (namesOf rs)) (a .2) ∙ fresh (a .0) (a .1)))
+        by a (yes l) =
+            absurd (clash (b .every y l (subst (Among n rises) (sym (a .2)) (crosses c x (a .0))))
+            (ap (λ (v : ℕ). member v (namesOf rs)) (a .2) ∙ fresh (a .0) (a .1)))
         by a (no l) = omega (arith, first-is)
 
     two-is : 2 ≤ ring .steps
@@ -157,7 +155,8 @@ module _ (rises : ℕ → Bool) (next : ℕ → ℕ) (n : ℕ) (leads : Leads ri
     unfolding iterate
     close-is =
         let e : suc (ring .steps - 1) ≡ ring .steps = omega (arith, ring .some-step) in
-        ap next (getD-orbit next (ring .steps) c (ring .steps - 1) (omega (arith, ring .some-step))) ∙ ap (λ (k : ℕ). iterate next k c) e ∙ ring .returns ∙ sym first-is
+        ap next (getD-orbit next (ring .steps) c (ring .steps - 1) (omega (arith, ring .some-step))) ∙ ap (λ (k : ℕ). iterate next k c) e ∙ ring .returns
+        ∙ sym first-is
 
     shape : Contour next contour
     shape =
@@ -173,9 +172,11 @@ module _ (rises : ℕ → Bool) (next : ℕ → ℕ) (n : ℕ) (leads : Leads ri
     begun-ring =
         record {
           is = unfold traceTo in (ap (traceAt rises next n c) (b .is) ∙ new);
-          only = λ v e. ⊎-elim (b .only v) (λ p. let a = orbit-at next v (ring .steps) c p in subst (Among n rises) (sym (a .2)) (crosses c x (a .0))) (snoc-cases rs contour v e);
+          only = λ v e. ⊎-elim (b .only v) (λ p. let a = orbit-at next v (ring .steps) c p in subst (Among n rises) (sym (a .2)) (crosses c x (a .0)))
+              (snoc-cases rs contour v e);
           whole = λ v e. ⊎-elim (λ p. snoc-old rs contour (next v) (b .whole v p))
-              (λ p. let a = orbit-at next v (ring .steps) c p in snoc-new rs contour (next v) (subst (λ (y : ℕ). member (next y) contour ≡ true) (sym (a .2)) (next-in next n c ring (a .0) (a .1)))) (snoc-cases rs contour v e);
+              (λ p. let a = orbit-at next v (ring .steps) c p in snoc-new rs contour (next v)
+              (subst (λ (y : ℕ). member (next y) contour ≡ true) (sym (a .2)) (next-in next n c ring (a .0) (a .1)))) (snoc-cases rs contour v e);
           every = λ v l y. at v y (ℕ-discrete v c) l;
           each = λ i l. each-of i (omega (arith, length-snoc rs contour)) (decLt i (length rs));
           ascend = λ i j l m. ascend-of i j l (omega (arith, length-snoc rs contour)) (decLt j (length rs));
@@ -202,9 +203,17 @@ module _ (rises : ℕ → Bool) (next : ℕ → ℕ) (n : ℕ) (leads : Leads ri
         starts-of i l (yes m) = let z = b .starts i m in omega (arith, ap first (old-at rs contour i m))
         starts-of i l (no m) = let z : i ≡ length rs = omega arith in omega (arith, ap first (new-at rs contour i z), first-is)
 
-        ascend-of : (i j : ℕ) → i < j → j ≤ length rs → Dec (j < length rs) → first (contourAt (rs ++ (contour ∷ [])) i) < first (contourAt (rs ++ (contour ∷ [])) j)
-        ascend-of i j l m (yes k) = let a : i < length rs = omega arith in let z = b .ascend i j l k in omega (arith, ap first (old-at rs contour i a), ap first (old-at rs contour j k))
-        ascend-of i j l m (no k) = let a : i < length rs = omega arith in let d : j ≡ length rs = omega arith in let z = b .starts i a in omega (arith, ap first (old-at rs contour i a), ap first (new-at rs contour j d), first-is)
+        ascend-of : (i j : ℕ) → i < j → j ≤ length rs → Dec (j < length rs)
+            → first (contourAt (rs ++ (contour ∷ [])) i) < first (contourAt (rs ++ (contour ∷ [])) j)
+        ascend-of i j l m (yes k) =
+            let a : i < length rs = omega arith in
+            let z = b .ascend i j l k in
+            omega (arith, ap first (old-at rs contour i a), ap first (old-at rs contour j k))
+        ascend-of i j l m (no k) =
+            let a : i < length rs = omega arith in
+            let d : j ≡ length rs = omega arith in
+            let z = b .starts i a in
+            omega (arith, ap first (old-at rs contour i a), ap first (new-at rs contour j d), first-is)
 
     -- the ring fits behind the names so far
     pub ring-room : length (namesOf rs) + ring .steps ≤ n
@@ -216,7 +225,9 @@ module _ (rises : ℕ → Bool) (next : ℕ → ℕ) (n : ℕ) (leads : Leads ri
         omega (arith, l, o, ap length all)
       where
         names-few : length (namesOf (rs ++ (contour ∷ []))) ≤ n
-        names-few = distinct-few n (namesOf (rs ++ (contour ∷ []))) (begun-ring .once) (λ i l. begun-ring .only _ (at-member (namesOf (rs ++ (contour ∷ []))) i l) .below)
+        names-few =
+            distinct-few n (namesOf (rs ++ (contour ∷ []))) (begun-ring .once)
+            (λ i l. begun-ring .only _ (at-member (namesOf (rs ++ (contour ∷ []))) i l) .below)
 
   -- the names are no more than the corners
   pub begun-few : (c : ℕ) (rs : List (List ℕ)) → Begun c rs → length (namesOf rs) ≤ n

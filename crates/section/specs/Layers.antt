@@ -7,6 +7,7 @@ use lib.ListN.{length, getD}
 use Rattle.section.specs.Section.{VertexSet, successor, Crossing}
 use Rattle.section.specs.Contours.{member, namesOf}
 
+-- the first name of a contour; a contour is not empty, so the default is never met
 abbrev pub first : List ℕ → ℕ
 first r = getD r 0 0
 
@@ -17,7 +18,7 @@ pub record Contour (next : ℕ → ℕ) (r : List ℕ) : Type 0 where
   pub follows : (i : ℕ) → suc i < length r → getD r (suc i) 0 ≡ next (getD r i 0)
   pub closes : next (getD r (length r - 1) 0) ≡ first r
 
--- contour i
+-- contour i, asked of i below the count of contours only
 abbrev pub contourAt : List (List ℕ) → ℕ → List ℕ
 contourAt rs i = getD rs i []
 
@@ -25,6 +26,7 @@ contourAt rs i = getD rs i []
 abbrev pub Distinct : List ℕ → Type 0
 Distinct l = (i j : ℕ) → i < j → j < length l → getD l i 0 ≡ getD l j 0 → ⊥
 
+-- the contours of the section: each is a ring, by first corner, of crossings only, with every crossing once
 pub record Layer (passed : VertexSet) (corners pairing : List ℕ) (rs : List (List ℕ)) : Type 0 where
   pub each : (i : ℕ) → i < length rs → Contour (successor passed corners pairing) (contourAt rs i)
   pub ascend : (i j : ℕ) → i < j → j < length rs → first (contourAt rs i) < first (contourAt rs j)

@@ -11,8 +11,9 @@ use Rattle.laws.specs.Booleans.{and-parts}
 use Rattle.section.specs.Section.{VertexSet, rising, successor, noCorner, ringEntry, Among, Linked}
 use Rattle.section.specs.SectionLaws.{successor-crosses}
 use Rattle.section.specs.Contours.{member, closed, met, onward, walk, Traced, contours, stuck, namesOf, more, traceAt, traceTo, trace}
+use Rattle.section.specs.Rings.{Leads}
 use Rattle.section.specs.Links.{hasLink, linkOf, traceLinks}
-use Rattle.section.specs.LayerLaws.{Leads, leads-on}
+use Rattle.section.specs.LayerLaws.{leads-on}
 
 -- ---- two ways of going on that agree on the rising corners
 
@@ -24,7 +25,8 @@ module _ (rises : ℕ → Bool) (next : ℕ → ℕ) (n : ℕ) (leads : Leads ri
   walk-agrees start (suc m) c used x =
       let e = same-next c x in
       let ih = walk-agrees start m (next c) (c ∷ used) (leads .into c x) in
-      λ i. cond (eqb (e i) start) (closed (c ∷ [])) (cond (member (e i) (c ∷ used)) (met (e i)) (onward c ((ih ∙ ap (λ (d : ℕ). walk next′ start m d (c ∷ used)) e) i)))
+      λ i. cond (eqb (e i) start) (closed (c ∷ []))
+      (cond (member (e i) (c ∷ used)) (met (e i)) (onward c ((ih ∙ ap (λ (d : ℕ). walk next′ start m d (c ∷ used)) e) i)))
 
   trace-agrees : (c : ℕ) → c ≤ n → traceTo rises next n c ≡ traceTo rises′ next′ n c
   unfolding traceTo
@@ -78,14 +80,17 @@ module _ (passed : VertexSet) (corners pairing : List ℕ) (linked : Linked corn
       by : (b : Bool) → rising passed corners c ≡ b → b ≡ not (eqb (getD links c 0) noCorner)
       by true e =
           let x : Among (length corners) (rising passed corners) c = record { below = l; upward = e } in
-          ap not (sym (ne-eqb (getD links c 0) noCorner (λ q. omega (arith, rise-link c x, successor-crosses passed corners pairing linked c x .below, linked .whole .few))))
+          ap not (sym (ne-eqb (getD links c 0) noCorner
+          (λ q. omega (arith, rise-link c x, successor-crosses passed corners pairing linked c x .below, linked .whole .few))))
       by false e = ap not (sym (eq-eqb (getD links c 0) noCorner (are c l ∙ (unfold ringEntry in (simp e)))))
 
   pub table-trace : trace passed corners pairing ≡ traceLinks (length corners) links
   unfolding trace traceLinks
   table-trace =
-      same-trace (rising passed corners) (successor passed corners pairing) (length corners) (leads-on passed corners pairing linked) (hasLink links) (linkOf links) link-rises rise-link
+      same-trace (rising passed corners) (successor passed corners pairing) (length corners) (leads-on passed corners pairing linked) (hasLink links)
+      (linkOf links) link-rises rise-link
 
   pub table-leads : Leads (hasLink links) (linkOf links) (length corners)
   table-leads =
-      same-leads (rising passed corners) (successor passed corners pairing) (length corners) (leads-on passed corners pairing linked) (hasLink links) (linkOf links) link-rises rise-link
+      same-leads (rising passed corners) (successor passed corners pairing) (length corners) (leads-on passed corners pairing linked) (hasLink links)
+      (linkOf links) link-rises rise-link

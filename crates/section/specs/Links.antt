@@ -7,10 +7,11 @@ use lib.ListN.{getD}
 use Rattle.section.specs.Section.{noCorner}
 use Rattle.section.specs.Contours.{Traced, traceTo}
 
--- the entry is a link
+-- the entry is a link; it is asked of corners within the table only, so the default is never met
 unfoldable pub hasLink : List ℕ → ℕ → Bool
 hasLink links c = not (eqb (getD links c 0) noCorner)
 
+-- the corner that follows c, where the entry is a link
 abbrev pub linkOf : List ℕ → ℕ → ℕ
 linkOf links c = getD links c 0
 

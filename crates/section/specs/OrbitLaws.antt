@@ -145,7 +145,8 @@ module _ (f : ℕ → ℕ) (n start : ℕ) (r : Ring f n start) where
       rw (y, z, u, ih)
 
   -- a walk that meets nothing used goes round the ring: refusal 16 does not arise
-  pub walk-closes : (used : List ℕ) → ((j : ℕ) → j < r .steps → member (iterate f j start) used ≡ false) → walk f start n start used ≡ closed (orbit f (r .steps) start)
+  pub walk-closes : (used : List ℕ) → ((j : ℕ) → j < r .steps → member (iterate f j start) used ≡ false)
+      → walk f start n start used ≡ closed (orbit f (r .steps) start)
   unfolding iterate
   walk-closes used h =
       walk-orbit n (r .steps - 1) 0 used (omega (arith, r .some-step)) (omega (arith, r .some-step, r .few)) (λ j lo hi. h j hi)
@@ -162,7 +163,8 @@ module _ (f : ℕ → ℕ) (n start : ℕ) (r : Ring f n start) where
       by (no e) = unfold iterate in (at-orbit f (r .steps) (suc i) start (omega arith))
 
   -- a ring none of whose places is among the names adds no repeats
-  pub distinct-orbit : (d i : ℕ) (l : List ℕ) → i + d ≡ r .steps → Distinct l → ((j : ℕ) → i ≤ j → j < r .steps → member (iterate f j start) l ≡ false) → Distinct (l ++ orbit f d (iterate f i start))
+  pub distinct-orbit : (d i : ℕ) (l : List ℕ) → i + d ≡ r .steps → Distinct l → ((j : ℕ) → i ≤ j → j < r .steps → member (iterate f j start) l ≡ false)
+      → Distinct (l ++ orbit f d (iterate f i start))
   unfolding orbit
   distinct-orbit zero i l e o h = subst (λ (k : List ℕ). Distinct k) (sym (append-nil l)) o
   distinct-orbit (suc d) i l e o h =

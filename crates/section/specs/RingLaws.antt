@@ -59,7 +59,8 @@ squeeze-inj v x y nx ny e =
 pub pigeonhole : (n : ℕ) (g : ℕ → ℕ) → ((i : ℕ) → i ≤ n → g i < n) → Repeat g n
 pigeonhole zero g h = absurd (not-suc-le-zero (h 0 (omega arith)))
 pigeonhole (suc n) g h = split (lookFor g (suc n) (g (suc n)))
-    (λ free. pigeonhole n (λ i. squeeze (g (suc n)) (g i)) (λ i l. squeeze-lt n (g (suc n)) (g i) (h (suc n) (omega arith)) (h i (omega arith)) (free i (omega arith))))
+    (λ free. pigeonhole n (λ i. squeeze (g (suc n)) (g i))
+    (λ i l. squeeze-lt n (g (suc n)) (g i) (h (suc n) (omega arith)) (h i (omega arith)) (free i (omega arith))))
   where
     free-of : Type 0
     free-of = (i : ℕ) → i < suc n → g i ≡ g (suc n) → ⊥
@@ -70,7 +71,8 @@ pigeonhole (suc n) g h = split (lookFor g (suc n) (g (suc n)))
       second = r .second;
       order = r .order;
       bound = omega (arith, r .bound);
-      equal = squeeze-inj (g (suc n)) (g (r .first)) (g (r .second)) (free (r .first) (omega (arith, r .order, r .bound))) (free (r .second) (omega (arith, r .bound))) (r .equal);
+      equal = squeeze-inj (g (suc n)) (g (r .first)) (g (r .second)) (free (r .first) (omega (arith, r .order, r .bound)))
+          (free (r .second) (omega (arith, r .bound))) (r .equal);
     }
 
     split : Hit g (suc n) (g (suc n)) → (free-of → Repeat (λ i. squeeze (g (suc n)) (g i)) n) → Repeat g (suc n)

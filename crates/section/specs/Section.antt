@@ -8,11 +8,12 @@ use lib.ListN.{length, getD}
 use lib.IntN.{ℤ, pos, natAbs}
 use lib.Signed.{ltZ}
 use Rattle.mesh.specs.Corners.{largest, vertexCount, triangleOf, startOf, endOf, zOf}
-use Rattle.mesh.specs.Tests.{Whole, pairOf}
-use Rattle.mesh.specs.TestLaws.{Paired}
+use Rattle.mesh.specs.Meshes.{PairedMesh}
+use Rattle.mesh.specs.Tests.{Whole, pairOf, Paired}
 
 -- ---- the passed vertices
 
+-- a set of vertices, by number
 abbrev pub VertexSet : Type 0
 VertexSet = ℕ → Bool
 
@@ -54,27 +55,31 @@ risingIn passed corners t =
 unfoldable pub successor : VertexSet → List ℕ → List ℕ → ℕ → ℕ
 successor passed corners pairing c = risingIn passed corners (triangleOf (pairOf pairing c))
 
--- ---- the ring table's entry for corner c: the successor of a crossing, else 4,294,967,295
+-- ---- the ring table
 
+-- the entry of a corner that is no crossing: 4,294,967,295
 abbrev pub noCorner : ℕ
 noCorner = 4294967295
 
+-- the entry of corner c: the successor of a crossing, else none
 unfoldable pub ringEntry : VertexSet → List ℕ → List ℕ → ℕ → ℕ
 ringEntry passed corners pairing c = cond (rising passed corners c) (successor passed corners pairing c) noCorner
 
 -- ---- what the tests of a mesh establish: 1 and 3 of corners, 1, 4 and 7 of corners and pairing
 
+-- every corner names a vertex
 pub record Named (coords : List ℤ) (corners : List ℕ) : Type 0 where
   pub whole : Whole (length corners)
   pub vertices : (c : ℕ) → c < length corners → startOf corners c < vertexCount coords
 
+-- no corner's edge leads from a vertex to itself, and every corner is paired with one in the opposite direction
 pub record Linked (corners pairing : List ℕ) : Type 0 where
   pub whole : Whole (length corners)
   pub proper : (c : ℕ) → c < length corners → startOf corners c ≡ endOf corners c → ⊥
   pub each : (c : ℕ) → c < length corners → Paired corners pairing c
 
 -- 1, 2, 3, 4 and 7 together
-pub record Right (coords : List ℤ) (corners pairing : List ℕ) : Type 0 where
-  pub named : Named coords corners
-  pub linked : Linked corners pairing
-  pub inside : (i : ℕ) → i < length coords → natAbs (getD coords i (pos 0)) ≤ largest
+pub record Right (m : PairedMesh) : Type 0 where
+  pub named : Named (m .mesh .coords) (m .mesh .corners)
+  pub linked : Linked (m .mesh .corners) (m .pairing)
+  pub inside : (i : ℕ) → i < length (m .mesh .coords) → natAbs (getD (m .mesh .coords) i (pos 0)) ≤ largest

@@ -141,7 +141,8 @@ module _ (passed : VertexSet) (corners : List ℕ) where
           last (no ne) (no ne2) = omega arith
 
   -- beside a falling corner: the one after it, unless the third vertex is passed too
-  pub beside-not : (d : ℕ) → falling passed corners d ≡ true → passed (startOf corners (nextCorner (nextCorner d))) ≡ false → nextCorner d ≡ risingIn passed corners (triangleOf d)
+  pub beside-not : (d : ℕ) → falling passed corners d ≡ true → passed (startOf corners (nextCorner (nextCorner d))) ≡ false
+      → nextCorner d ≡ risingIn passed corners (triangleOf d)
   beside-not d f e =
       sym (ap (risingIn passed corners) (sym (next-triangle d)) ∙ risingIn-is (nextCorner d) (rising-of (nextCorner d) (falling-parts d f .0) e))
 
@@ -149,7 +150,8 @@ module _ (passed : VertexSet) (corners : List ℕ) where
       → nextCorner (nextCorner d) ≡ risingIn passed corners (triangleOf d)
   beside-passed d f e =
       let t : triangleOf d ≡ triangleOf (nextCorner (nextCorner d)) = omega arith in
-      sym (ap (risingIn passed corners) t ∙ risingIn-is (nextCorner (nextCorner d)) (rising-of (nextCorner (nextCorner d)) e (ap passed (end-last d) ∙ falling-parts d f .1)))
+      sym (ap (risingIn passed corners) t ∙ risingIn-is (nextCorner (nextCorner d))
+      (rising-of (nextCorner (nextCorner d)) e (ap passed (end-last d) ∙ falling-parts d f .1)))
 
 -- ---- the successor
 
@@ -165,7 +167,8 @@ module _ (passed : VertexSet) (corners pairing : List ℕ) (linked : Linked corn
       (ap passed (turned c (x .below) .1) ∙ rising-parts passed corners c (x .upward) .0)
       (ap passed (turned c (x .below) .0) ∙ rising-parts passed corners c (x .upward) .1)
 
-  pub successor-is : (c : ℕ) (x : Crossing passed corners c) → successor passed corners pairing c ≡ rise-with passed corners (pairOf pairing c) (pair-falls c x) .0
+  pub successor-is : (c : ℕ) (x : Crossing passed corners c)
+      → successor passed corners pairing c ≡ rise-with passed corners (pairOf pairing c) (pair-falls c x) .0
   unfolding successor
   successor-is c x =
       let r = rise-with passed corners (pairOf pairing c) (pair-falls c x) in
@@ -180,7 +183,8 @@ module _ (passed : VertexSet) (corners pairing : List ℕ) (linked : Linked corn
     upward = ap (rising passed corners) (successor-is c x) ∙ rise-with passed corners (pairOf pairing c) (pair-falls c x) .2;
   }
 
-  pub successor-injective : (c d : ℕ) → Crossing passed corners c → Crossing passed corners d → successor passed corners pairing c ≡ successor passed corners pairing d → c ≡ d
+  pub successor-injective : (c d : ℕ) → Crossing passed corners c → Crossing passed corners d
+      → successor passed corners pairing c ≡ successor passed corners pairing d → c ≡ d
   successor-injective c d x y e =
       sym (linked .each c (x .below) .back)
       ∙ ap (pairOf pairing)
@@ -198,9 +202,11 @@ module _ (passed : VertexSet) (corners pairing : List ℕ) (linked : Linked corn
   pub two-crossings : (c : ℕ) → Crossing passed corners c → successor passed corners pairing c ≡ c → ⊥
   two-crossings c x e =
       ⊎-elim
-      (λ q. clash (rising-parts passed corners c (x .upward) .0) (ap (λ (k : ℕ). passed (startOf corners k)) (sym q) ∙ falling-parts passed corners _ (pair-falls c x) .1))
+      (λ q. clash (rising-parts passed corners c (x .upward) .0)
+      (ap (λ (k : ℕ). passed (startOf corners k)) (sym q) ∙ falling-parts passed corners _ (pair-falls c x) .1))
       (⊎-elim
-      (λ q. linked .proper (nextCorner (nextCorner c)) (next-below (length corners) (nextCorner c) (linked .whole .threes) (next-below (length corners) c (linked .whole .threes) (x .below)))
+      (λ q. linked .proper (nextCorner (nextCorner c))
+      (next-below (length corners) (nextCorner c) (linked .whole .threes) (next-below (length corners) c (linked .whole .threes) (x .below)))
       (sym (ap (endOf corners) q) ∙ turned c (x .below) .1 ∙ sym (end-last passed corners c)))
       (λ q. linked .proper (nextCorner c) (next-below (length corners) c (linked .whole .threes) (x .below))
       (sym (turned c (x .below) .0) ∙ ap (startOf corners) q)))
@@ -239,7 +245,8 @@ triangle-crossed passed corners t =
         at (no m) (yes m2) = clash h (ap (rising passed corners) m2 ∙ q)
         at (no m) (no m2) = clash h (ap (rising passed corners) (omega arith) ∙ r)
 
-    by : (a b d : Bool) → rising passed corners (3 * t) ≡ a → rising passed corners (3 * t + 1) ≡ b → rising passed corners (3 * t + 2) ≡ d → Crossed passed corners t
+    by : (a b d : Bool) → rising passed corners (3 * t) ≡ a → rising passed corners (3 * t + 1) ≡ b → rising passed corners (3 * t + 2) ≡ d
+        → Crossed passed corners t
     by true b d p q r = with-one (3 * t) (omega arith) p
     by false true d p q r = with-one (3 * t + 1) (omega arith) q
     by false false true p q r = with-one (3 * t + 2) (omega arith) r

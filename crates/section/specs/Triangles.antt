@@ -1,4 +1,4 @@
--- Internal: the ring entries of a triangle, written together.
+-- The ring entries of a triangle, written together: which of its vertices are passed, and a table with three entries set.
 use Prim.Native.Nat.{ℕ, _+_, _<_}
 use mathlib.Core.Path.{_≡_}
 use mathlib.Core.Bool.{Bool}

@@ -1,4 +1,4 @@
-// Internal: crossings and successors, whose `requires` say what the tests of a mesh establish. A vertex is passed if it stands before
+// Crossings and successors of a mesh: each `requires` says what the tests of a mesh establish. A vertex is passed if it stands before
 // the place (h, k) by z and then by number; (h, 0) is the set of height h.
 ghost use mathlib.Core.Path.{_≡_};
 ghost use mathlib.Core.Bool.{true, not, _&&_};
@@ -15,7 +15,7 @@ use mesh::internal::wide;
 // Whether vertex v is passed.
 pub fn is_passed(coords: &[i32], h: i32, k: usize, v: usize) -> bool
     requires { ⌜ v < vertexCount (now coords) ⌝ }
-    ensures { λ r. ⌜ r ≡ under (now (coords .entry)) h k v ⌝ }
+    ensures { λ r. ⌜ r ≡ under (coords .entry .now) h k v ⌝ }
 {
     let i = 3 * v + 2;
     let z = coords[i];
@@ -31,7 +31,7 @@ pub fn is_passed(coords: &[i32], h: i32, k: usize, v: usize) -> bool
 // Whether the start of corner c is passed.
 fn starts_passed(coords: &[i32], corners: &[u32], h: i32, k: usize, c: usize) -> bool
     requires { ⌜ Named (now coords) (now corners) ⌝ ∗ ⌜ c < length (now corners) ⌝ }
-    ensures { λ r. ⌜ r ≡ under (now (coords .entry)) h k (startOf (now (corners .entry)) c) ⌝ }
+    ensures { λ r. ⌜ r ≡ under (coords .entry .now) h k (startOf (corners .entry .now) c) ⌝ }
 {
     let v = wide(corners[c]);
     is_passed(coords, h, k, v)
@@ -40,7 +40,7 @@ fn starts_passed(coords: &[i32], corners: &[u32], h: i32, k: usize, c: usize) ->
 // Whether an edge from u to v leads from a passed vertex to one that is not.
 fn leads_up(coords: &[i32], h: i32, k: usize, u: usize, v: usize) -> bool
     requires { ⌜ (u < vertexCount (now coords)) × (v < vertexCount (now coords)) ⌝ }
-    ensures { λ r. ⌜ r ≡ (under (now (coords .entry)) h k u && not (under (now (coords .entry)) h k v)) ⌝ }
+    ensures { λ r. ⌜ r ≡ (under (coords .entry .now) h k u && not (under (coords .entry .now) h k v)) ⌝ }
 {
     if is_passed(coords, h, k, u) {
         return !is_passed(coords, h, k, v);
@@ -51,7 +51,7 @@ fn leads_up(coords: &[i32], h: i32, k: usize, u: usize, v: usize) -> bool
 // Whether corner c rises.
 pub fn rises(coords: &[i32], corners: &[u32], h: i32, k: usize, c: usize) -> bool
     requires { ⌜ Named (now coords) (now corners) ⌝ ∗ ⌜ c < length (now corners) ⌝ }
-    ensures { λ r. ⌜ r ≡ rising (under (now (coords .entry)) h k) (now (corners .entry)) c ⌝ }
+    ensures { λ r. ⌜ r ≡ rising (under (coords .entry .now) h k) (corners .entry .now) c ⌝ }
 {
     let n = next_corner(c);
     let u = wide(corners[c]);
@@ -61,8 +61,10 @@ pub fn rises(coords: &[i32], corners: &[u32], h: i32, k: usize, c: usize) -> boo
 
 // The rising corner of the triangle of a falling corner d: the one after d, or the one after that where the third vertex is passed too.
 pub fn rising_beside(coords: &[i32], corners: &[u32], h: i32, k: usize, d: usize) -> usize
-    requires { ⌜ Named (now coords) (now corners) ⌝ ∗ ⌜ d < length (now corners) ⌝ ∗ ⌜ falling (under (now coords) h k) (now corners) d ≡ true ⌝ }
-    ensures { λ r. ⌜ r ≡ risingIn (under (now (coords .entry)) h k) (now (corners .entry)) (triangleOf d) ⌝ }
+    requires { ⌜ Named (now coords) (now corners) ⌝
+        ∗ ⌜ d < length (now corners) ⌝
+        ∗ ⌜ falling (under (now coords) h k) (now corners) d ≡ true ⌝ }
+    ensures { λ r. ⌜ r ≡ risingIn (under (coords .entry .now) h k) (corners .entry .now) (triangleOf d) ⌝ }
 {
     let e = next_corner(d);
     let f = previous_corner(d);
@@ -75,8 +77,10 @@ pub fn rising_beside(coords: &[i32], corners: &[u32], h: i32, k: usize, d: usize
 
 // The ring entry of a corner c that rises.
 fn link_of(coords: &[i32], corners: &[u32], pairing: &[u32], h: i32, k: usize, c: usize) -> u32
-    requires { ⌜ Named (now coords) (now corners) ⌝ ∗ ⌜ Linked (now corners) (now pairing) ⌝ ∗ ⌜ Crossing (under (now coords) h k) (now corners) c ⌝ }
-    ensures { λ r. ⌜ r ≡ ringEntry (under (now (coords .entry)) h k) (now (corners .entry)) (now (pairing .entry)) c ⌝ }
+    requires { ⌜ Named (now coords) (now corners) ⌝
+        ∗ ⌜ Linked (now corners) (now pairing) ⌝
+        ∗ ⌜ Crossing (under (now coords) h k) (now corners) c ⌝ }
+    ensures { λ r. ⌜ r ≡ ringEntry (under (coords .entry .now) h k) (corners .entry .now) (pairing .entry .now) c ⌝ }
 {
     let d = wide(pairing[c]);
     let s = rising_beside(coords, corners, h, k, d);
@@ -85,8 +89,10 @@ fn link_of(coords: &[i32], corners: &[u32], pairing: &[u32], h: i32, k: usize, c
 
 // The ring entry of corner c.
 pub fn entry_of(coords: &[i32], corners: &[u32], pairing: &[u32], h: i32, k: usize, c: usize) -> u32
-    requires { ⌜ Named (now coords) (now corners) ⌝ ∗ ⌜ Linked (now corners) (now pairing) ⌝ ∗ ⌜ c < length (now corners) ⌝ }
-    ensures { λ r. ⌜ r ≡ ringEntry (under (now (coords .entry)) h k) (now (corners .entry)) (now (pairing .entry)) c ⌝ }
+    requires { ⌜ Named (now coords) (now corners) ⌝
+        ∗ ⌜ Linked (now corners) (now pairing) ⌝
+        ∗ ⌜ c < length (now corners) ⌝ }
+    ensures { λ r. ⌜ r ≡ ringEntry (under (coords .entry .now) h k) (corners .entry .now) (pairing .entry .now) c ⌝ }
 {
     if rises(coords, corners, h, k, c) {
         return link_of(coords, corners, pairing, h, k, c);
@@ -96,8 +102,11 @@ pub fn entry_of(coords: &[i32], corners: &[u32], pairing: &[u32], h: i32, k: usi
 
 // Writes the ring entry of every corner.
 pub fn link(coords: &[i32], corners: &[u32], pairing: &[u32], h: i32, k: usize, ring: &mut [u32])
-    requires { ⌜ Named (now coords) (now corners) ⌝ ∗ ⌜ Linked (now corners) (now pairing) ⌝ ∗ ⌜ length (now corners) ≤ length (now ring) ⌝ }
-    ensures { λ _. ⌜ now (ring .exit) ≡ refill (length (now (corners .entry))) (ringEntry (under (now (coords .entry)) h k) (now (corners .entry)) (now (pairing .entry))) (now (ring .entry)) ⌝ }
+    requires { ⌜ Named (now coords) (now corners) ⌝
+        ∗ ⌜ Linked (now corners) (now pairing) ⌝
+        ∗ ⌜ length (now corners) ≤ length (now ring) ⌝ }
+    ensures { λ _. ⌜ ring .exit .now ≡ refill (length (corners .entry .now))
+        (ringEntry (under (coords .entry .now) h k) (corners .entry .now) (pairing .entry .now)) (ring .entry .now) ⌝ }
 {
     let n = corners.len();
     let mut c: usize = 0;
@@ -119,8 +128,10 @@ fn entry_between(
     start: bool,
     end: bool,
 ) -> u32
-    requires { ⌜ Named (now coords) (now corners) ⌝ ∗ ⌜ Linked (now corners) (now pairing) ⌝ ∗ ⌜ Between (under (now coords) h k) (now corners) c start end ⌝ }
-    ensures { λ r. ⌜ r ≡ ringEntry (under (now (coords .entry)) h k) (now (corners .entry)) (now (pairing .entry)) c ⌝ }
+    requires { ⌜ Named (now coords) (now corners) ⌝
+        ∗ ⌜ Linked (now corners) (now pairing) ⌝
+        ∗ ⌜ Between (under (now coords) h k) (now corners) c start end ⌝ }
+    ensures { λ r. ⌜ r ≡ ringEntry (under (coords .entry .now) h k) (corners .entry .now) (pairing .entry .now) c ⌝ }
 {
     if start {
         if end {
@@ -144,7 +155,7 @@ fn is_level(p: bool, q: bool, r: bool) -> bool
 // Writes three entries, from entry c on.
 fn put_three(t: &mut [u32], c: usize, x: u32, y: u32, z: u32)
     requires { ⌜ c + 2 < length (now t) ⌝ }
-    ensures { λ _. ⌜ now (t .exit) ≡ set (set (set (now (t .entry)) c x) (c + 1) y) (c + 2) z ⌝ }
+    ensures { λ _. ⌜ t .exit .now ≡ set (set (set (t .entry .now) c x) (c + 1) y) (c + 2) z ⌝ }
 {
     t[c] = x;
     t[c + 1] = y;
@@ -160,8 +171,12 @@ fn link_triangle(
     ring: &mut [u32],
     c: usize,
 )
-    requires { ⌜ Named (now coords) (now corners) ⌝ ∗ ⌜ Linked (now corners) (now pairing) ⌝ ∗ ⌜ length (now corners) ≤ length (now ring) ⌝ ∗ ⌜ (c < length (now corners)) × (c % 3 ≡ 0) ⌝ }
-    ensures { λ _. ⌜ now (ring .exit) ≡ setThree (ringEntry (under (now (coords .entry)) h 0) (now (corners .entry)) (now (pairing .entry))) c (now (ring .entry)) ⌝ }
+    requires { ⌜ Named (now coords) (now corners) ⌝
+        ∗ ⌜ Linked (now corners) (now pairing) ⌝
+        ∗ ⌜ length (now corners) ≤ length (now ring) ⌝
+        ∗ ⌜ (c < length (now corners)) × (c % 3 ≡ 0) ⌝ }
+    ensures { λ _. ⌜ ring .exit .now ≡ setThree
+        (ringEntry (under (coords .entry .now) h 0) (corners .entry .now) (pairing .entry .now)) c (ring .entry .now) ⌝ }
 {
     let d = c + 1;
     let e = c + 2;
@@ -180,8 +195,11 @@ fn link_triangle(
 
 // Writes the ring entry of every corner for height h, triangle by triangle.
 pub fn link_at(coords: &[i32], corners: &[u32], pairing: &[u32], h: i32, ring: &mut [u32])
-    requires { ⌜ Named (now coords) (now corners) ⌝ ∗ ⌜ Linked (now corners) (now pairing) ⌝ ∗ ⌜ length (now corners) ≤ length (now ring) ⌝ }
-    ensures { λ _. ⌜ now (ring .exit) ≡ refill (length (now (corners .entry))) (ringEntry (under (now (coords .entry)) h 0) (now (corners .entry)) (now (pairing .entry))) (now (ring .entry)) ⌝ }
+    requires { ⌜ Named (now coords) (now corners) ⌝
+        ∗ ⌜ Linked (now corners) (now pairing) ⌝
+        ∗ ⌜ length (now corners) ≤ length (now ring) ⌝ }
+    ensures { λ _. ⌜ ring .exit .now ≡ refill (length (corners .entry .now))
+        (ringEntry (under (coords .entry .now) h 0) (corners .entry .now) (pairing .entry .now)) (ring .entry .now) ⌝ }
 {
     let n = corners.len();
     let mut c: usize = 0;

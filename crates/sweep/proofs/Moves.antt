@@ -21,18 +21,17 @@ use Rattle.laws.specs.Machine.{same}
 use Rattle.laws.specs.Tables.{refill}
 use Rattle.laws.specs.TableLaws.{refill-more, refill-kept}
 use Rattle.mesh.specs.Corners.{largest, vertexCount, triangleOf, startOf, zOf}
-use Rattle.mesh.specs.Refusals.{test}
-use Rattle.mesh.specs.RefusalLaws.{test-refused, test-fine, whole-refused, whole-fine}
+use Rattle.mesh.specs.Meshes.{OrderedMesh}
+use Rattle.mesh.specs.Operation.{refuses, fine, test}
+use Rattle.mesh.specs.OperationLaws.{test-refused, test-fine, whole-refused, whole-fine}
+use Rattle.mesh.specs.Refusals.{refusal}
 use Rattle.mesh.specs.Tests.{pairOf}
 use Rattle.mesh.specs.RankLaws.{lower-sum}
-use Rattle.mesh.specs.OrderTableLaws.{Ranked}
-use Rattle.mesh.specs.declared.Refusal.the-variants.{Ring, Height}
-use Rattle.mesh.specs.declared.Verdict.the-variants.{Fine, Refused}
 use Rattle.section.specs.Section.{VertexSet, below, under, ringEntry}
 use Rattle.section.specs.Contours.{member}
-use Rattle.sweep.specs.Sweep.{passedAt, touches, relinked, mayRise, risenTo}
+use Rattle.sweep.specs.Sweep.{Sweep, meshOf, pairingOf, passedAt, touches, relinked, mayRise, risenTo}
 use Rattle.sweep.specs.Operations.{linkedAt, wrongRing, passedHigh, notAbove}
-use Rattle.sweep.specs.Places.{heightBehind, numberBehind, wrongFor, Placed}
+use Rattle.sweep.specs.Places.{heightBehind, numberBehind, wrongFor, InOrder, Placed}
 use Rattle.sweep.specs.SweepLaws.{entry-same, passed-under, earlier-below}
 
 -- a signed argument as the code holds it
@@ -57,7 +56,8 @@ module _ (corners : List ℕ) (t v : ℕ) where
   unfolding touches
   touches-2 p q = simp (ne-eqb (startOf corners (3 * t)) v p, eq-eqb (startOf corners (3 * t + 1)) v q)
 
-  pub touches-3 : (startOf corners (3 * t) ≡ v → ⊥) → (startOf corners (3 * t + 1) ≡ v → ⊥) → (x : ℕ) → x ≡ startOf corners (3 * t + 2) → eqb x v ≡ touches corners t v
+  pub touches-3 : (startOf corners (3 * t) ≡ v → ⊥) → (startOf corners (3 * t + 1) ≡ v → ⊥) → (x : ℕ) → x ≡ startOf corners (3 * t + 2)
+      → eqb x v ≡ touches corners t v
   unfolding touches
   touches-3 p q x e = ap (λ (y : ℕ). eqb y v) e ∙ simp (ne-eqb (startOf corners (3 * t)) v p, ne-eqb (startOf corners (3 * t + 1)) v q)
 
@@ -71,12 +71,14 @@ module _ (passed : VertexSet) (corners pairing : List ℕ) (w : ℕ) (ring₀ ri
 
   pub relink-write : b ≡ true → (e : ℕ) → e ≡ ringEntry passed corners pairing c → set ring c e ≡ refill (c + 1) (relinked passed corners pairing w ring₀) ring₀
   relink-write t e ee =
-      let x : relinked passed corners pairing w ring₀ c ≡ e = unfold relinked in (ap (λ (y : Bool). cond y (ringEntry passed corners pairing c) (getD ring₀ c 0)) (flag ∙ t) ∙ sym ee) in
+      let x : relinked passed corners pairing w ring₀ c ≡ e = unfold relinked
+      in (ap (λ (y : Bool). cond y (ringEntry passed corners pairing c) (getD ring₀ c 0)) (flag ∙ t) ∙ sym ee) in
       (λ i. set (so-far i) c (sym x i)) ∙ refill-more c (relinked passed corners pairing w ring₀) ring₀ room
 
   pub relink-skip : b ≡ false → ring ≡ refill (c + 1) (relinked passed corners pairing w ring₀) ring₀
   relink-skip f =
-      let x : relinked passed corners pairing w ring₀ c ≡ getD ring₀ c 0 = unfold relinked in (ap (λ (y : Bool). cond y (ringEntry passed corners pairing c) (getD ring₀ c 0)) (flag ∙ f)) in
+      let x : relinked passed corners pairing w ring₀ c ≡ getD ring₀ c 0 = unfold relinked
+      in (ap (λ (y : Bool). cond y (ringEntry passed corners pairing c) (getD ring₀ c 0)) (flag ∙ f)) in
       so-far ∙ refill-kept 0 c (relinked passed corners pairing w ring₀) ring₀ room x
 
 -- ---- the place behind the first n
@@ -116,18 +118,18 @@ none-under coords v h =
     by a false c p q = simp (p, q)
 
 -- the vertices before it are the first n
-pub passed-behind : (coords : List ℤ) (corners pairing order : List ℕ) (n v : ℕ) → Placed coords corners pairing order n → v < vertexCount coords
-    → under coords (heightBehind coords order n) (numberBehind order n) v ≡ passedAt order n v
+pub passed-behind : (m : OrderedMesh) (n v : ℕ) → Placed m n → v < vertexCount (m .paired .mesh .coords)
+    → under (m .paired .mesh .coords) (heightBehind (m .paired .mesh .coords) (m .order) n) (numberBehind (m .order) n) v ≡ passedAt (m .order) n v
 unfolding heightBehind numberBehind
-passed-behind coords corners pairing order zero v p l = none-under coords v (p .right .inside (3 * v + 2) (omega arith)) ∙ sym (none-passed order v)
-passed-behind coords corners pairing order (suc n) v p l = sym (passed-under coords order (p .ranked) n v (p .few) l)
+passed-behind m zero v p l = none-under (m .paired .mesh .coords) v (p .right .inside (3 * v + 2) (omega arith)) ∙ sym (none-passed (m .order) v)
+passed-behind m (suc n) v p l = sym (passed-under (m .paired .mesh .coords) (m .order) (p .ranked) n v (p .few) l)
 
 -- the order table has the first n, and the last of them is a vertex
-pub placed-long : {coords : List ℤ} {corners pairing order : List ℕ} {n : ℕ} → Placed coords corners pairing order n → n ≤ length order
+pub placed-long : {m : OrderedMesh} {n : ℕ} → Placed m n → n ≤ length (m .order)
 placed-long {n = zero} p = omega arith
 placed-long {n = suc n} p = p .ranked n (p .few) .there
 
-pub placed-last : {coords : List ℤ} {corners pairing order : List ℕ} {n : ℕ} → Placed coords corners pairing order n → 0 < n → getD order (n - 1) 0 < vertexCount coords
+pub placed-last : {m : OrderedMesh} {n : ℕ} → Placed m n → 0 < n → getD (m .order) (n - 1) 0 < vertexCount (m .paired .mesh .coords)
 placed-last {n = n} p l = p .ranked (n - 1) (omega (arith, p .few)) .vertex
 
 -- ---- is_wrong and ring_test
@@ -141,23 +143,31 @@ module _ (passed : VertexSet) (corners pairing ring : List ℕ) (c : ℕ) where
   unfolding wrongFor
   wrong-as h e q = ap (λ (x : ℕ). not (eqb (getD ring c 0) x)) q ∙ (let l = lt-ltb c (length ring) h in simp l)
 
-module _ (coords : List ℤ) (corners pairing order ring : List ℕ) (n : ℕ) (p : Placed coords corners pairing order n) where
-  least-is : least (length corners) (wrongFor (under coords (heightBehind coords order n) (numberBehind order n)) corners pairing ring)
-      ≡ least (length corners) (wrongRing corners pairing order ring n .fits)
+module _ (s : Sweep) (p : Placed (s .ordered) (s .passed)) where
+  -- the vertices before the place behind the passed ones
+  abbrev behind : VertexSet
+  behind = under (meshOf s .coords) (heightBehind (meshOf s .coords) (s .ordered .order) (s .passed)) (numberBehind (s .ordered .order) (s .passed))
+
+  least-is : least (length (meshOf s .corners)) (wrongFor behind (meshOf s .corners) (pairingOf s) (s .ring))
+      ≡ least (length (meshOf s .corners)) (wrongRing s .fits)
   least-is =
-      least-same (length corners) (wrongFor (under coords (heightBehind coords order n) (numberBehind order n)) corners pairing ring) (wrongRing corners pairing order ring n .fits)
-      (λ c l. unfold wrongFor linkedAt in (ap (λ (x : ℕ). not (ltb c (length ring) && eqb (getD ring c 0) x))
-      (entry-same (under coords (heightBehind coords order n) (numberBehind order n)) (passedAt order n) coords corners pairing (p .right .named) (p .right .linked) (λ v m. passed-behind coords corners pairing order n v p m) c l)))
+      least-same (length (meshOf s .corners)) (wrongFor behind (meshOf s .corners) (pairingOf s) (s .ring)) (wrongRing s .fits)
+      (λ c l. unfold wrongFor linkedAt in (ap (λ (x : ℕ). not (ltb c (length (s .ring)) && eqb (getD (s .ring) c 0) x))
+      (entry-same behind (passedAt (s .ordered .order) (s .passed)) (meshOf s .coords) (meshOf s .corners) (pairingOf s) (p .right .named) (p .right .linked)
+      (λ v m. passed-behind (s .ordered) (s .passed) v p m) c l)))
 
-  module _ (h : ℤ) (k c : ℕ) (eh : h ≡ heightBehind coords order n) (ek : k ≡ numberBehind order n) (ec : c ≡ least (length corners) (wrongFor (under coords h k) corners pairing ring)) where
-    found : c ≡ least (length corners) (wrongRing corners pairing order ring n .fits)
-    found = ec ∙ (λ i. least (length corners) (wrongFor (under coords (eh i) (ek i)) corners pairing ring)) ∙ least-is
+  module _ {h : ℤ} {k c : ℕ} (eh : h ≡ heightBehind (meshOf s .coords) (s .ordered .order) (s .passed)) (ek : k ≡ numberBehind (s .ordered .order) (s .passed))
+      (ec : c ≡ least (length (meshOf s .corners)) (wrongFor (under (meshOf s .coords) h k) (meshOf s .corners) (pairingOf s) (s .ring))) where
+    found : c ≡ least (length (meshOf s .corners)) (wrongRing s .fits)
+    found =
+        ec ∙ (λ i. least (length (meshOf s .corners)) (wrongFor (under (meshOf s .coords) (eh i) (ek i)) (meshOf s .corners) (pairingOf s) (s .ring)))
+        ∙ least-is
 
-    pub ring-refused : c < length corners → Refused (Ring c) ≡ test (wrongRing corners pairing order ring n)
-    ring-refused l = test-refused (wrongRing corners pairing order ring n) c found l
+    pub ring-refused : c < length (meshOf s .corners) → refuses (refusal 11 c) ≡ test (wrongRing s)
+    ring-refused l = test-refused (wrongRing s) c found l
 
-    pub ring-fine : length corners ≤ c → Fine ≡ test (wrongRing corners pairing order ring n)
-    ring-fine l = test-fine (wrongRing corners pairing order ring n) c found l
+    pub ring-fine : length (meshOf s .corners) ≤ c → fine ≡ test (wrongRing s)
+    ring-fine l = test-fine (wrongRing s) c found l
 
 -- ---- height_test
 
@@ -165,7 +175,8 @@ module _ (coords : List ℤ) (order : List ℕ) (h : ℤ) where
   -- a passed vertex that is not below h
   high-at : (n : ℕ) → passedHigh coords order n h ≡ true → (i : ℕ) × ((i < n) × (below coords h (getD order i 0) ≡ false))
   unfolding passedHigh
-  high-at n q = let s = some-at n (λ i. not (below coords h (getD order i 0))) q in (least n (λ i. not (below coords h (getD order i 0))), (s .0, not-true _ (s .1)))
+  high-at n q =
+      let s = some-at n (λ i. not (below coords h (getD order i 0))) q in (least n (λ i. not (below coords h (getD order i 0))), (s .0, not-true _ (s .1)))
 
   high-of : (n i : ℕ) → i < n → below coords h (getD order i 0) ≡ false → passedHigh coords order n h ≡ true
   unfolding passedHigh
@@ -175,21 +186,22 @@ module _ (coords : List ℤ) (order : List ℕ) (h : ℤ) where
   unfolding below
   below-is v e = e
 
-  pub none-high : (n : ℕ) → n ≡ 0 → Fine ≡ test (notAbove coords order n h)
-  none-high n e = whole-fine Height (passedHigh coords order n h) (is-false _ (λ q. let z = high-at n q .1 .0 in omega arith))
+  pub none-high : (n : ℕ) → n ≡ 0 → fine ≡ test (notAbove coords order n h)
+  none-high n e = whole-fine (refusal 12) (passedHigh coords order n h) (is-false _ (λ q. let z = high-at n q .1 .0 in omega arith))
 
-  module _ (ranked : (i : ℕ) → i < vertexCount coords → Ranked coords order i) (n : ℕ) (few : n ≤ vertexCount coords) (ne : n ≡ 0 → ⊥) (z : ℤ) (is : z ≡ heightBehind coords order n) where
+  module _ (ranked : InOrder coords order) (n : ℕ) (few : n ≤ vertexCount coords) (ne : n ≡ 0 → ⊥) (z : ℤ) (is : z ≡ heightBehind coords order n) where
     last : {b : Bool} → ltZ z h ≡ b → below coords h (getD order (n - 1) 0) ≡ b
     last e = below-is (getD order (n - 1) 0) (ap (λ (y : ℤ). ltZ y h) (behind-last coords order n (getD order (n - 1) 0) ne refl ∙ sym is) ∙ e)
 
     -- the last passed vertex is below h, and so is every other
-    pub low-last : ltZ z h ≡ true → Fine ≡ test (notAbove coords order n h)
+    pub low-last : ltZ z h ≡ true → fine ≡ test (notAbove coords order n h)
     low-last e =
-        whole-fine Height (passedHigh coords order n h)
-        (is-false _ (λ q. let s = high-at n q in let l = s .1 .0 in clash (earlier-below coords order ranked h (s .0) (n - 1) (omega arith) (omega arith) (last e)) (s .1 .1)))
+        whole-fine (refusal 12) (passedHigh coords order n h)
+        (is-false _ (λ q. let s = high-at n q in let l = s .1 .0 in clash
+        (earlier-below coords order ranked h (s .0) (n - 1) (omega arith) (omega arith) (last e)) (s .1 .1)))
 
-    pub high-last : ltZ z h ≡ false → Refused (Height 0) ≡ test (notAbove coords order n h)
-    high-last e = whole-refused Height (passedHigh coords order n h) (high-of n (n - 1) (omega arith) (last e))
+    pub high-last : ltZ z h ≡ false → refuses (refusal 12 0) ≡ test (notAbove coords order n h)
+    high-last e = whole-refused (refusal 12) (passedHigh coords order n h) (high-of n (n - 1) (omega arith) (last e))
 
 -- ---- risen_to
 
@@ -234,7 +246,9 @@ module _ (coords : List ℤ) (order : List ℕ) (h : ℤ) where
   -- the code's comparison
   module _ (p w : ℕ) (fz : mag (zOf coords w) < 2 ^ 31) (ew : w ≡ getD order p 0) (l : p < vertexCount coords) where
     compared : {b : Bool} → leZ h (held (zOf coords w)) ≡ b → below coords h (getD order p 0) ≡ not b
-    compared e = below-is coords order h (getD order p 0) (ap (λ (v : ℕ). ltZ (zOf coords v) h) (sym ew) ∙ lt-not-le (zOf coords w) h ∙ ap not (ap (leZ h) (sym (same w32 (zOf coords w) fz)) ∙ e))
+    compared e =
+        below-is coords order h (getD order p 0)
+        (ap (λ (v : ℕ). ltZ (zOf coords v) h) (sym ew) ∙ lt-not-le (zOf coords w) h ∙ ap not (ap (leZ h) (sym (same w32 (zOf coords w) fz)) ∙ e))
 
     pub may-not : leZ h (held (zOf coords w)) ≡ true → mayRise coords order h p ≡ false
     unfolding mayRise

@@ -14,13 +14,15 @@ use mir.Val.{SFits}
 use Rattle.laws.specs.Tables.{overwrite, refill}
 use Rattle.laws.specs.TableLaws.{refill-same, refill-at, tabulate-const}
 use Rattle.mesh.specs.Corners.{vertexCount, triangleOf, zOf}
-use Rattle.mesh.specs.Refusals.{Condition, verdict}
-use Rattle.mesh.specs.RefusalLaws.{None, more, done, fine-none, join-stop, join-next, refused-every}
-use Rattle.mesh.specs.OrderTableLaws.{Ranked, ordered-rank}
-use Rattle.mesh.specs.Tests.{pairOf, size, range, vertex, triangle, pairs, ordered}
+use Rattle.mesh.specs.Meshes.{Mesh, PairedMesh, OrderedMesh}
+use Rattle.mesh.specs.Operation.{Condition, Finding, gives, refuses, fine, test, verdict}
+use Rattle.mesh.specs.OperationLaws.{None, more, done, fine-none, fine-nowhere, join-stop, join-next, refused-every, does-refuse, does-give, does-last}
+use Rattle.mesh.specs.OperationLaws.{apart, given-verdict, left-given, refused-verdict}
+use Rattle.mesh.specs.Order.{Ranked}
+use Rattle.mesh.specs.OrderTableLaws.{ordered-rank}
+use Rattle.mesh.specs.Refusals.{Told, numbered, toldOf}
+use Rattle.mesh.specs.Tests.{pairOf, orders}
 use Rattle.mesh.specs.declared.Refusal.{Refusal}
-use Rattle.mesh.specs.declared.Verdict.{Verdict}
-use Rattle.mesh.specs.declared.Verdict.the-variants.{Fine, Refused}
 use Rattle.section.specs.Section.{under, noCorner, ringEntry, Right}
 use Rattle.section.specs.SectionLaws.{below-under}
 use Rattle.section.specs.RightLaws.{right-of}
@@ -28,224 +30,209 @@ use Rattle.section.specs.Contours.{Traced}
 use Rattle.section.specs.Links.{traceLinks}
 use Rattle.cutter.specs.declared.Sliced.{Sliced}
 use Rattle.cutter.specs.declared.Sliced.the-variants.{Layer as Cut, Refused as Uncut}
-use Rattle.cutter.specs.Cut.{tests, used, section, contoursOf, cleared, Leaves}
-use Rattle.cutter.specs.CutLaws.{layer-counts, uncut-refused}
+use Rattle.cutter.specs.Cut.{CutTables, lent, Lengths, lengthsOf, tests, used, section, contoursOf, countsOf, layerTables, tellCut}
 use Rattle.cutter.specs.Outlines.{Long, Outlined, Traces}
-use Rattle.cutter.specs.OutlineLaws.{outlined, section-is, sliced, section-fine, kept}
+use Rattle.cutter.specs.OutlineLaws.{outlined, section-is, sliced, section-fine, layer-kept}
 use Rattle.sweep.specs.declared.Started.the-variants.{Fresh, Refused as Unstarted}
 use Rattle.sweep.specs.declared.Stepping.the-variants.{Stepped, Top, Refused as Unstepped}
+use Rattle.sweep.specs.declared.SweepTest.{SweepTest}
 use Rattle.sweep.specs.declared.Rise.{Rise}
 use Rattle.sweep.specs.declared.Rise.the-variants.{Layer, Refused as Unrisen}
-use Rattle.sweep.specs.Sweep.{passedAt, freshRing, touches, relinked, stepRing, risenTo, risenRing}
-use Rattle.sweep.specs.SweepLaws.{entry-same, passed-under, passed-count, count-few, risen-is}
-use Rattle.sweep.specs.Operations.{at, tooMany, wrongRing, notAbove, startRefusals, startAnswer, startRing, Starts, stepRefusals, stepAnswer, stepAfter, Steps, risenSection, riseTests, riseRefusals, riseAnswer, riseAfter, Rises}
-use Rattle.sweep.specs.Places.{Placed, Liftable, Lifts}
+use Rattle.sweep.specs.Sweep.{Sweep, meshOf, pairingOf, passedAt, freshRing, touches, relinked, stepRing}
+use Rattle.sweep.specs.SweepLaws.{entry-same, passed-under, count-few, risen-is}
+use Rattle.sweep.specs.Operations.{at, unlessRefused, tooMany, startTests, Starts, stepTests, passes, top, Steps}
+use Rattle.sweep.specs.Operations.{risenPassed, risenTable, risenSection, riseTests, Rises}
+use Rattle.sweep.specs.SweepTests.{conditionOf}
+use Rattle.sweep.specs.Places.{Placed, StepTested, RiseTested, Lifts}
+use Rattle.sweep.specs.AnswerLaws.{step-tested, rise-passed}
+use Rattle.sweep.specs.RiseLaws.{rise-from}
 use Rattle.sweep.proofs.Moves.{held, back}
-use Rattle.sweep.specs.AnswerLaws.{StepTested, step-tested, rise-passed}
 
--- ---- the lists of tests, by parts
-
-abbrev pub linkedTests : List ℤ → List ℕ → List ℕ → List Condition
-linkedTests coords corners pairing = size coords corners ∷ range coords ∷ vertex (vertexCount coords) corners ∷ triangle corners ∷ pairs corners pairing ∷ []
-
-abbrev pub stateTests : List ℤ → List ℕ → ℕ → List Condition
-stateTests coords order n = ordered coords order ∷ tooMany coords n ∷ []
-
-abbrev pub sweepTests : List ℤ → List ℕ → List ℕ → List ℕ → List ℕ → ℕ → ℤ → List Condition
-sweepTests coords corners pairing order ring n h = ordered coords order ∷ tooMany coords n ∷ wrongRing corners pairing order ring n ∷ notAbove coords order n h ∷ []
+-- a test by name is the test of its condition
+pub tests-as : (s : Sweep) (h : ℤ) {which named : SweepTest} {f : Finding Told} → which ≡ named → f ≡ test (conditionOf named s h)
+    → f ≡ test (conditionOf which s h)
+tests-as s h e t = t ∙ ap (λ (w : SweepTest). test (conditionOf w s h)) (sym e)
 
 -- what 8 and 10 establish on a right mesh
-pub placed-of : (coords : List ℤ) (corners pairing order : List ℕ) (n : ℕ) → Right coords corners pairing → (v : Verdict) → v ≡ verdict (stateTests coords order n) → v ≡ Fine → Placed coords corners pairing order n
-placed-of coords corners pairing order n right v is e = go (fine-none (stateTests coords order n) (sym is ∙ e))
-  where
-    go : None (stateTests coords order n) → Placed coords corners pairing order n
-    go (more o (more m done)) = record { right = right; ranked = λ i l. ordered-rank coords order i (not-false _ (o i l)) l; few = ltb-false _ _ (m 0 (omega arith)) }
+pub placed-of : (m : OrderedMesh) (n : ℕ) → Right (m .paired) → {f g : Finding Told} → f ≡ test (orders (m .paired .mesh .coords) (m .order)) → f ≡ fine
+    → g ≡ test (tooMany (m .paired .mesh .coords) n) → g ≡ fine → Placed m n
+placed-of m n right e k d l =
+    record {
+      right = right;
+      ranked = λ i h. ordered-rank (m .paired .mesh .coords) (m .order) i (not-false _ (fine-nowhere _ (sym e ∙ k) i h)) h;
+      few = ltb-false _ _ (fine-nowhere _ (sym d ∙ l) 0 (omega arith));
+    }
 
 -- what Cut's tests establish
-pub right-tested : (coords : List ℤ) (corners pairing : List ℕ) (names points ends marks : ℕ) (v : Verdict) → v ≡ verdict (tests coords corners pairing names points ends marks) → v ≡ Fine → Right coords corners pairing
-right-tested coords corners pairing names points ends marks v is e = go (fine-none (tests coords corners pairing names points ends marks) (sym is ∙ e))
+pub right-tested : (m : PairedMesh) (l : Lengths) {f : Finding Told} → f ≡ verdict (tests m l) → f ≡ fine → Right m
+right-tested m l e g = go (fine-none (tests m l) (sym e ∙ g))
   where
-    go : None (tests coords corners pairing names points ends marks) → Right coords corners pairing
-    go (more s (more m (more r (more x (more t (more p done)))))) = right-of coords corners pairing (not-false _ (s 0 (omega arith))) r x t p
+    go : None (tests m l) → Right m
+    go (more s (more k (more r (more x (more t (more p done)))))) = right-of m (not-false _ (s 0 (omega arith))) r x t p
 
 -- ---- Start
 
-module _ (coords : List ℤ) (corners ring : List ℕ) (v : Verdict) (is : v ≡ verdict (startRefusals coords corners (length ring))) where
-  pub starts-refused : (r : Refusal) → v ≡ Refused r → Starts coords corners ring (Unstarted r) ring
-  unfolding startAnswer startRing
-  starts-refused r e = record { answers = ap startAnswer (sym e ∙ is); rings = ap (λ (u : Verdict). startRing u corners ring) (sym e ∙ is) }
+module _ (m : Mesh) (ring : List ℕ) {f : Finding Told} (e : f ≡ verdict (startTests m (length ring))) where
+  pub starts-refused : {r : Refusal} → f ≡ refuses (toldOf r) → Starts m ring (Unstarted r) ring
+  unfolding unlessRefused
+  starts-refused g = does-refuse e g refl refl
 
-  pub start-long : v ≡ Fine → length corners ≤ length ring
-  start-long e = go (fine-none (startRefusals coords corners (length ring)) (sym is ∙ e))
+  pub start-long : f ≡ fine → length (m .corners) ≤ length ring
+  start-long g = go (fine-none (startTests m (length ring)) (sym e ∙ g))
     where
-      go : None (startRefusals coords corners (length ring)) → length corners ≤ length ring
-      go (more s (more m done)) = ltb-false _ _ (m 0 (omega arith))
+      go : None (startTests m (length ring)) → length (m .corners) ≤ length ring
+      go (more z (more l done)) = ltb-false _ _ (l 0 (omega arith))
 
-  pub starts-fresh : v ≡ Fine → (ring′ : List ℕ) → ring′ ≡ overwrite (replicate (length corners) noCorner) ring → Starts coords corners ring (Fresh (at 0)) ring′
-  unfolding startAnswer startRing freshRing
-  starts-fresh e ring′ q =
-      record {
-        answers = ap startAnswer (sym e ∙ is);
-        rings = q ∙ ap (λ (l : List ℕ). overwrite l ring) (sym (tabulate-const (length corners) noCorner)) ∙ ap (λ (u : Verdict). startRing u corners ring) (sym e ∙ is);
-      }
+  pub starts-fresh : {ring′ : List ℕ} → f ≡ fine → ring′ ≡ overwrite (replicate (length (m .corners)) noCorner) ring → Starts m ring (Fresh (at 0)) ring′
+  unfolding unlessRefused freshRing
+  starts-fresh g q = does-give e g refl (q ∙ ap (λ (l : List ℕ). overwrite l ring) (sym (tabulate-const (length (m .corners)) noCorner)))
 
 -- ---- Step
 
-module _ (coords : List ℤ) (corners pairing order ring : List ℕ) (n : ℕ) (v : Verdict) (is : v ≡ verdict (stepRefusals coords corners pairing order (length ring) n)) where
-  pub steps-refused : (r : Refusal) → v ≡ Refused r → Steps coords corners pairing order ring n (Unstepped r) ring
-  unfolding stepAnswer stepAfter
-  steps-refused r e =
-      record {
-        answers = ap (λ (u : Verdict). stepAnswer u (vertexCount coords) n) (sym e ∙ is);
-        rings = ap (λ (u : Verdict). stepAfter u (vertexCount coords) corners pairing order n ring) (sym e ∙ is);
-      }
+module _ (s : Sweep) {f : Finding Told} (e : f ≡ verdict (stepTests (s .ordered) (length (s .ring)) (s .passed))) where
+  pub steps-refused : {r : Refusal} → f ≡ refuses (toldOf r) → Steps s (Unstepped r) (s .ring)
+  unfolding unlessRefused
+  steps-refused g = does-refuse e g refl refl
 
-  module _ (e : v ≡ Fine) where
-    pub step-passed : StepTested coords corners pairing order (length ring) n
-    step-passed = step-tested coords corners pairing order (length ring) n (sym is ∙ e)
+  module _ (g : f ≡ fine) where
+    pub step-passed : StepTested (s .ordered) (length (s .ring)) (s .passed)
+    step-passed = step-tested (s .ordered) (length (s .ring)) (s .passed) (sym e ∙ g)
 
-    pub steps-top : n ≡ vertexCount coords → Steps coords corners pairing order ring n Top ring
-    unfolding stepAnswer stepAfter
+    pub steps-top : s .passed ≡ vertexCount (meshOf s .coords) → Steps s Top (s .ring)
+    unfolding unlessRefused
     steps-top q =
-        let b : ltb n (vertexCount coords) ≡ false = le-ltb n (vertexCount coords) (omega arith) in
-        record {
-          answers = ap (λ (t : Bool). cond t (Stepped (at (suc n))) Top) (sym b) ∙ ap (λ (u : Verdict). stepAnswer u (vertexCount coords) n) (sym e ∙ is);
-          rings = ap (λ (t : Bool). cond t (stepRing corners pairing order n ring) ring) (sym b) ∙ ap (λ (u : Verdict). stepAfter u (vertexCount coords) corners pairing order n ring) (sym e ∙ is);
-        }
+        let b : false ≡ ltb (s .passed) (vertexCount (meshOf s .coords)) = sym (le-ltb (s .passed) (vertexCount (meshOf s .coords)) (omega arith)) in
+        does-give e g (λ i. gives (cond (b i) (passes (suc (s .passed))) top)) (λ i. cond (b i) (stepRing s) (s .ring))
 
-    module _ (ne : n ≡ vertexCount coords → ⊥) where
-      pub next-there : n < vertexCount coords
-      next-there = omega (arith, step-passed .few, ne)
+    module _ (ne : s .passed ≡ vertexCount (meshOf s .coords) → ⊥) where
+      pub next-there : s .passed < vertexCount (meshOf s .coords)
+      next-there = omega (arith, step-passed .placed .few, ne)
 
-      pub next-ranked : Ranked coords order n
-      next-ranked = step-passed .tested .ranked n next-there
+      pub next-ranked : Ranked (meshOf s .coords) (s .ordered .order) (s .passed)
+      next-ranked = step-passed .placed .ranked (s .passed) next-there
 
-      -- the entries for the vertices before the place behind w are those for one more of the order
-      relinked-is : (z : ℤ) (k w : ℕ) → w ≡ getD order n 0 → z ≡ zOf coords w → k ≡ w + 1
-          → refill (length corners) (relinked (under coords z k) corners pairing w ring) ring ≡ stepRing corners pairing order n ring
+      abbrev w : ℕ
+      w = getD (s .ordered .order) (s .passed) 0
+
+      -- the entries for the vertices before the place behind the next one are those for one more of the order
+      relinked-is : {z : ℤ} {k v : ℕ} → v ≡ getD (s .ordered .order) (s .passed) 0 → z ≡ zOf (meshOf s .coords) v → k ≡ v + 1
+          → refill (length (meshOf s .corners)) (relinked (under (meshOf s .coords) z k) (meshOf s .corners) (pairingOf s) v (s .ring)) (s .ring)
+          ≡ stepRing s
       unfolding stepRing relinked
-      relinked-is z k w ew ez ek =
-          ap (λ (x : ℕ). refill (length corners) (relinked (under coords z k) corners pairing x ring) ring) ew
-          ∙ refill-same (length corners) (relinked (under coords z k) corners pairing (getD order n 0) ring) (relinked (passedAt order (suc n)) corners pairing (getD order n 0) ring) ring
-          (λ c l. ap (λ (x : ℕ). cond (touches corners (triangleOf (pairOf pairing c)) (getD order n 0)) x (getD ring c 0))
-          (entry-same (under coords z k) (passedAt order (suc n)) coords corners pairing (step-passed .tested .right .named) (step-passed .tested .right .linked)
-          (λ v m. (λ i. under coords ((ez ∙ ap (zOf coords) ew) i) ((ek ∙ ap (λ (x : ℕ). x + 1) ew) i) v) ∙ sym (passed-under coords order (step-passed .tested .ranked) n v next-there m)) c l))
+      relinked-is {z} {k} {v} ev ez ek =
+          let coords = meshOf s .coords in
+          let corners = meshOf s .corners in
+          let pairing = pairingOf s in
+          let order = s .ordered .order in
+          let right = step-passed .placed .right in
+          let next = passedAt order (suc (s .passed)) in
+          ap (λ (x : ℕ). refill (length corners) (relinked (under coords z k) corners pairing x (s .ring)) (s .ring)) ev
+          ∙ refill-same (length corners) (relinked (under coords z k) corners pairing w (s .ring)) (relinked next corners pairing w (s .ring)) (s .ring)
+          (λ c l. ap (λ (x : ℕ). cond (touches corners (triangleOf (pairOf pairing c)) w) x (getD (s .ring) c 0))
+          (entry-same (under coords z k) next coords corners pairing (right .named) (right .linked)
+          (λ u m. (λ i. under coords ((ez ∙ ap (zOf coords) ev) i) ((ek ∙ ap (λ (x : ℕ). x + 1) ev) i) u)
+          ∙ sym (passed-under coords order (step-passed .placed .ranked) (s .passed) u next-there m)) c l))
 
-      pub steps-taken : (z : ℤ) (k w : ℕ) (ring′ : List ℕ) → w ≡ getD order n 0 → z ≡ zOf coords w → k ≡ w + 1
-          → ring′ ≡ refill (length corners) (relinked (under coords z k) corners pairing w ring) ring → Steps coords corners pairing order ring n (Stepped (at (n + 1))) ring′
-      unfolding stepAnswer stepAfter
-      steps-taken z k w ring′ ew ez ek q =
-          let b : ltb n (vertexCount coords) ≡ true = lt-ltb n (vertexCount coords) next-there in
-          record {
-            answers = ap (λ (m : ℕ). Stepped (at m)) (add-one n) ∙ ap (λ (t : Bool). cond t (Stepped (at (suc n))) Top) (sym b) ∙ ap (λ (u : Verdict). stepAnswer u (vertexCount coords) n) (sym e ∙ is);
-            rings = q ∙ relinked-is z k w ew ez ek ∙ ap (λ (t : Bool). cond t (stepRing corners pairing order n ring) ring) (sym b) ∙ ap (λ (u : Verdict). stepAfter u (vertexCount coords) corners pairing order n ring) (sym e ∙ is);
-          }
+      pub steps-taken : {z : ℤ} {k v : ℕ} {ring′ : List ℕ} → v ≡ getD (s .ordered .order) (s .passed) 0 → z ≡ zOf (meshOf s .coords) v → k ≡ v + 1
+          → ring′ ≡ refill (length (meshOf s .corners)) (relinked (under (meshOf s .coords) z k) (meshOf s .corners) (pairingOf s) v (s .ring)) (s .ring)
+          → Steps s (Stepped (at (s .passed + 1))) ring′
+      unfolding unlessRefused
+      steps-taken ev ez ek q =
+          let b : true ≡ ltb (s .passed) (vertexCount (meshOf s .coords)) = sym (lt-ltb _ _ next-there) in
+          does-give e g
+          (ap (λ (n : ℕ). gives (passes n)) (add-one (s .passed)) ∙ (λ i. gives (cond (b i) (passes (suc (s .passed))) top)))
+          (q ∙ relinked-is ev ez ek ∙ (λ i. cond (b i) (stepRing s) (s .ring)))
 
 -- ---- Layer
 
-module _ (coords : List ℤ) (corners pairing order ring : List ℕ) (n : ℕ) (h : ℤ) (names : List ℕ) (points : List ℤ) (ends marks : List ℕ) (v : Verdict)
-    (is : v ≡ verdict (riseTests coords corners pairing order ring n h (length names) (length points) (length ends) (length marks))) where
-  pub liftable : v ≡ Fine → Liftable coords corners pairing order ring n h × Long (length corners) (length names) (length points) (length ends) (length marks)
-  liftable e =
-      let p = rise-passed coords corners pairing order ring n h (length names) (length points) (length ends) (length marks) (sym is ∙ e) in
-      let t = p .0 in (
-        record {
-          placed = record { right = t .tested .right; ranked = t .tested .ranked; few = t .few };
-          ring-at = t .table;
-          above = passed-count coords order (t .tested .ranked) h n (t .few) (t .low);
-        },
-        p .1,
-      )
+module _ (s : Sweep) (h : ℤ) (t : CutTables) {f : Finding Told} (e : f ≡ verdict (riseTests s h (lengthsOf t))) where
+  abbrev last : List (Condition Told)
+  last = used (length (meshOf s .corners)) (risenSection s h) ∷ []
 
-  pub rises-refused : (r : Refusal) → v ≡ Refused r → Rises coords corners pairing order ring n h names points ends marks (Unrisen r) ring names points ends marks
-  unfolding riseAnswer riseAfter
-  rises-refused r e =
-      let a : Refused r ≡ verdict (riseRefusals coords corners pairing order ring n h (length names) (length points) (length ends) (length marks)) =
-      sym e ∙ join-stop (riseTests coords corners pairing order ring n h (length names) (length points) (length ends) (length marks)) (used (length corners) (risenSection coords corners pairing order ring n h) ∷ []) is e in
-      record {
-        answers = ap (λ (u : Verdict). riseAnswer u (risenTo coords order h (vertexCount coords) n) (contoursOf (risenSection coords corners pairing order ring n h))) a;
-        rings = ap (λ (u : Verdict). riseAfter u (risenRing coords corners pairing order h (vertexCount coords) n ring) ring) a;
-        leaves = record { names-are = kept _ _ _ a other; points-are = kept _ _ _ a other; ends-are = kept _ _ _ a other; marks-are = kept _ _ _ a other };
-      }
+  pub liftable : f ≡ fine → RiseTested s h × Long (length (meshOf s .corners)) (lengthsOf t)
+  liftable g = rise-passed s h (lengthsOf t) (sym e ∙ g)
+
+  -- a test refuses
+  pub rises-refused : {r : Refusal} → f ≡ refuses (toldOf r) → Rises s h t (Unrisen r) (s .ring) t
+  unfolding unlessRefused
+  rises-refused {r} g =
+      does-refuse (join-stop (riseTests s h (lengthsOf t)) last e g) g refl
+      (λ i. (s .ring, layer-kept (meshOf s) h (contoursOf (risenSection s h)) t (toldOf r) other i))
     where
-      other : cleared r ≡ false
+      other : numbered (16 ∷ []) (toldOf r) ≡ false
       other =
-          refused-every (λ q. cleared q ≡ false) (riseTests coords corners pairing order ring n h (length names) (length points) (length ends) (length marks)) r
-          ((λ i. refl), ((λ i. refl), ((λ i. refl), ((λ i. refl), ((λ i. refl), ((λ i. refl), ((λ i. refl), ((λ i. refl), ((λ i. refl), ((λ i. refl), tt)))))))))) (sym is ∙ e)
+          refused-every (λ q. numbered (16 ∷ []) q ≡ false) (riseTests s h (lengthsOf t)) (toldOf r) (
+            (λ i. refl),
+            (
+              (λ i. refl),
+              ((λ i. refl), ((λ i. refl), ((λ i. refl), ((λ i. refl), ((λ i. refl), ((λ i. refl), ((λ i. refl), ((λ i. refl), tt)))))))),
+            ),
+          )
+          (sym e ∙ g)
 
-  pub rises-lifted : {result : Rise} {ring′ names′ : List ℕ} {points′ : List ℤ} {ends′ marks′ : List ℕ} → v ≡ Fine
-      → Lifts coords corners pairing order ring n h names points ends marks result ring′ names′ points′ ends′ marks′
-      → Rises coords corners pairing order ring n h names points ends marks result ring′ names′ points′ ends′ marks′
-  rises-lifted {result} {ring′} {names′} {points′} {ends′} {marks′} e s =
-      let a = join-next (riseTests coords corners pairing order ring n h (length names) (length points) (length ends) (length marks)) (used (length corners) (risenSection coords corners pairing order ring n h) ∷ []) is e refl in
-      record {
-        answers = s .answers ∙ ap (λ (u : Verdict). riseAnswer u (risenTo coords order h (vertexCount coords) n) (contoursOf (risenSection coords corners pairing order ring n h))) a;
-        rings = s .rings ∙ ap (λ (u : Verdict). riseAfter u (risenRing coords corners pairing order h (vertexCount coords) n ring) ring) a;
-        leaves = subst (λ (u : Verdict). Leaves u (contoursOf (risenSection coords corners pairing order ring n h)) coords corners h names points ends marks names′ points′ ends′ marks′) a (s .leaves);
-      }
+  -- none does
+  pub rises-lifted : {result : Rise} {ring′ : List ℕ} {t′ : CutTables} → f ≡ fine → Lifts s h t result ring′ t′ → Rises s h t result ring′ t′
+  rises-lifted g d = does-last d (join-next (riseTests s h (lengthsOf t)) last e g refl) refl refl
 
 -- ---- raise
 
-module _ (coords : List ℤ) (corners pairing order ring : List ℕ) (n : ℕ) (h : ℤ) (names : List ℕ) (points : List ℤ) (ends marks : List ℕ)
-    (l : Liftable coords corners pairing order ring n h) where
-  abbrev right : Right coords corners pairing
-  right = l .placed .right
+module _ (s : Sweep) (h : ℤ) (r : RiseTested s h) where
+  abbrev right : Right (s .ordered .paired)
+  right = r .placed .right
+
+  abbrev entry : ℕ → ℕ
+  entry = ringEntry (under (meshOf s .coords) h 0) (meshOf s .corners) (pairingOf s)
 
   -- the ring table in one pass, and its copy in the marks
-  module _ (ring₁ marks₁ : List ℕ) (er : ring₁ ≡ refill (length corners) (ringEntry (under coords h 0) corners pairing) ring)
-      (em : marks₁ ≡ refill (length corners) (λ c. getD ring₁ c 0) marks) where
-    copied : marks₁ ≡ refill (length corners) (ringEntry (under coords h 0) corners pairing) marks
+  module _ (marks : List ℕ) {ring₁ marks₁ : List ℕ}
+      (er : ring₁ ≡ refill (length (meshOf s .corners)) (ringEntry (under (meshOf s .coords) h 0) (meshOf s .corners) (pairingOf s)) (s .ring))
+      (em : marks₁ ≡ refill (length (meshOf s .corners)) (λ c. getD ring₁ c 0) marks) where
+    copied : marks₁ ≡ refill (length (meshOf s .corners)) entry marks
     copied =
-        em ∙ refill-same (length corners) (λ c. getD ring₁ c 0) (ringEntry (under coords h 0) corners pairing) marks
-        (λ c k. ap (λ (t : List ℕ). getD t c 0) er ∙ refill-at (length corners) (ringEntry (under coords h 0) corners pairing) ring c 0 k)
+        em ∙ refill-same (length (meshOf s .corners)) (λ c. getD ring₁ c 0) entry marks
+        (λ c k. ap (λ (t : List ℕ). getD t c 0) er ∙ refill-at (length (meshOf s .corners)) entry (s .ring) c 0 k)
 
-    pub raise-outlined : Outlined coords corners h marks₁
-    raise-outlined = outlined coords corners pairing h right marks₁ marks copied
+    pub raise-outlined : Outlined (meshOf s) h marks₁
+    raise-outlined = outlined (s .ordered .paired) h right marks₁ marks copied
 
-    risen : ring₁ ≡ risenRing coords corners pairing order h (vertexCount coords) n ring
+    risen : ring₁ ≡ risenTable s h
     risen =
-        er ∙ ap (λ (p : ℕ → Bool). refill (length corners) (ringEntry p corners pairing) ring) (sym (below-under coords h))
-        ∙ sym (risen-is coords order (l .placed .ranked) h corners pairing (right .linked) (right .named) (vertexCount coords) n ring (l .ring-at) (l .above) (omega (arith, count-few coords order (l .placed .ranked) h)))
+        let coords = meshOf s .coords in
+        let corners = meshOf s .corners in
+        let ranked = r .placed .ranked in
+        er ∙ ap (λ (p : ℕ → Bool). refill (length corners) (ringEntry p corners (pairingOf s)) (s .ring)) (sym (below-under coords h))
+        ∙ sym (risen-is (s .ordered) ranked h (right .linked) (right .named) (vertexCount coords) (s .passed) (s .ring) (r .table)
+        (rise-from s h r) (omega (arith, count-few coords (s .ordered .order) ranked h)))
 
-    module _ {result : Sliced} {names′ : List ℕ} {points′ : List ℤ} {ends′ marks′ : List ℕ} (s : Traces (traceLinks (length corners) marks₁) coords corners h names points ends marks₁ result names′ points′ ends′ marks′) where
-      cut : Traces (section coords corners pairing h) coords corners h names points ends marks result names′ points′ ends′ marks′
-      cut = sliced coords corners pairing h right marks₁ marks copied s
+    traced : section (s .ordered .paired) h ≡ risenSection s h
+    traced = sym (section-is (s .ordered .paired) h right ring₁ (s .ring) er) ∙ ap (traceLinks (length (meshOf s .corners))) risen
 
-      fine : verdict (used (length corners) (section coords corners pairing h) ∷ []) ≡ Fine
-      fine = section-fine coords corners pairing h right
+    module _ {names : List ℕ} {points : List ℤ} {ends : List ℕ} {result : Sliced} {t′ : CutTables}
+        (d : Traces (traceLinks (length (meshOf s .corners)) marks₁) (meshOf s) h (lent names points ends marks₁) result t′) where
+      cut : Traces (section (s .ordered .paired) h) (meshOf s) h (lent names points ends marks) result t′
+      cut = sliced (s .ordered .paired) h right marks₁ marks copied d
 
-      pub never-refused : (r : Refusal) → result ≡ Uncut r → ⊥
-      never-refused r e = apart (sym (uncut-refused _ _ r (sym e ∙ cut .answers)) ∙ fine)
-        where
-          apart : Refused r ≡ Fine → ⊥
-          apart q = absurd (let z : _≡_ {A = ℕ} 0 1 = cc in omega arith)
+      pub never-refused : {q : Refusal} → result ≡ Uncut q → ⊥
+      never-refused {q} x = apart (sym (refused-verdict cut {r = toldOf q} (ap tellCut x)) ∙ section-fine (s .ordered .paired) h right)
 
-      pub lifts : (p j k : ℕ) → result ≡ Cut j k → p ≡ risenTo coords order h (vertexCount coords) n → Lifts coords corners pairing order ring n h names points ends marks (Layer (at p) j k) ring₁ names′ points′ ends′ marks′
-      unfolding riseAnswer riseAfter
-      lifts p j k e ep =
-          let t = traced in
-          let v : verdict (used (length corners) (risenSection coords corners pairing order ring n h) ∷ []) ≡ Fine = ap (λ (u : Traced). verdict (used (length corners) u ∷ [])) (sym t) ∙ fine in
-          let q = layer-counts _ _ (sym e ∙ cut .answers) in
-          record {
-            answers = (λ i. Layer (at (ep i)) (q .0 i) (q .1 i)) ∙ (λ i. riseAnswer (sym v i) (risenTo coords order h (vertexCount coords) n) (contoursOf (t i)));
-            rings = risen ∙ ap (λ (u : Verdict). riseAfter u (risenRing coords corners pairing order h (vertexCount coords) n ring) ring) (sym v);
-            leaves = subst (λ (u : Traced). Leaves (verdict (used (length corners) u ∷ [])) (contoursOf u) coords corners h names points ends marks names′ points′ ends′ marks′) t (cut .leaves);
-          }
-        where
-          traced : section coords corners pairing h ≡ risenSection coords corners pairing order ring n h
-          traced = sym (section-is coords corners pairing h right ring₁ ring er) ∙ ap (traceLinks (length corners)) risen
+      pub lifts : {p j k : ℕ} → result ≡ Cut j k → p ≡ risenPassed s h → Lifts s h (lent names points ends marks) (Layer (at p) j k) ring₁ t′
+      unfolding unlessRefused
+      lifts {p} {j} {k} x ep =
+          let c = given-verdict cut {g = (j, k)} (ap tellCut x) in
+          does-give refl
+          (ap (λ (u : Traced). verdict (used (length (meshOf s .corners)) u ∷ [])) (sym traced) ∙ c .0)
+          ((λ i. gives (ep i, c .1 i)) ∙ (λ i. gives (risenPassed s h, countsOf (contoursOf (traced i)))))
+          ((λ i. (risen i, left-given cut {g = (j, k)} (ap tellCut x) i))
+          ∙ (λ i. (risenTable s h, layerTables (meshOf s) h (contoursOf (traced i)) (lent names points ends marks) fine)))
 
 -- ---- the height as the code holds it
 
-pub held-liftable : {coords : List ℤ} {corners pairing order ring : List ℕ} {n : ℕ} {h : ℤ} → SFits w32 h → Liftable coords corners pairing order ring n h → Liftable coords corners pairing order ring n (held h)
-held-liftable {coords} {corners} {pairing} {order} {ring} {n} f = subst (λ (z : ℤ). Liftable coords corners pairing order ring n z) (sym (back f))
+module _ (s : Sweep) {h : ℤ} (f : SFits w32 h) where
+  pub held-tested : RiseTested s h → RiseTested s (held h)
+  held-tested = subst (RiseTested s) (sym (back f))
 
-pub at-height : {coords : List ℤ} {corners pairing order ring : List ℕ} {n : ℕ} {h : ℤ} {names : List ℕ} {points : List ℤ} {ends marks : List ℕ}
-    {result : Rise} {ring′ names′ : List ℕ} {points′ : List ℤ} {ends′ marks′ : List ℕ} → SFits w32 h
-    → Lifts coords corners pairing order ring n (held h) names points ends marks result ring′ names′ points′ ends′ marks′ → Lifts coords corners pairing order ring n h names points ends marks result ring′ names′ points′ ends′ marks′
-at-height {coords} {corners} {pairing} {order} {ring} {n} {h} {names} {points} {ends} {marks} {result} {ring′} {names′} {points′} {ends′} {marks′} f =
-    subst (λ (z : ℤ). Lifts coords corners pairing order ring n z names points ends marks result ring′ names′ points′ ends′ marks′) (back f)
+  pub at-height : {t t′ : CutTables} {result : Rise} {ring′ : List ℕ} → Lifts s (held h) t result ring′ t′ → Lifts s h t result ring′ t′
+  at-height {t} {t′} {result} {ring′} = subst (λ (z : ℤ). Lifts s z t result ring′ t′) (back f)
 
-pub held-tests : (coords : List ℤ) (corners pairing order ring : List ℕ) (n : ℕ) (h : ℤ) (names points ends marks : ℕ) {v : Verdict} → SFits w32 h
-    → v ≡ verdict (riseTests coords corners pairing order ring n (held h) names points ends marks) → v ≡ verdict (riseTests coords corners pairing order ring n h names points ends marks)
-held-tests coords corners pairing order ring n h names points ends marks f e = e ∙ ap (λ (z : ℤ). verdict (riseTests coords corners pairing order ring n z names points ends marks)) (back f)
+  pub held-tests : (l : Lengths) {v : Finding Told} → v ≡ verdict (riseTests s (held h) l) → v ≡ verdict (riseTests s h l)
+  held-tests l e = e ∙ ap (λ (z : ℤ). verdict (riseTests s z l)) (back f)

@@ -1,147 +1,217 @@
--- What the answers of Start, Step and Layer say of their verdicts, and what an unrefused call has tested.
+-- What Start, Step and Layer promise: each refuses exactly if a listed condition holds, the first that fits, at its least place; gives its values exactly if
+-- none does; and the outcome is the only one. Then what an unrefused call has tested, and what Start and Step give and leave by their answers.
 use Prim.Native.Nat.{ℕ, suc, _≤_, _<_}
-use mathlib.Core.Path.{_≡_, refl}
-use mathlib.Core.Logic.{⊎-elim}
+use mathlib.Core.Path.{_≡_, refl, ap}
+use mathlib.Core.Logic.{_↔_, ⊎-elim}
 use mathlib.Core.Bool.{Bool, true, false, not, cond}
-use mathlib.Core.List.{List, [], _∷_}
+use mathlib.Core.List.{List}
 use native.Mathlib.Omega.{arith}
 use borrow.Author.Tests.{ltb-true, ltb-false, eqb-true, not-false}
-use lib.Dec.{ltb, eqb}
+use lib.Dec.{ltb}
 use lib.ListN.{length, getD}
 use lib.IntN.{ℤ}
 use Rattle.laws.specs.Booleans.{and-parts, split-lt}
 use Rattle.laws.specs.LeastLaws.{some-none}
 use Rattle.mesh.specs.Corners.{vertexCount}
-use Rattle.mesh.specs.Refusals.{verdict}
-use Rattle.mesh.specs.RefusalLaws.{None, more, done, fine-none, join-fine}
-use Rattle.cutter.specs.Cut.{used}
+use Rattle.mesh.specs.Meshes.{Mesh, OrderedMesh}
+use Rattle.mesh.specs.Operation.{gives, refuses, fine, verdict}
+use Rattle.mesh.specs.OperationLaws.{First, None, more, done, fine-none, Recovers, refused-exactly, given-exactly, only-outcome}
+use Rattle.mesh.specs.OperationLaws.{given-verdict, left-given, left-refused}
+use Rattle.mesh.specs.OrderTableLaws.{ordered-rank}
+use Rattle.mesh.specs.Refusals.{Told}
+use Rattle.mesh.specs.RefusalLaws.{refusalOf, refusal-once}
+use Rattle.mesh.specs.declared.Refusal.{Refusal}
+use Rattle.section.specs.Section.{below}
+use Rattle.section.specs.RightLaws.{right-of}
+use Rattle.cutter.specs.Cut.{CutTables, Lengths}
 use Rattle.cutter.specs.Outlines.{Long}
 use Rattle.cutter.specs.OutlineLaws.{room-long}
-use Rattle.mesh.specs.OrderTableLaws.{Ranked, ordered-rank}
-use Rattle.mesh.specs.declared.Refusal.{Refusal}
-use Rattle.mesh.specs.declared.Verdict.{Verdict}
-use Rattle.mesh.specs.declared.Verdict.the-variants.{Fine, Refused}
-use Rattle.section.specs.Section.{below, ringEntry, Right}
-use Rattle.section.specs.RightLaws.{right-of}
-use Rattle.section.specs.Contours.{namesOf}
 use Rattle.sweep.specs.declared.State.{State}
-use Rattle.sweep.specs.declared.Started.the-variants.{Fresh}
+use Rattle.sweep.specs.declared.Started.{Started}
+use Rattle.sweep.specs.declared.Started.the-variants.{Fresh, Refused as Unstarted}
+use Rattle.sweep.specs.declared.Stepping.{Stepping}
 use Rattle.sweep.specs.declared.Stepping.the-variants.{Stepped, Top, Refused as Unstepped}
+use Rattle.sweep.specs.declared.Rise.{Rise}
 use Rattle.sweep.specs.declared.Rise.the-variants.{Layer, Refused as Unrisen}
-use Rattle.sweep.specs.Sweep.{passedAt}
-use Rattle.sweep.specs.SweepLaws.{RingAt}
-use Rattle.sweep.specs.Operations.{at, linkedAt, passedHigh, startAnswer, stepRefusals, stepAnswer, riseRefusals, riseAnswer, riseTests, risenSection}
+use Rattle.sweep.specs.Sweep.{Sweep, meshOf, RingAt, freshRing, stepRing}
+use Rattle.sweep.specs.Operations.{at, unlessRefused, linkedAt, passedHigh, startTests, starting, tellStart, Starts}
+use Rattle.sweep.specs.Operations.{stepTests, StepGives, passes, top, stepping, tellStep, Steps}
+use Rattle.sweep.specs.Operations.{riseTests, layering, tellRise, Rises}
+use Rattle.sweep.specs.Places.{StepTested, RiseTested}
 
--- ---- answers and verdicts
+-- ---- the cases of an answer, from what they tell
 
-pub fresh-fine : (v : Verdict) {s : State} → Fresh s ≡ startAnswer v → (v ≡ Fine) × (s ≡ at 0)
-unfolding startAnswer
-fresh-fine Fine e = (refl, cc)
-fresh-fine (Refused r) e = absurd (let z : _≡_ {A = ℕ} 0 1 = cc in omega arith)
+pub start-recovers : Recovers tellStart
+start-recovers = record {
+  back = elim [ gives n ↦ Fresh (at n) | refuses r ↦ Unstarted (refusalOf r) ];
+  once = elim [ Fresh s ↦ refl | Unstarted r ↦ ap Unstarted (refusal-once r) ];
+}
 
-pub stepped-fine : (v : Verdict) (vertices n : ℕ) {s : State} → Stepped s ≡ stepAnswer v vertices n → (v ≡ Fine) × ((ltb n vertices ≡ true) × (s ≡ at (suc n)))
-unfolding stepAnswer
-stepped-fine (Refused r) vertices n e = absurd (let z : _≡_ {A = ℕ} 0 1 = cc in omega arith)
-stepped-fine Fine vertices n {s} e = (refl, by (ltb n vertices) e)
-  where
-    by : (b : Bool) → Stepped s ≡ cond b (Stepped (at (suc n))) Top → (b ≡ true) × (s ≡ at (suc n))
-    by true q = (refl, cc)
-    by false q = absurd (let z : _≡_ {A = ℕ} 0 1 = cc in omega arith)
+stepOf : StepGives → Stepping
+stepOf (passes n) = Stepped (at n)
+stepOf top = Top
 
-pub top-fine : (v : Verdict) (vertices n : ℕ) → Top ≡ stepAnswer v vertices n → (v ≡ Fine) × (ltb n vertices ≡ false)
-unfolding stepAnswer
-top-fine (Refused r) vertices n e = absurd (let z : _≡_ {A = ℕ} 0 1 = cc in omega arith)
-top-fine Fine vertices n e = (refl, by (ltb n vertices) e)
-  where
-    by : (b : Bool) → Top ≡ cond b (Stepped (at (suc n))) Top → b ≡ false
-    by true q = absurd (let z : _≡_ {A = ℕ} 0 1 = cc in omega arith)
-    by false q = refl
+pub step-recovers : Recovers tellStep
+unfolding stepOf
+step-recovers = record {
+  back = elim [ gives g ↦ stepOf g | refuses r ↦ Unstepped (refusalOf r) ];
+  once = elim [ Stepped s ↦ refl | Top ↦ refl | Unstepped r ↦ ap Unstepped (refusal-once r) ];
+}
 
-pub unstepped-refused : (v : Verdict) (vertices n : ℕ) (r : Refusal) → Unstepped r ≡ stepAnswer v vertices n → v ≡ Refused r
-unfolding stepAnswer
-unstepped-refused (Refused q) vertices n r e = cc
-unstepped-refused Fine vertices n r e = absurd (by (ltb n vertices) e)
-  where
-    by : (b : Bool) → Unstepped r ≡ cond b (Stepped (at (suc n))) Top → ⊥
-    by true q = absurd (let z : _≡_ {A = ℕ} 0 1 = cc in omega arith)
-    by false q = absurd (let z : _≡_ {A = ℕ} 0 1 = cc in omega arith)
+pub rise-recovers : Recovers tellRise
+rise-recovers = record {
+  back = elim [ gives g ↦ Layer (at (g .0)) (g .1 .0) (g .1 .1) | refuses r ↦ Unrisen (refusalOf r) ];
+  once = elim [ Layer s j k ↦ refl | Unrisen r ↦ ap Unrisen (refusal-once r) ];
+}
 
-pub layer-fine : (v : Verdict) (n : ℕ) (rs : List (List ℕ)) {s : State} {j k : ℕ} → Layer s j k ≡ riseAnswer v n rs
-    → (v ≡ Fine) × ((s ≡ at n) × ((j ≡ length rs) × (k ≡ length (namesOf rs))))
-unfolding riseAnswer
-layer-fine (Refused r) n rs e = absurd (let z : _≡_ {A = ℕ} 0 1 = cc in omega arith)
-layer-fine Fine n rs e = (refl, (cc, (cc, cc)))
+-- ---- refused exactly if, given exactly if, and one outcome only
 
-pub unrisen-refused : (v : Verdict) (n : ℕ) (rs : List (List ℕ)) (r : Refusal) → Unrisen r ≡ riseAnswer v n rs → v ≡ Refused r
-unfolding riseAnswer
-unrisen-refused (Refused q) n rs r e = cc
-unrisen-refused Fine n rs r e = absurd (let z : _≡_ {A = ℕ} 0 1 = cc in omega arith)
+module _ {m : Mesh} {ring ring′ : List ℕ} {result : Started} (d : Starts m ring result ring′) where
+  pub start-refused : (r : Told) → (tellStart result ≡ refuses r) ↔ First (starting (m, ring) .refusals) r
+  start-refused = refused-exactly d
+
+  pub start-given : (tellStart result ≡ gives 0) ↔ None (starting (m, ring) .refusals)
+  start-given = given-exactly d
+
+  pub start-only : {other : Started} {ring″ : List ℕ} → Starts m ring other ring″ → (result ≡ other) × (ring′ ≡ ring″)
+  start-only = only-outcome start-recovers d
+
+module _ {s : Sweep} {ring′ : List ℕ} {result : Stepping} (d : Steps s result ring′) where
+  pub step-refused : (r : Told) → (tellStep result ≡ refuses r) ↔ First (stepping s .refusals) r
+  step-refused = refused-exactly d
+
+  pub step-given : (tellStep result ≡ gives (stepping s .values)) ↔ None (stepping s .refusals)
+  step-given = given-exactly d
+
+  pub step-only : {other : Stepping} {ring″ : List ℕ} → Steps s other ring″ → (result ≡ other) × (ring′ ≡ ring″)
+  step-only = only-outcome step-recovers d
+
+module _ {s : Sweep} {h : ℤ} {t t′ : CutTables} {ring′ : List ℕ} {result : Rise} (d : Rises s h t result ring′ t′) where
+  pub rise-refused : (r : Told) → (tellRise result ≡ refuses r) ↔ First (layering (s, h, t) .refusals) r
+  rise-refused = refused-exactly d
+
+  pub rise-given : (tellRise result ≡ gives (layering (s, h, t) .values)) ↔ None (layering (s, h, t) .refusals)
+  rise-given = given-exactly d
+
+  pub rise-only : {other : Rise} {ring″ : List ℕ} {t″ : CutTables} → Rises s h t other ring″ t″ → (result ≡ other) × (ring′ ≡ ring″) × (t′ ≡ t″)
+  rise-only e = let p = only-outcome rise-recovers d e in (p .0, (λ i. p .1 i .0), (λ i. p .1 i .1))
 
 -- ---- what an unrefused call has tested
 
--- 1, 2, 3, 4, 7 and 8: the mesh and the pairing are right, and so is the order
-pub record Tested (coords : List ℤ) (corners pairing order : List ℕ) : Type 0 where
-  pub right : Right coords corners pairing
-  pub ranked : (i : ℕ) → i < vertexCount coords → Ranked coords order i
+pub step-tested : (m : OrderedMesh) (ring n : ℕ) → verdict (stepTests m ring n) ≡ fine → StepTested m ring n
+step-tested m ring n e = go (fine-none (stepTests m ring n) e)
+  where
+    go : None (stepTests m ring n) → StepTested m ring n
+    go (more s (more r (more v (more t (more p (more o (more k (more l done)))))))) =
+        record {
+          placed = record {
+            right = right-of (m .paired) (not-false _ (s 0 (omega arith))) r v t p;
+            ranked = λ i h. ordered-rank (m .paired .mesh .coords) (m .order) i (not-false _ (o i h)) h;
+            few = ltb-false _ _ (k 0 (omega arith));
+          };
+          long = ltb-false _ _ (l 0 (omega arith));
+        }
 
--- of Step: also 10 and 11
-pub record StepTested (coords : List ℤ) (corners pairing order : List ℕ) (ring n : ℕ) : Type 0 where
-  pub tested : Tested coords corners pairing order
-  pub few : n ≤ vertexCount coords
-  pub long : length corners ≤ ring
-
--- of Layer: also 10, 11 and 12
-pub record RiseTested (coords : List ℤ) (corners pairing order ring : List ℕ) (n : ℕ) (h : ℤ) : Type 0 where
-  pub tested : Tested coords corners pairing order
-  pub few : n ≤ vertexCount coords
-  pub table : RingAt corners pairing order n ring
-  pub low : (i : ℕ) → i < n → below coords h (getD order i 0) ≡ true
-
-module _ (coords : List ℤ) (corners pairing order : List ℕ) where
-  pub step-tested : (ring n : ℕ) → verdict (stepRefusals coords corners pairing order ring n) ≡ Fine → StepTested coords corners pairing order ring n
-  step-tested ring n e = go (fine-none (stepRefusals coords corners pairing order ring n) e)
-    where
-      go : None (stepRefusals coords corners pairing order ring n) → StepTested coords corners pairing order ring n
-      go (more s (more r (more v (more t (more p (more o (more m (more l done)))))))) =
-          record {
-            tested = record {
-              right = right-of coords corners pairing (not-false _ (s 0 (omega arith))) r v t p;
-              ranked = λ i h. ordered-rank coords order i (not-false _ (o i h)) h;
-            };
-            few = ltb-false _ _ (m 0 (omega arith));
-            long = ltb-false _ _ (l 0 (omega arith));
-          }
-
-  ring-linked : (ring : List ℕ) (n : ℕ) → ((c : ℕ) → c < length corners → linkedAt corners pairing order ring n c ≡ true) → RingAt corners pairing order n ring
+module _ (s : Sweep) where
+  ring-linked : ((c : ℕ) → c < length (meshOf s .corners) → linkedAt s c ≡ true) → RingAt s
   unfolding linkedAt
-  ring-linked ring n all =
+  ring-linked all =
+      let corners = meshOf s .corners in
+      let ring = s .ring in
       record {
-        long = ⊎-elim (λ (l : length ring < length corners). let p : length ring < length ring = ltb-true _ _ (and-parts _ _ (all (length ring) l) .0) in omega arith) (λ l. l) (split-lt (length ring) (length corners));
-        entries = λ c l. eqb-true _ _ (and-parts (ltb c (length ring)) (eqb (getD ring c 0) (ringEntry (passedAt order n) corners pairing c)) (all c l) .1);
+        long = ⊎-elim
+            (λ (l : length ring < length corners). let p : length ring < length ring = ltb-true _ _ (and-parts _ _ (all (length ring) l) .0) in omega arith)
+            (λ l. l) (split-lt (length ring) (length corners));
+        entries = λ c l. eqb-true _ _ (and-parts (ltb c (length ring)) _ (all c l) .1);
       }
 
-  all-low : (n : ℕ) (h : ℤ) → passedHigh coords order n h ≡ false → (i : ℕ) → i < n → below coords h (getD order i 0) ≡ true
+  all-low : (h : ℤ) → passedHigh (meshOf s .coords) (s .ordered .order) (s .passed) h ≡ false
+      → (i : ℕ) → i < s .passed → below (meshOf s .coords) h (getD (s .ordered .order) i 0) ≡ true
   unfolding passedHigh
-  all-low n h e i l = not-false _ (some-none n (λ k. not (below coords h (getD order k 0))) e i l)
+  all-low h e i l = not-false _ (some-none (s .passed) (λ k. not (below (meshOf s .coords) h (getD (s .ordered .order) k 0))) e i l)
 
-  module _ (ring : List ℕ) (n : ℕ) (h : ℤ) (names points ends marks : ℕ) where
-    pub rise-passed : verdict (riseTests coords corners pairing order ring n h names points ends marks) ≡ Fine
-        → RiseTested coords corners pairing order ring n h × Long (length corners) names points ends marks
-    rise-passed e = go (fine-none (riseTests coords corners pairing order ring n h names points ends marks) e)
+  module _ (h : ℤ) (l : Lengths) where
+    pub rise-passed : verdict (riseTests s h l) ≡ fine → RiseTested s h × Long (length (meshOf s .corners)) l
+    rise-passed e = go (fine-none (riseTests s h l) e)
       where
-        go : None (riseTests coords corners pairing order ring n h names points ends marks) → RiseTested coords corners pairing order ring n h × Long (length corners) names points ends marks
-        go (more s (more u (more r (more v (more t (more p (more o (more m (more w (more a done)))))))))) = (
+        go : None (riseTests s h l) → RiseTested s h × Long (length (meshOf s .corners)) l
+        go (more z (more u (more r (more v (more t (more p (more o (more k (more w (more a done)))))))))) = (
           record {
-            tested = record {
-              right = right-of coords corners pairing (not-false _ (s 0 (omega arith))) r v t p;
-              ranked = λ i l. ordered-rank coords order i (not-false _ (o i l)) l;
+            placed = record {
+              right = right-of (s .ordered .paired) (not-false _ (z 0 (omega arith))) r v t p;
+              ranked = λ i q. ordered-rank (meshOf s .coords) (s .ordered .order) i (not-false _ (o i q)) q;
+              few = ltb-false _ _ (k 0 (omega arith));
             };
-            few = ltb-false _ _ (m 0 (omega arith));
-            table = ring-linked ring n (λ c l. not-false _ (w c l));
-            low = all-low n h (a 0 (omega arith));
+            table = ring-linked (λ c q. not-false _ (w c q));
+            low = all-low h (a 0 (omega arith));
           },
-          room-long (length corners) names points ends marks (not-false _ (u 0 (omega arith))),
+          room-long (length (meshOf s .corners)) l (not-false _ (u 0 (omega arith))),
         )
 
-    pub rise-tested : verdict (riseRefusals coords corners pairing order ring n h names points ends marks) ≡ Fine → RiseTested coords corners pairing order ring n h
-    rise-tested e = rise-passed (join-fine (riseTests coords corners pairing order ring n h names points ends marks) (used (length corners) (risenSection coords corners pairing order ring n h) ∷ []) e) .0
+-- ---- Start and Step by their answers
+
+-- an unrefused Start
+pub record FreshStart (m : Mesh) (ring : List ℕ) (state : State) (ring′ : List ℕ) : Type 0 where
+  pub none-passed : state .passed ≡ 0
+  pub long : length (m .corners) ≤ length ring
+  pub fresh : ring′ ≡ freshRing (m .corners) ring
+
+pub fresh-start : {m : Mesh} {ring ring′ : List ℕ} {state : State} → Starts m ring (Fresh state) ring′ → FreshStart m ring state ring′
+unfolding unlessRefused
+fresh-start {m} {ring} {ring′} {state} d =
+    let p = given-verdict d {g = state .passed} refl in
+    record { none-passed = p .1; long = go (fine-none (startTests m (length ring)) (p .0)); fresh = left-given d {g = state .passed} refl }
+  where
+    go : None (startTests m (length ring)) → length (m .corners) ≤ length ring
+    go (more z (more l done)) = ltb-false _ _ (l 0 (omega arith))
+
+-- a Step that passed the next vertex
+pub record StepTaken (s : Sweep) (state : State) (ring′ : List ℕ) : Type 0 where
+  pub tested : StepTested (s .ordered) (length (s .ring)) (s .passed)
+  pub next : s .passed < vertexCount (meshOf s .coords)
+  pub one-more : state .passed ≡ suc (s .passed)
+  pub relinks : ring′ ≡ stepRing s
+
+pub step-taken : {s : Sweep} {state : State} {ring′ : List ℕ} → Steps s (Stepped state) ring′ → StepTaken s state ring′
+unfolding unlessRefused
+step-taken {s} {state} {ring′} d = by (ltb (s .passed) (vertexCount (meshOf s .coords))) refl (p .1) (left-given d {g = passes (state .passed)} refl)
+  where
+    p : (verdict (stepping s .refusals) ≡ fine) × (passes (state .passed) ≡ stepping s .values)
+    p = given-verdict d refl
+
+    same : {a b : ℕ} → passes a ≡ passes b → a ≡ b
+    same e = cc
+
+    apart : {a : ℕ} → passes a ≡ top → ⊥
+    apart e = absurd (let z : _≡_ {A = ℕ} 0 1 = cc in omega arith)
+
+    by : (b : Bool) → ltb (s .passed) (vertexCount (meshOf s .coords)) ≡ b → passes (state .passed) ≡ cond b (passes (suc (s .passed))) top
+        → ring′ ≡ cond b (stepRing s) (s .ring) → StepTaken s state ring′
+    by false e q r = absurd (apart q)
+    by true e q r = record { tested = step-tested (s .ordered) (length (s .ring)) (s .passed) (p .0); next = ltb-true _ _ e; one-more = same q; relinks = r }
+
+-- a Step at the top
+pub record StepTop (s : Sweep) (ring′ : List ℕ) : Type 0 where
+  pub tested : StepTested (s .ordered) (length (s .ring)) (s .passed)
+  pub all-passed : vertexCount (meshOf s .coords) ≤ s .passed
+  pub stays : ring′ ≡ s .ring
+
+pub step-top : {s : Sweep} {ring′ : List ℕ} → Steps s Top ring′ → StepTop s ring′
+unfolding unlessRefused
+step-top {s} {ring′} d = by (ltb (s .passed) (vertexCount (meshOf s .coords))) refl (p .1) (left-given d {g = top} refl)
+  where
+    p : (verdict (stepping s .refusals) ≡ fine) × (top ≡ stepping s .values)
+    p = given-verdict d refl
+
+    apart : {a : ℕ} → top ≡ passes a → ⊥
+    apart e = absurd (let z : _≡_ {A = ℕ} 0 1 = cc in omega arith)
+
+    by : (b : Bool) → ltb (s .passed) (vertexCount (meshOf s .coords)) ≡ b → top ≡ cond b (passes (suc (s .passed))) top
+        → ring′ ≡ cond b (stepRing s) (s .ring) → StepTop s ring′
+    by true e q r = absurd (apart q)
+    by false e q r = record { tested = step-tested (s .ordered) (length (s .ring)) (s .passed) (p .0); all-passed = ltb-false _ _ e; stays = r }
+
+-- a refused Step leaves the ring table
+pub unstepped-ring : {s : Sweep} {r : Refusal} {ring′ : List ℕ} → Steps s (Unstepped r) ring′ → ring′ ≡ s .ring
+unfolding unlessRefused
+unstepped-ring d = left-refused d refl

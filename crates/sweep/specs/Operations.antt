@@ -1,6 +1,5 @@
 -- Start, Step and Layer of document 01: their refusals in order, what they answer, and what they leave in the lent tables.
 use Prim.Native.Nat.{ℕ, suc}
-use mathlib.Core.Path.{_≡_}
 use mathlib.Core.Bool.{Bool, not, cond, _&&_}
 use mathlib.Core.List.{List, [], _∷_, _++_}
 use lib.Dec.{ltb, eqb}
@@ -8,15 +7,15 @@ use lib.ListN.{length, getD}
 use lib.IntN.{ℤ}
 use Rattle.laws.specs.Least.{some}
 use Rattle.mesh.specs.Corners.{vertexCount}
-use Rattle.mesh.specs.Refusals.{Condition, whole, verdict}
-use Rattle.mesh.specs.Tests.{size, range, vertex, triangle, pairs, ordered}
-use Rattle.mesh.specs.declared.Refusal.the-variants.{Room, Passed, Ring, Height}
-use Rattle.mesh.specs.declared.Verdict.{Verdict}
-use Rattle.mesh.specs.declared.Verdict.the-variants.{Fine, Refused}
+use Rattle.mesh.specs.Meshes.{Mesh, PairedMesh, OrderedMesh}
+use Rattle.mesh.specs.Operation.{Answer, gives, refuses, Finding, Condition, whole, Operation, Does}
+use Rattle.mesh.specs.Refusals.{Told, refusal, toldOf}
+use Rattle.mesh.specs.Tests.{size, orders}
+use Rattle.tables.specs.MeshTests.{contentTests}
 use Rattle.section.specs.Section.{below, ringEntry}
-use Rattle.section.specs.Contours.{Traced, namesOf}
+use Rattle.section.specs.Contours.{Traced}
 use Rattle.section.specs.Links.{traceLinks}
-use Rattle.cutter.specs.Cut.{room, used, contoursOf, Leaves}
+use Rattle.cutter.specs.Cut.{CutTables, Lengths, lengthsOf, tests, used, contoursOf, countsOf, layerTables}
 use Rattle.sweep.specs.declared.State.{State}
 use Rattle.sweep.specs.declared.Started.{Started}
 use Rattle.sweep.specs.declared.Started.the-variants.{Fresh, Refused as Unstarted}
@@ -24,123 +23,144 @@ use Rattle.sweep.specs.declared.Stepping.{Stepping}
 use Rattle.sweep.specs.declared.Stepping.the-variants.{Stepped, Top, Refused as Unstepped}
 use Rattle.sweep.specs.declared.Rise.{Rise}
 use Rattle.sweep.specs.declared.Rise.the-variants.{Layer, Refused as Unrisen}
-use Rattle.sweep.specs.Sweep.{passedAt, freshRing, stepRing, risenTo, risenRing}
+use Rattle.sweep.specs.Sweep.{Sweep, meshOf, pairingOf, passedAt, freshRing, stepRing, risenTo, risenRing}
 
 -- the state with so many passed
 abbrev pub at : ℕ → State
 at n = record { passed = n }
 
+-- a refusal changes nothing
+unfoldable pub unlessRefused : {A : Type 0} → A → A → Finding Told → A
+unlessRefused changed before (gives _) = changed
+unlessRefused changed before (refuses r) = before
+
 -- ---- the refusals that only the sweep has
 
 -- 9 of Start: the ring table has fewer entries than corners
-abbrev pub ringRoom : List ℕ → ℕ → Condition
-ringRoom corners ring = whole Room (ltb ring (length corners))
+abbrev pub ringRoom : List ℕ → ℕ → Condition Told
+ringRoom corners ring = whole (refusal 9) (ltb ring (length corners))
 
 -- 10: more passed than vertices
-abbrev pub tooMany : List ℤ → ℕ → Condition
-tooMany coords n = whole Passed (ltb (vertexCount coords) n)
+abbrev pub tooMany : List ℤ → ℕ → Condition Told
+tooMany coords n = whole (refusal 10) (ltb (vertexCount coords) n)
 
 -- 11 of Step: a ring table shorter than the corners, place its length
-abbrev pub shortRing : List ℕ → ℕ → Condition
-shortRing corners ring = whole (λ i. Ring ring) (ltb ring (length corners))
+abbrev pub shortRing : List ℕ → ℕ → Condition Told
+shortRing corners ring = whole (λ i. refusal 11 ring) (ltb ring (length corners))
 
 -- 11 of Layer: the least corner whose ring entry is missing or not as defined for the passed count
-unfoldable pub linkedAt : List ℕ → List ℕ → List ℕ → List ℕ → ℕ → ℕ → Bool
-linkedAt corners pairing order ring n c = ltb c (length ring) && eqb (getD ring c 0) (ringEntry (passedAt order n) corners pairing c)
+unfoldable pub linkedAt : Sweep → ℕ → Bool
+linkedAt s c =
+    ltb c (length (s .ring))
+    && eqb (getD (s .ring) c 0) (ringEntry (passedAt (s .ordered .order) (s .passed)) (meshOf s .corners) (pairingOf s) c)
 
-abbrev pub wrongRing : List ℕ → List ℕ → List ℕ → List ℕ → ℕ → Condition
-wrongRing corners pairing order ring n = record { refusal = Ring; places = length corners; fits = λ c. not (linkedAt corners pairing order ring n c) }
+abbrev pub wrongRing : Sweep → Condition Told
+wrongRing s = record { tells = refusal 11; places = length (meshOf s .corners); fits = λ c. not (linkedAt s c) }
 
--- 12: a passed vertex has z ≥ h
+-- 12: a passed vertex has z ≥ h; 8 and 10 come before, so that the order has them
 unfoldable pub passedHigh : List ℤ → List ℕ → ℕ → ℤ → Bool
 passedHigh coords order n h = some n (λ i. not (below coords h (getD order i 0)))
 
-abbrev pub notAbove : List ℤ → List ℕ → ℕ → ℤ → Condition
-notAbove coords order n h = whole Height (passedHigh coords order n h)
+abbrev pub notAbove : List ℤ → List ℕ → ℕ → ℤ → Condition Told
+notAbove coords order n h = whole (refusal 12) (passedHigh coords order n h)
 
 -- ---- Start
 
-abbrev pub startRefusals : List ℤ → List ℕ → ℕ → List Condition
-startRefusals coords corners ring = size coords corners ∷ ringRoom corners ring ∷ []
+-- of a ring table of this length
+abbrev pub startTests : Mesh → ℕ → List (Condition Told)
+startTests m ring = size m ∷ ringRoom (m .corners) ring ∷ []
 
-unfoldable pub startAnswer : Verdict → Started
-startAnswer Fine = Fresh (at 0)
-startAnswer (Refused r) = Unstarted r
+abbrev pub starting : Mesh × List ℕ → Operation Told ℕ (List ℕ)
+starting = λ (m, ring). record {
+  refusals = startTests m (length ring);
+  values = 0;
+  leaves = unlessRefused (freshRing (m .corners) ring) ring;
+}
 
-unfoldable pub startRing : Verdict → List ℕ → List ℕ → List ℕ
-startRing Fine corners ring = freshRing corners ring
-startRing (Refused r) corners ring = ring
+-- what its answer says: the count of passed vertices
+abbrev pub tellStart : Started → Answer Told ℕ
+tellStart (Fresh s) = gives (s .passed)
+tellStart (Unstarted r) = refuses (toldOf r)
 
-pub record Starts (coords : List ℤ) (corners ring : List ℕ) (result : Started) (ring′ : List ℕ) : Type 0 where
-  pub answers : result ≡ startAnswer (verdict (startRefusals coords corners (length ring)))
-  pub rings : ring′ ≡ startRing (verdict (startRefusals coords corners (length ring))) corners ring
+abbrev pub Starts : Mesh → List ℕ → Started → List ℕ → Type 0
+Starts m ring result ring′ = Does starting tellStart (m, ring) result ring′
 
 -- ---- Step
 
-abbrev pub stepRefusals : List ℤ → List ℕ → List ℕ → List ℕ → ℕ → ℕ → List Condition
-stepRefusals coords corners pairing order ring n =
-    size coords corners
-    ∷ range coords
-    ∷ vertex (vertexCount coords) corners
-    ∷ triangle corners
-    ∷ pairs corners pairing
-    ∷ ordered coords order
-    ∷ tooMany coords n
-    ∷ shortRing corners ring
-    ∷ []
+-- 1, 2, 3, 4 and 7
+abbrev pub linkedTests : PairedMesh → List (Condition Told)
+linkedTests m = size (m .mesh) ∷ contentTests m
 
--- "top" exactly if all vertices were passed already
-unfoldable pub stepAnswer : Verdict → ℕ → ℕ → Stepping
-stepAnswer Fine vertices n = cond (ltb n vertices) (Stepped (at (suc n))) Top
-stepAnswer (Refused r) vertices n = Unstepped r
+-- 8 and 10, with n passed
+abbrev pub stateTests : List ℤ → List ℕ → ℕ → List (Condition Told)
+stateTests coords order n = orders coords order ∷ tooMany coords n ∷ []
 
-unfoldable pub stepAfter : Verdict → ℕ → List ℕ → List ℕ → List ℕ → ℕ → List ℕ → List ℕ
-stepAfter Fine vertices corners pairing order n ring = cond (ltb n vertices) (stepRing corners pairing order n ring) ring
-stepAfter (Refused r) vertices corners pairing order n ring = ring
+-- of a ring table of this length, with n passed
+abbrev pub stepTests : OrderedMesh → ℕ → ℕ → List (Condition Told)
+stepTests m ring n =
+    linkedTests (m .paired) ++ (stateTests (m .paired .mesh .coords) (m .order) n ++ (shortRing (m .paired .mesh .corners) ring ∷ []))
 
-pub record Steps (coords : List ℤ) (corners pairing order ring : List ℕ) (n : ℕ) (result : Stepping) (ring′ : List ℕ) : Type 0 where
-  pub answers : result ≡ stepAnswer (verdict (stepRefusals coords corners pairing order (length ring) n)) (vertexCount coords) n
-  pub rings : ring′ ≡ stepAfter (verdict (stepRefusals coords corners pairing order (length ring) n)) (vertexCount coords) corners pairing order n ring
+-- what it gives: the count of passed vertices, or "top"
+pub data StepGives : Type 0 where
+  passes : ℕ → StepGives
+  top : StepGives
+
+-- "top" exactly if all vertices were passed already, and then it changes nothing
+abbrev pub stepping : Sweep → Operation Told StepGives (List ℕ)
+stepping s =
+    let next = ltb (s .passed) (vertexCount (meshOf s .coords)) in
+    record {
+      refusals = stepTests (s .ordered) (length (s .ring)) (s .passed);
+      values = cond next (passes (suc (s .passed))) top;
+      leaves = unlessRefused (cond next (stepRing s) (s .ring)) (s .ring);
+    }
+
+-- what its answer says
+abbrev pub tellStep : Stepping → Answer Told StepGives
+tellStep (Stepped s) = gives (passes (s .passed))
+tellStep Top = gives top
+tellStep (Unstepped r) = refuses (toldOf r)
+
+abbrev pub Steps : Sweep → Stepping → List ℕ → Type 0
+Steps s result ring′ = Does stepping tellStep s result ring′
 
 -- ---- Layer at h
 
--- the contours that the ring table has after the rise
-abbrev pub risenSection : List ℤ → List ℕ → List ℕ → List ℕ → List ℕ → ℕ → ℤ → Traced
-risenSection coords corners pairing order ring n h = traceLinks (length corners) (risenRing coords corners pairing order h (vertexCount coords) n ring)
+-- the count of passed vertices and the ring table after the rise, and the contours of that table
+abbrev pub risenPassed : Sweep → ℤ → ℕ
+risenPassed s h = risenTo (meshOf s .coords) (s .ordered .order) h (vertexCount (meshOf s .coords)) (s .passed)
 
--- those that tests of the tables find
-abbrev pub riseTests : List ℤ → List ℕ → List ℕ → List ℕ → List ℕ → ℕ → ℤ → ℕ → ℕ → ℕ → ℕ → List Condition
-riseTests coords corners pairing order ring n h names points ends marks =
-    size coords corners
-    ∷ room (length corners) names points ends marks
-    ∷ range coords
-    ∷ vertex (vertexCount coords) corners
-    ∷ triangle corners
-    ∷ pairs corners pairing
-    ∷ ordered coords order
-    ∷ tooMany coords n
-    ∷ wrongRing corners pairing order ring n
-    ∷ notAbove coords order n h
-    ∷ []
+abbrev pub risenTable : Sweep → ℤ → List ℕ
+risenTable s h = risenRing h (vertexCount (meshOf s .coords)) s
 
-abbrev pub riseRefusals : List ℤ → List ℕ → List ℕ → List ℕ → List ℕ → ℕ → ℤ → ℕ → ℕ → ℕ → ℕ → List Condition
-riseRefusals coords corners pairing order ring n h names points ends marks =
-    riseTests coords corners pairing order ring n h names points ends marks ++ (used (length corners) (risenSection coords corners pairing order ring n h) ∷ [])
+abbrev pub risenSection : Sweep → ℤ → Traced
+risenSection s h = traceLinks (length (meshOf s .corners)) (risenTable s h)
 
--- the state after the rise, and the counts of contours and points
-unfoldable pub riseAnswer : Verdict → ℕ → List (List ℕ) → Rise
-riseAnswer Fine n rs = Layer (at n) (length rs) (length (namesOf rs))
-riseAnswer (Refused r) n rs = Unrisen r
+-- 8, 10, 11 and 12
+abbrev pub sweepTests : Sweep → ℤ → List (Condition Told)
+sweepTests s h =
+    stateTests (meshOf s .coords) (s .ordered .order) (s .passed)
+    ++ (wrongRing s ∷ notAbove (meshOf s .coords) (s .ordered .order) (s .passed) h ∷ [])
 
-unfoldable pub riseAfter : Verdict → List ℕ → List ℕ → List ℕ
-riseAfter Fine risen ring = risen
-riseAfter (Refused r) risen ring = ring
+-- those that tests of the tables find: those of Cut, then these
+abbrev pub riseTests : Sweep → ℤ → Lengths → List (Condition Told)
+riseTests s h l = tests (s .ordered .paired) l ++ sweepTests s h
 
-pub record Rises (coords : List ℤ) (corners pairing order ring : List ℕ) (n : ℕ) (h : ℤ) (names : List ℕ) (points : List ℤ) (ends marks : List ℕ)
-    (result : Rise) (ring′ names′ : List ℕ) (points′ : List ℤ) (ends′ marks′ : List ℕ) : Type 0 where
-  pub answers : result ≡ riseAnswer (verdict (riseRefusals coords corners pairing order ring n h (length names) (length points) (length ends) (length marks)))
-      (risenTo coords order h (vertexCount coords) n) (contoursOf (risenSection coords corners pairing order ring n h))
-  pub rings : ring′ ≡ riseAfter (verdict (riseRefusals coords corners pairing order ring n h (length names) (length points) (length ends) (length marks)))
-      (risenRing coords corners pairing order h (vertexCount coords) n ring) ring
-  pub leaves : Leaves (verdict (riseRefusals coords corners pairing order ring n h (length names) (length points) (length ends) (length marks)))
-      (contoursOf (risenSection coords corners pairing order ring n h)) coords corners h names points ends marks names′ points′ ends′ marks′
+-- the rise and its layer, with these tests before 16: the state after it and the counts of contours and points
+abbrev pub lifting : List (Condition Told) → Sweep × ℤ × CutTables → Operation Told (ℕ × (ℕ × ℕ)) (List ℕ × CutTables)
+lifting earlier = λ (s, h, t). record {
+  refusals = earlier ++ (used (length (meshOf s .corners)) (risenSection s h) ∷ []);
+  values = (risenPassed s h, countsOf (contoursOf (risenSection s h)));
+  leaves = λ f. (unlessRefused (risenTable s h) (s .ring) f, layerTables (meshOf s) h (contoursOf (risenSection s h)) t f);
+}
+
+abbrev pub layering : Sweep × ℤ × CutTables → Operation Told (ℕ × (ℕ × ℕ)) (List ℕ × CutTables)
+layering = λ (s, h, t). lifting (riseTests s h (lengthsOf t)) (s, h, t)
+
+-- what its answer says: the state, and the counts of contours and points
+abbrev pub tellRise : Rise → Answer Told (ℕ × (ℕ × ℕ))
+tellRise (Layer s j k) = gives (s .passed, (j, k))
+tellRise (Unrisen r) = refuses (toldOf r)
+
+abbrev pub Rises : Sweep → ℤ → CutTables → Rise → List ℕ → CutTables → Type 0
+Rises s h t result ring′ t′ = Does layering tellRise (s, h, t) result (ring′, t′)

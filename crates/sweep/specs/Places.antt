@@ -1,20 +1,20 @@
--- Internal: the place behind the first n vertices of the order, as a height and a number, and what the parts of the sweep ask.
+-- What the parts of the sweep ask: what the tests before them establish; and the place behind the first n vertices of the order, as a height and a number.
 use Prim.Native.Nat.{ℕ, zero, suc, _+_, _≤_, _<_}
-use mathlib.Core.Bool.{Bool, not, _&&_}
+use mathlib.Core.Bool.{Bool, true, not, _&&_}
 use mathlib.Core.Path.{_≡_}
-use mathlib.Core.List.{List, [], _∷_}
+use mathlib.Core.List.{List, []}
 use lib.Dec.{ltb, eqb}
 use lib.ListN.{length, getD}
 use lib.IntN.{ℤ, negsuc}
 use Rattle.mesh.specs.Corners.{vertexCount, zOf}
-use Rattle.mesh.specs.OrderTableLaws.{Ranked}
-use Rattle.mesh.specs.Refusals.{verdict}
-use Rattle.section.specs.Section.{VertexSet, ringEntry, Right}
-use Rattle.cutter.specs.Cut.{used, contoursOf, Leaves}
+use Rattle.mesh.specs.Meshes.{OrderedMesh}
+use Rattle.mesh.specs.Operation.{Does}
+use Rattle.mesh.specs.Order.{Ranked}
+use Rattle.section.specs.Section.{VertexSet, below, ringEntry, Right}
+use Rattle.cutter.specs.Cut.{CutTables}
 use Rattle.sweep.specs.declared.Rise.{Rise}
-use Rattle.sweep.specs.Sweep.{risenTo, risenRing, countBelow}
-use Rattle.sweep.specs.SweepLaws.{RingAt}
-use Rattle.sweep.specs.Operations.{risenSection, riseAnswer, riseAfter}
+use Rattle.sweep.specs.Sweep.{Sweep, meshOf, RingAt}
+use Rattle.sweep.specs.Operations.{lifting, tellRise}
 
 -- below every coordinate where none is passed, else the z of the last passed vertex
 unfoldable pub heightBehind : List ℤ → List ℕ → ℕ → ℤ
@@ -29,24 +29,29 @@ numberBehind order (suc n) = getD order n 0 + 1
 unfoldable pub wrongFor : VertexSet → List ℕ → List ℕ → List ℕ → ℕ → Bool
 wrongFor passed corners pairing ring c = not (ltb c (length ring) && eqb (getD ring c 0) (ringEntry passed corners pairing c))
 
--- what the tests before 11 establish
-pub record Placed (coords : List ℤ) (corners pairing order : List ℕ) (n : ℕ) : Type 0 where
-  pub right : Right coords corners pairing
-  pub ranked : (i : ℕ) → i < vertexCount coords → Ranked coords order i
-  pub few : n ≤ vertexCount coords
+-- ---- what the tests establish
 
--- what the tests before 16 establish
-pub record Liftable (coords : List ℤ) (corners pairing order ring : List ℕ) (n : ℕ) (h : ℤ) : Type 0 where
-  pub placed : Placed coords corners pairing order n
-  pub ring-at : RingAt corners pairing order n ring
-  pub above : n ≤ countBelow coords h
+-- 8: the order is right
+abbrev pub InOrder : List ℤ → List ℕ → Type 0
+InOrder coords order = (i : ℕ) → i < vertexCount coords → Ranked coords order i
 
--- Layer's answer and tables, where only 16 is left to test
-pub record Lifts (coords : List ℤ) (corners pairing order ring : List ℕ) (n : ℕ) (h : ℤ) (names : List ℕ) (points : List ℤ) (ends marks : List ℕ)
-    (result : Rise) (ring′ names′ : List ℕ) (points′ : List ℤ) (ends′ marks′ : List ℕ) : Type 0 where
-  pub answers : result ≡ riseAnswer (verdict (used (length corners) (risenSection coords corners pairing order ring n h) ∷ []))
-      (risenTo coords order h (vertexCount coords) n) (contoursOf (risenSection coords corners pairing order ring n h))
-  pub rings : ring′ ≡ riseAfter (verdict (used (length corners) (risenSection coords corners pairing order ring n h) ∷ []))
-      (risenRing coords corners pairing order h (vertexCount coords) n ring) ring
-  pub leaves : Leaves (verdict (used (length corners) (risenSection coords corners pairing order ring n h) ∷ []))
-      (contoursOf (risenSection coords corners pairing order ring n h)) coords corners h names points ends marks names′ points′ ends′ marks′
+-- 1, 2, 3, 4, 7, 8 and 10: so are the mesh and the pairing, and no more are passed than there are
+pub record Placed (m : OrderedMesh) (n : ℕ) : Type 0 where
+  pub right : Right (m .paired)
+  pub ranked : InOrder (m .paired .mesh .coords) (m .order)
+  pub few : n ≤ vertexCount (m .paired .mesh .coords)
+
+-- of Step: also 11, for a ring table of this length
+pub record StepTested (m : OrderedMesh) (ring n : ℕ) : Type 0 where
+  pub placed : Placed m n
+  pub long : length (m .paired .mesh .corners) ≤ ring
+
+-- of Layer: also 11 and 12
+pub record RiseTested (s : Sweep) (h : ℤ) : Type 0 where
+  pub placed : Placed (s .ordered) (s .passed)
+  pub table : RingAt s
+  pub low : (i : ℕ) → i < s .passed → below (meshOf s .coords) h (getD (s .ordered .order) i 0) ≡ true
+
+-- Layer where only 16 is left to test
+abbrev pub Lifts : Sweep → ℤ → CutTables → Rise → List ℕ → CutTables → Type 0
+Lifts s h t result ring′ t′ = Does (lifting []) tellRise (s, h, t) result (ring′, t′)

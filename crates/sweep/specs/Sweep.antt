@@ -1,5 +1,6 @@
 -- "The sweep" of document 01: the state, the ring table for a count of passed vertices, a vertex step, a rise to a height, and how many it passes.
-use Prim.Native.Nat.{ℕ, zero, suc, _+_, _*_}
+use Prim.Native.Nat.{ℕ, zero, suc, _+_, _*_, _≤_, _<_}
+use mathlib.Core.Path.{_≡_}
 use mathlib.Core.Bool.{Bool, cond, _&&_, _||_}
 use mathlib.Core.List.{List}
 use lib.Dec.{ltb, eqb}
@@ -8,9 +9,25 @@ use lib.IntN.{ℤ}
 use Rattle.laws.specs.Count.{count}
 use Rattle.laws.specs.Tables.{refill}
 use Rattle.mesh.specs.Corners.{vertexCount, triangleOf, startOf}
+use Rattle.mesh.specs.Meshes.{Mesh, OrderedMesh}
 use Rattle.mesh.specs.Tests.{pairOf}
 use Rattle.section.specs.Section.{VertexSet, below, noCorner, ringEntry}
 use Rattle.section.specs.Contours.{member}
+
+-- a mesh with its pairing and order, the ring table, and the count of passed vertices
+pub record Sweep : Type 0 where
+  pub ordered : OrderedMesh
+  pub ring : List ℕ
+  pub passed : ℕ
+
+abbrev pub sweep : OrderedMesh → List ℕ → ℕ → Sweep
+sweep m ring n = record { ordered = m; ring = ring; passed = n }
+
+abbrev pub meshOf : Sweep → Mesh
+meshOf s = s .ordered .paired .mesh
+
+abbrev pub pairingOf : Sweep → List ℕ
+pairingOf s = s .ordered .paired .pairing
 
 -- the passed vertices: the first n of the order
 unfoldable pub passedAt : List ℕ → ℕ → VertexSet
@@ -20,24 +37,37 @@ passedAt order n v = member v (take n order)
 unfoldable pub freshRing : List ℕ → List ℕ → List ℕ
 freshRing corners ring = refill (length corners) (λ c. noCorner) ring
 
+-- the ring table is as defined for the passed vertices
+pub record RingAt (s : Sweep) : Type 0 where
+  pub long : length (meshOf s .corners) ≤ length (s .ring)
+  pub entries : (c : ℕ) → c < length (meshOf s .corners)
+      → getD (s .ring) c 0 ≡ ringEntry (passedAt (s .ordered .order) (s .passed)) (meshOf s .corners) (pairingOf s) c
+
 -- ---- a vertex step
 
 -- triangle t touches vertex v
 unfoldable pub touches : List ℕ → ℕ → ℕ → Bool
 touches corners t v = eqb (startOf corners (3 * t)) v || (eqb (startOf corners (3 * t + 1)) v || eqb (startOf corners (3 * t + 2)) v)
 
--- the entry of corner c once v is passed too: as defined where the paired corner belongs to a triangle touching v, else as it was
+-- the entry of corner c once v is passed too: as defined where the paired corner belongs to a triangle touching v, else as it was. 7 and 11 of Step come before
+-- it, so that both tables have the entry
 unfoldable pub relinked : VertexSet → List ℕ → List ℕ → ℕ → List ℕ → ℕ → ℕ
 relinked passed corners pairing v ring c =
     cond (touches corners (triangleOf (pairOf pairing c)) v) (ringEntry passed corners pairing c) (getD ring c 0)
 
--- the ring table after the step that passes the vertex at place n of the order
-unfoldable pub stepRing : List ℕ → List ℕ → List ℕ → ℕ → List ℕ → List ℕ
-stepRing corners pairing order n ring = refill (length corners) (relinked (passedAt order (suc n)) corners pairing (getD order n 0) ring) ring
+-- the ring table after the step that passes the next vertex of the order. 8 and "top" come before it, so that there is one
+unfoldable pub stepRing : Sweep → List ℕ
+stepRing s =
+    let next = getD (s .ordered .order) (s .passed) 0 in
+    let passed = passedAt (s .ordered .order) (suc (s .passed)) in
+    refill (length (meshOf s .corners)) (relinked passed (meshOf s .corners) (pairingOf s) next (s .ring)) (s .ring)
+
+abbrev pub stepped : Sweep → Sweep
+stepped s = sweep (s .ordered) (stepRing s) (suc (s .passed))
 
 -- ---- a rise
 
--- the next vertex of the order is there and has z < h
+-- there is a next vertex, and it has z < h; 8 comes before, so that the order has it
 unfoldable pub mayRise : List ℤ → List ℕ → ℤ → ℕ → Bool
 mayRise coords order h n = ltb n (vertexCount coords) && below coords h (getD order n 0)
 
@@ -46,11 +76,9 @@ unfoldable pub risenTo : List ℤ → List ℕ → ℤ → ℕ → ℕ → ℕ
 risenTo coords order h zero n = n
 risenTo coords order h (suc m) n = cond (mayRise coords order h n) (risenTo coords order h m (suc n)) n
 
-unfoldable pub risenRing : List ℤ → List ℕ → List ℕ → List ℕ → ℤ → ℕ → ℕ → List ℕ → List ℕ
-risenRing coords corners pairing order h zero n ring = ring
-risenRing coords corners pairing order h (suc m) n ring =
-    let rest = risenRing coords corners pairing order h m (suc n) (stepRing corners pairing order n ring) in
-    cond (mayRise coords order h n) rest ring
+unfoldable pub risenRing : ℤ → ℕ → Sweep → List ℕ
+risenRing h zero s = s .ring
+risenRing h (suc m) s = cond (mayRise (meshOf s .coords) (s .ordered .order) h (s .passed)) (risenRing h m (stepped s)) (s .ring)
 
 -- the number of vertices with z < h
 unfoldable pub countBelow : List ℤ → ℤ → ℕ

@@ -1,7 +1,8 @@
--- Laws of the sweep: the passed vertices are those of a lower rank, a step keeps a ring table as it is defined, and a rise ends with the vertices below its height.
+-- Laws of the sweep: the passed vertices are those of a lower rank, a step keeps a ring table as it is defined, and a rise ends with the vertices below its
+-- height.
 use Prim.Native.Nat.{ℕ, zero, suc, _+_, _*_, _≤_, _<_}
 use mathlib.Core.Path.{_≡_, refl, sym, ap, _∙_, subst}
-use mathlib.Core.Logic.{_⊎_, ⊎-elim}
+use mathlib.Core.Logic.{⊎-elim}
 use mathlib.Core.Bool.{Bool, true, false, not, cond, _&&_, _||_}
 use mathlib.Core.List.{List, [], _∷_}
 use native.Mathlib.Omega.{arith}
@@ -18,15 +19,17 @@ use Rattle.laws.specs.CountLaws.{count-le, count-lt, count-bound}
 use Rattle.laws.specs.Tables.{refill}
 use Rattle.laws.specs.TableLaws.{length-refill, refill-at, refill-past, refill-is}
 use Rattle.mesh.specs.Corners.{vertexCount, triangleOf, nextCorner, startOf, endOf, zOf}
+use Rattle.mesh.specs.Meshes.{OrderedMesh}
 use Rattle.mesh.specs.Order.{before}
 use Rattle.mesh.specs.Tests.{pairOf}
 use Rattle.mesh.specs.RankLaws.{rank, lower-sum, not-lower-sum, sum-lower, before-irreflexive, before-total, before-rank, rank-inj, rank-before}
-use Rattle.mesh.specs.OrderTableLaws.{Ranked}
+use Rattle.mesh.specs.Order.{Ranked}
 use Rattle.section.specs.Section.{VertexSet, below, under, rising, risingIn, successor, ringEntry, Named, Linked}
 use Rattle.section.specs.SectionLaws.{next-triangle, turned}
 use Rattle.section.specs.Contours.{member}
 use Rattle.section.specs.OrbitLaws.{member-join, member-one}
-use Rattle.sweep.specs.Sweep.{passedAt, touches, relinked, stepRing, mayRise, risenTo, risenRing, countBelow}
+use Rattle.sweep.specs.Sweep.{Sweep, sweep, meshOf, pairingOf, stepped, passedAt, RingAt, touches, relinked, stepRing, mayRise, risenTo, risenRing}
+use Rattle.sweep.specs.Sweep.{countBelow}
 
 -- ---- an entry depends only on the vertices of the paired corner's triangle
 
@@ -73,11 +76,7 @@ untouched corners t v k h e s = at (ℕ-discrete k (3 * t)) (ℕ-discrete k (3 *
     at (no m) (yes m2) = eqb-false _ _ (rest .0) (ap (startOf corners) (sym m2) ∙ s)
     at (no m) (no m2) = eqb-false _ _ (rest .1) (ap (startOf corners) (omega arith) ∙ s)
 
--- ---- the ring table is as defined for the first n of the order
-
-pub record RingAt (corners pairing order : List ℕ) (n : ℕ) (ring : List ℕ) : Type 0 where
-  pub long : length corners ≤ length ring
-  pub entries : (c : ℕ) → c < length corners → getD ring c 0 ≡ ringEntry (passedAt order n) corners pairing c
+-- ---- a step keeps the ring table as it is defined
 
 passed-other : (order : List ℕ) (n v : ℕ) → n < length order → (v ≡ getD order n 0 → ⊥) → passedAt order (suc n) v ≡ passedAt order n v
 unfolding passedAt
@@ -89,41 +88,60 @@ passed-other order n v h ne =
     or-false true = refl
     or-false false = refl
 
-module _ (corners pairing order : List ℕ) (linked : Linked corners pairing) where
-  pub step-right : (n : ℕ) (ring : List ℕ) → n < length order → RingAt corners pairing order n ring → RingAt corners pairing order (suc n) (stepRing corners pairing order n ring)
+module _ (s : Sweep) where
+  abbrev corners : List ℕ
+  corners = meshOf s .corners
+
+  abbrev pairing : List ℕ
+  pairing = pairingOf s
+
+  abbrev order : List ℕ
+  order = s .ordered .order
+
+  -- the vertex that a step passes, the passed vertices after it, and its entries
+  abbrev next : ℕ
+  next = getD (s .ordered .order) (s .passed) 0
+
+  abbrev passed : VertexSet
+  passed = passedAt (s .ordered .order) (suc (s .passed))
+
+  abbrev entry : ℕ → ℕ
+  entry = relinked passed (meshOf s .corners) (pairingOf s) next (s .ring)
+
+  pub step-right : Linked (meshOf s .corners) (pairingOf s) → s .passed < length (s .ordered .order) → RingAt s → RingAt (stepped s)
   unfolding stepRing relinked
-  step-right n ring l r =
+  step-right linked l r =
       record {
-        long = omega (arith, length-refill (length corners) (relinked (passedAt order (suc n)) corners pairing (getD order n 0) ring) ring (r .long), r .long);
-        entries = λ c h. refill-at (length corners) (relinked (passedAt order (suc n)) corners pairing (getD order n 0) ring) ring c 0 h ∙ entry c h (touches corners (triangleOf (pairOf pairing c)) (getD order n 0)) refl;
+        long = omega (arith, length-refill (length corners) entry (s .ring) (r .long), r .long);
+        entries = λ c h. refill-at (length corners) entry (s .ring) c 0 h ∙ by c h (touches corners (triangleOf (pairOf pairing c)) next) refl;
       }
     where
-      entry : (c : ℕ) → c < length corners → (b : Bool) → touches corners (triangleOf (pairOf pairing c)) (getD order n 0) ≡ b
-          → cond b (ringEntry (passedAt order (suc n)) corners pairing c) (getD ring c 0) ≡ ringEntry (passedAt order (suc n)) corners pairing c
-      entry c h true e = refl
-      entry c h false e =
+      by : (c : ℕ) → c < length corners → (b : Bool) → touches corners (triangleOf (pairOf pairing c)) next ≡ b
+          → cond b (ringEntry passed corners pairing c) (getD (s .ring) c 0) ≡ ringEntry passed corners pairing c
+      by c h true e = refl
+      by c h false e =
           r .entries c h
-          ∙ entry-agrees (passedAt order n) (passedAt order (suc n)) corners pairing linked c h
-          (λ k t. sym (passed-other order n (startOf corners k) l (untouched corners _ _ k e t)))
+          ∙ entry-agrees (passedAt order (s .passed)) passed corners pairing linked c h
+          (λ k t. sym (passed-other order (s .passed) (startOf corners k) l (untouched corners _ _ k e t)))
 
-module _ (corners pairing order : List ℕ) (n : ℕ) (ring : List ℕ) (long : length corners ≤ length ring) where
-  pub step-length : length (stepRing corners pairing order n ring) ≡ length ring
-  unfolding stepRing
-  step-length = length-refill (length corners) (relinked (passedAt order (suc n)) corners pairing (getD order n 0) ring) ring long
+  module _ (long : length (meshOf s .corners) ≤ length (s .ring)) where
+    pub step-length : length (stepRing s) ≡ length (s .ring)
+    unfolding stepRing
+    step-length = length-refill (length corners) entry (s .ring) long
 
-  pub step-past : (c : ℕ) → length corners ≤ c → getD (stepRing corners pairing order n ring) c 0 ≡ getD ring c 0
-  unfolding stepRing
-  step-past c l = refill-past (length corners) (relinked (passedAt order (suc n)) corners pairing (getD order n 0) ring) ring c 0 l
+    pub step-past : (c : ℕ) → length (meshOf s .corners) ≤ c → getD (stepRing s) c 0 ≡ getD (s .ring) c 0
+    unfolding stepRing
+    step-past c l = refill-past (length corners) entry (s .ring) c 0 l
 
--- a step leaves every entry whose paired corner's triangle does not touch its vertex
-pub step-keeps : (corners pairing order : List ℕ) (n : ℕ) (ring : List ℕ) → length corners ≤ length ring
-    → (c : ℕ) → touches corners (triangleOf (pairOf pairing c)) (getD order n 0) ≡ false → getD (stepRing corners pairing order n ring) c 0 ≡ getD ring c 0
-unfolding stepRing relinked
-step-keeps corners pairing order n ring long c e =
-    ⊎-elim
-    (λ l. refill-at (length corners) (relinked (passedAt order (suc n)) corners pairing (getD order n 0) ring) ring c 0 l ∙ ap (λ (b : Bool). cond b (ringEntry (passedAt order (suc n)) corners pairing c) (getD ring c 0)) e)
-    (λ l. refill-past (length corners) (relinked (passedAt order (suc n)) corners pairing (getD order n 0) ring) ring c 0 l)
-    (split-lt c (length corners))
+    -- a step leaves every entry whose paired corner's triangle does not touch its vertex
+    pub step-keeps : (c : ℕ) → touches (meshOf s .corners) (triangleOf (pairOf (pairingOf s) c)) (getD (s .ordered .order) (s .passed) 0) ≡ false
+        → getD (stepRing s) c 0 ≡ getD (s .ring) c 0
+    unfolding stepRing relinked
+    step-keeps c e =
+        ⊎-elim
+        (λ l. refill-at (length corners) entry (s .ring) c 0 l ∙ ap (λ (b : Bool). cond b (ringEntry passed corners pairing c) (getD (s .ring) c 0)) e)
+        (λ l. refill-past (length corners) entry (s .ring) c 0 l)
+        (split-lt c (length corners))
 
 -- ---- ranks and heights
 
@@ -140,18 +158,22 @@ module _ (coords : List ℤ) where
 
   before-below : (h : ℤ) (u v : ℕ) → before coords u v ≡ true → below coords h v ≡ true → below coords h u ≡ true
   unfolding below
-  before-below h u v b p = sum-lower (zOf coords u) h (omega (arith, not-lower-sum (zOf coords v) (zOf coords u) (before-not-higher u v b), lower-sum (zOf coords v) h p))
+  before-below h u v b p =
+      sum-lower (zOf coords u) h (omega (arith, not-lower-sum (zOf coords v) (zOf coords u) (before-not-higher u v b), lower-sum (zOf coords v) h p))
 
   below-before : (h : ℤ) (u v : ℕ) → below coords h u ≡ true → below coords h v ≡ false → before coords u v ≡ true
   unfolding below before
-  below-before h u v p q = or-left (ltZ (zOf coords u) (zOf coords v)) (not (ltZ (zOf coords v) (zOf coords u)) && ltb u v) (sum-lower (zOf coords u) (zOf coords v) (omega (arith, lower-sum (zOf coords u) h p, not-lower-sum (zOf coords v) h q)))
+  below-before h u v p q =
+      or-left (ltZ (zOf coords u) (zOf coords v)) (not (ltZ (zOf coords v) (zOf coords u)) && ltb u v)
+      (sum-lower (zOf coords u) (zOf coords v) (omega (arith, lower-sum (zOf coords u) h p, not-lower-sum (zOf coords v) h q)))
 
   -- before the place behind w stand the vertices that w does not stand before
   under-is : (w v : ℕ) → under coords (zOf coords w) (w + 1) v ≡ not (before coords w v)
   unfolding under before
   under-is w v = by (ltZ (zOf coords v) (zOf coords w)) (ltZ (zOf coords w) (zOf coords v)) refl refl
     where
-      by : (a b : Bool) → ltZ (zOf coords v) (zOf coords w) ≡ a → ltZ (zOf coords w) (zOf coords v) ≡ b → (a || (not b && ltb v (w + 1))) ≡ not (b || (not a && ltb w v))
+      by : (a b : Bool) → ltZ (zOf coords v) (zOf coords w) ≡ a → ltZ (zOf coords w) (zOf coords v) ≡ b
+          → (a || (not b && ltb v (w + 1))) ≡ not (b || (not a && ltb w v))
       by true true p q = absurd (omega (arith, lower-sum (zOf coords v) (zOf coords w) p, lower-sum (zOf coords w) (zOf coords v) q))
       by true false p q = refl
       by false true p q = refl
@@ -177,7 +199,8 @@ module _ (coords : List ℤ) (order : List ℕ) (ranked : (i : ℕ) → i < vert
   at-member zero i xs h l = absurd (not-suc-le-zero h)
   at-member (suc n) i [] h l = absurd (not-suc-le-zero l)
   at-member (suc n) zero (x ∷ xs) h l = or-left (eqb x x) (member x (take n xs)) (eq-eqb x x refl)
-  at-member (suc n) (suc i) (x ∷ xs) h l = or-right (eqb (getD xs i 0) x) (member (getD xs i 0) (take n xs)) (at-member n i xs (le-of-suc-le-suc h) (le-of-suc-le-suc l))
+  at-member (suc n) (suc i) (x ∷ xs) h l = or-right (eqb (getD xs i 0) x) (member (getD xs i 0) (take n xs))
+      (at-member n i xs (le-of-suc-le-suc h) (le-of-suc-le-suc l))
 
   pub passed-rank : (n v : ℕ) → n ≤ vertexCount coords → v < vertexCount coords → passedAt order n v ≡ ltb (rank coords v) n
   unfolding passedAt
@@ -193,7 +216,8 @@ module _ (coords : List ℤ) (order : List ℕ) (ranked : (i : ℕ) → i < vert
       subst (λ (x : ℕ). member x (take n order) ≡ true) q (at-member n (rank coords v) order l (o .there)))
 
   -- once w, the vertex at place n, is passed, the passed vertices are those before the place behind w
-  pub passed-under : (n v : ℕ) → n < vertexCount coords → v < vertexCount coords → passedAt order (suc n) v ≡ under coords (zOf coords (getD order n 0)) (getD order n 0 + 1) v
+  pub passed-under : (n v : ℕ) → n < vertexCount coords → v < vertexCount coords
+      → passedAt order (suc n) v ≡ under coords (zOf coords (getD order n 0)) (getD order n 0 + 1) v
   passed-under n v ln lv = passed-rank (suc n) v ln lv ∙ by (before coords w v) refl ∙ sym (under-is coords w v)
     where
       w : ℕ
@@ -213,7 +237,8 @@ module _ (coords : List ℤ) (order : List ℕ) (ranked : (i : ℕ) → i < vert
     -- a vertex is below h exactly if fewer vertices stand before it than are below h
     low-rank : (v : ℕ) → v < vertexCount coords → below coords h v ≡ true → rank coords v < countBelow coords h
     unfolding countBelow
-    low-rank v l p = count-lt (λ u. before coords u v) (below coords h) (vertexCount coords) (λ u _ b. before-below coords h u v b p) v l (before-irreflexive coords v) p
+    low-rank v l p =
+        count-lt (λ u. before coords u v) (below coords h) (vertexCount coords) (λ u _ b. before-below coords h u v b p) v l (before-irreflexive coords v) p
 
     high-rank : (v : ℕ) → below coords h v ≡ false → countBelow coords h ≤ rank coords v
     unfolding countBelow
@@ -226,7 +251,8 @@ module _ (coords : List ℤ) (order : List ℕ) (ranked : (i : ℕ) → i < vert
         (λ (q : i ≡ j). ap (λ (k : ℕ). below coords h (getD order k 0)) q ∙ p)
         (λ ne. let a = ranked i (omega arith) in
         let b = ranked j m in
-        before-below coords h (getD order i 0) (getD order j 0) (rank-before coords (getD order i 0) (getD order j 0) (a .vertex) (b .vertex) (omega (arith, a .rankIs, b .rankIs))) p)
+        before-below coords h (getD order i 0) (getD order j 0)
+        (rank-before coords (getD order i 0) (getD order j 0) (a .vertex) (b .vertex) (omega (arith, a .rankIs, b .rankIs))) p)
         (split-eq i j)
 
     pub count-few : countBelow coords h ≤ vertexCount coords
@@ -247,7 +273,8 @@ module _ (coords : List ℤ) (order : List ℕ) (ranked : (i : ℕ) → i < vert
     may-rise n l =
         let m : n < vertexCount coords = omega (arith, count-few) in
         let o = ranked n m in
-        and-of (lt-ltb n (vertexCount coords) m) (is-true (below coords h (getD order n 0)) (λ e. let z = high-rank (getD order n 0) e in omega (arith, o .rankIs)))
+        and-of (lt-ltb n (vertexCount coords) m)
+        (is-true (below coords h (getD order n 0)) (λ e. let z = high-rank (getD order n 0) e in omega (arith, o .rankIs)))
 
     pub rise-low : (n : ℕ) → mayRise coords order h n ≡ true → n < countBelow coords h
     unfolding mayRise
@@ -275,51 +302,72 @@ module _ (coords : List ℤ) (order : List ℕ) (ranked : (i : ℕ) → i < vert
         by true e k = k (rise-low n e)
         by false e k = ⊎-elim (λ q. q) (λ ne. absurd (clash (may-rise n (omega arith)) e)) (split-eq n (countBelow coords h))
 
-    module _ (corners pairing : List ℕ) (linked : Linked corners pairing) where
-      -- a rise ends with the ring table of the vertices below h
-      pub risen-right : (m n : ℕ) (ring : List ℕ) → RingAt corners pairing order n ring → n ≤ countBelow coords h → countBelow coords h ≤ n + m
-          → RingAt corners pairing order (countBelow coords h) (risenRing coords corners pairing order h m n ring)
-      unfolding risenRing
-      risen-right zero n ring r lo hi = let e : n ≡ countBelow coords h = omega arith in subst (λ (k : ℕ). RingAt corners pairing order k ring) e r
-      risen-right (suc m) n ring r lo hi =
-          by (mayRise coords order h n) refl
-          (λ l. risen-right m (suc n) (stepRing corners pairing order n ring) (step-right corners pairing order linked n ring (ranked n (omega (arith, count-few)) .there) r) l (omega arith))
-        where
-          by : (b : Bool) → mayRise coords order h n ≡ b
-              → (n < countBelow coords h → RingAt corners pairing order (countBelow coords h) (risenRing coords corners pairing order h m (suc n) (stepRing corners pairing order n ring)))
-              → RingAt corners pairing order (countBelow coords h) (cond b (risenRing coords corners pairing order h m (suc n) (stepRing corners pairing order n ring)) ring)
-          by true e k = k (rise-low n e)
-          by false e k = ⊎-elim
-              (λ (q : n ≡ countBelow coords h). subst (λ (i : ℕ). RingAt corners pairing order i ring) q r)
-              (λ ne. absurd (clash (may-rise n (omega arith)) e))
-              (split-eq n (countBelow coords h))
+-- ---- the ring table after a rise from n passed, in at most k steps
 
-      -- it changes no later entry
-      risen-length : (m n : ℕ) (ring : List ℕ) → length corners ≤ length ring → length (risenRing coords corners pairing order h m n ring) ≡ length ring
-      unfolding risenRing
-      risen-length zero n ring l = refl
-      risen-length (suc m) n ring l = by (mayRise coords order h n) (risen-length m (suc n) (stepRing corners pairing order n ring) (omega (arith, step-length corners pairing order n ring l)))
-        where
-          by : (b : Bool) → length (risenRing coords corners pairing order h m (suc n) (stepRing corners pairing order n ring)) ≡ length (stepRing corners pairing order n ring)
-              → length (cond b (risenRing coords corners pairing order h m (suc n) (stepRing corners pairing order n ring)) ring) ≡ length ring
-          by true k = k ∙ step-length corners pairing order n ring l
-          by false k = refl
+module _ (m : OrderedMesh) (ranked : (i : ℕ) → i < vertexCount (m .paired .mesh .coords) → Ranked (m .paired .mesh .coords) (m .order) i) (h : ℤ)
+    (linked : Linked (m .paired .mesh .corners) (m .paired .pairing)) where
+  abbrev below-h : ℕ
+  below-h = countBelow (m .paired .mesh .coords) h
 
-      risen-past : (m n : ℕ) (ring : List ℕ) → length corners ≤ length ring → (c : ℕ) → length corners ≤ c → getD (risenRing coords corners pairing order h m n ring) c 0 ≡ getD ring c 0
-      unfolding risenRing
-      risen-past zero n ring l c p = refl
-      risen-past (suc m) n ring l c p = by (mayRise coords order h n) (risen-past m (suc n) (stepRing corners pairing order n ring) (omega (arith, step-length corners pairing order n ring l)) c p)
-        where
-          by : (b : Bool) → getD (risenRing coords corners pairing order h m (suc n) (stepRing corners pairing order n ring)) c 0 ≡ getD (stepRing corners pairing order n ring) c 0
-              → getD (cond b (risenRing coords corners pairing order h m (suc n) (stepRing corners pairing order n ring)) ring) c 0 ≡ getD ring c 0
-          by true k = k ∙ step-past corners pairing order n ring l c p
-          by false k = refl
+  few : countBelow (m .paired .mesh .coords) h ≤ vertexCount (m .paired .mesh .coords)
+  few = count-few (m .paired .mesh .coords) (m .order) ranked h
 
-      -- the ring table that steps leave is the one made in a single pass
-      pub risen-is : (named : Named coords corners) (m n : ℕ) (ring : List ℕ) → RingAt corners pairing order n ring → n ≤ countBelow coords h → countBelow coords h ≤ n + m
-          → risenRing coords corners pairing order h m n ring ≡ refill (length corners) (ringEntry (below coords h) corners pairing) ring
-      risen-is named m n ring r lo hi =
-          refill-is 0 (length corners) (ringEntry (below coords h) corners pairing) ring (risenRing coords corners pairing order h m n ring)
-          (risen-length m n ring (r .long)) (r .long)
-          (λ c l. risen-right m n ring r lo hi .entries c l ∙ entry-same (passedAt order (countBelow coords h)) (below coords h) coords corners pairing named linked passed-below c l)
-          (risen-past m n ring (r .long))
+  -- the table of a sweep that may go on, and that does
+  abbrev onward : ℕ → ℕ → List ℕ → List ℕ
+  onward k n ring = risenRing h k (sweep m (stepRing (sweep m ring n)) (suc n))
+
+  -- a rise ends with the ring table of the vertices below h
+  pub risen-right : (k n : ℕ) (ring : List ℕ) → RingAt (sweep m ring n) → n ≤ countBelow (m .paired .mesh .coords) h
+      → countBelow (m .paired .mesh .coords) h ≤ n + k → RingAt (sweep m (risenRing h k (sweep m ring n)) (countBelow (m .paired .mesh .coords) h))
+  unfolding risenRing
+  risen-right zero n ring r lo hi = let e : n ≡ below-h = omega arith in subst (λ (i : ℕ). RingAt (sweep m ring i)) e r
+  risen-right (suc k) n ring r lo hi =
+      by (mayRise (m .paired .mesh .coords) (m .order) h n) refl
+      (λ l. risen-right k (suc n) (stepRing (sweep m ring n)) (step-right (sweep m ring n) linked (ranked n (omega (arith, few)) .there) r) l (omega arith))
+    where
+      by : (b : Bool) → mayRise (m .paired .mesh .coords) (m .order) h n ≡ b → (n < below-h → RingAt (sweep m (onward k n ring) below-h))
+          → RingAt (sweep m (cond b (onward k n ring) ring) below-h)
+      by true e go = go (rise-low (m .paired .mesh .coords) (m .order) ranked h n e)
+      by false e go = ⊎-elim
+          (λ (q : n ≡ below-h). subst (λ (i : ℕ). RingAt (sweep m ring i)) q r)
+          (λ ne. absurd (clash (may-rise (m .paired .mesh .coords) (m .order) ranked h n (omega arith)) e))
+          (split-eq n below-h)
+
+  -- it changes no later entry
+  risen-length : (k n : ℕ) (ring : List ℕ) → length (m .paired .mesh .corners) ≤ length ring → length (risenRing h k (sweep m ring n)) ≡ length ring
+  unfolding risenRing
+  risen-length zero n ring l = refl
+  risen-length (suc k) n ring l =
+      by (mayRise (m .paired .mesh .coords) (m .order) h n)
+      (risen-length k (suc n) (stepRing (sweep m ring n)) (omega (arith, step-length (sweep m ring n) l)))
+    where
+      by : (b : Bool) → length (onward k n ring) ≡ length (stepRing (sweep m ring n)) → length (cond b (onward k n ring) ring) ≡ length ring
+      by true e = e ∙ step-length (sweep m ring n) l
+      by false e = refl
+
+  risen-past : (k n : ℕ) (ring : List ℕ) → length (m .paired .mesh .corners) ≤ length ring → (c : ℕ) → length (m .paired .mesh .corners) ≤ c
+      → getD (risenRing h k (sweep m ring n)) c 0 ≡ getD ring c 0
+  unfolding risenRing
+  risen-past zero n ring l c p = refl
+  risen-past (suc k) n ring l c p =
+      by (mayRise (m .paired .mesh .coords) (m .order) h n)
+      (risen-past k (suc n) (stepRing (sweep m ring n)) (omega (arith, step-length (sweep m ring n) l)) c p)
+    where
+      by : (b : Bool) → getD (onward k n ring) c 0 ≡ getD (stepRing (sweep m ring n)) c 0 → getD (cond b (onward k n ring) ring) c 0 ≡ getD ring c 0
+      by true e = e ∙ step-past (sweep m ring n) l c p
+      by false e = refl
+
+  -- the ring table that steps leave is the one made in a single pass
+  pub risen-is : Named (m .paired .mesh .coords) (m .paired .mesh .corners) → (k n : ℕ) (ring : List ℕ) → RingAt (sweep m ring n)
+      → n ≤ countBelow (m .paired .mesh .coords) h → countBelow (m .paired .mesh .coords) h ≤ n + k
+      → risenRing h k (sweep m ring n)
+      ≡ refill (length (m .paired .mesh .corners)) (ringEntry (below (m .paired .mesh .coords) h) (m .paired .mesh .corners) (m .paired .pairing)) ring
+  risen-is named k n ring r lo hi =
+      let coords = m .paired .mesh .coords in
+      let corners = m .paired .mesh .corners in
+      let pairing = m .paired .pairing in
+      refill-is 0 (length corners) (ringEntry (below coords h) corners pairing) ring (risenRing h k (sweep m ring n))
+      (risen-length k n ring (r .long)) (r .long)
+      (λ c l. risen-right k n ring r lo hi .entries c l
+      ∙ entry-same (passedAt (m .order) below-h) (below coords h) coords corners pairing named linked (passed-below coords (m .order) ranked h) c l)
+      (risen-past k n ring (r .long))

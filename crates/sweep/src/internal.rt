@@ -1,17 +1,19 @@
 // Internal: the parts of the sweep, whose `requires` say what the tests before them establish.
 ghost use mathlib.Core.Path.{_≡_};
-ghost use Prim.Native.Nat.{ℕ, _+_, _-_, _*_, _<_, _≤_};
+ghost use Prim.Native.Nat.{_+_, _-_, _*_, _<_, _≤_};
 ghost use lib.ListN.{length, getD};
 ghost use Rattle.laws.specs.Least.{least};
 ghost use Rattle.laws.specs.Tables.{refill};
-ghost use Rattle.mesh.specs.Corners.{vertexCount, zOf};
-ghost use Rattle.mesh.specs.Refusals.{test};
-ghost use Rattle.mesh.specs.OrderTableLaws.{Ranked};
+ghost use Rattle.mesh.specs.Corners.{vertexCount};
+ghost use Rattle.mesh.specs.Meshes.{ordered};
+ghost use Rattle.mesh.specs.Operation.{test};
+ghost use Rattle.mesh.specs.Refusals.{tellVerdict};
 ghost use Rattle.section.specs.Section.{under, Named, Linked};
-ghost use Rattle.sweep.specs.Sweep.{touches, relinked, risenTo};
-ghost use Rattle.sweep.specs.Operations.{wrongRing, passedHigh, notAbove};
-ghost use Rattle.sweep.specs.Places.{heightBehind, numberBehind, wrongFor, Placed, Liftable, Lifts};
+ghost use Rattle.cutter.specs.Cut.{lent, lengthsOf};
 ghost use Rattle.cutter.specs.Outlines.{Long};
+ghost use Rattle.sweep.specs.Sweep.{sweep, touches, relinked, risenTo};
+ghost use Rattle.sweep.specs.Operations.{wrongRing, notAbove};
+ghost use Rattle.sweep.specs.Places.{heightBehind, numberBehind, wrongFor, InOrder, Placed, RiseTested, Lifts};
 use crate::Rise;
 use crate::State;
 use cutter::Sliced;
@@ -51,7 +53,8 @@ pub fn relink(
     ring: &mut [u32],
 )
     requires { ⌜ Named (now coords) (now corners) ⌝ ∗ ⌜ Linked (now corners) (now pairing) ⌝ ∗ ⌜ length (now corners) ≤ length (now ring) ⌝ }
-    ensures { λ _. ⌜ now (ring .exit) ≡ refill (length (now (corners .entry))) (relinked (under (now (coords .entry)) h k) (now (corners .entry)) (now (pairing .entry)) w (now (ring .entry))) (now (ring .entry)) ⌝ }
+    ensures { λ _. ⌜ ring .exit .now ≡ refill (length (corners .entry .now))
+        (relinked (under (coords .entry .now) h k) (corners .entry .now) (pairing .entry .now) w (ring .entry .now)) (ring .entry .now) ⌝ }
 {
     let n = corners.len();
     let mut c: usize = 0;
@@ -103,7 +106,7 @@ fn is_wrong(
     c: usize,
 ) -> bool
     requires { ⌜ Named (now coords) (now corners) ⌝ ∗ ⌜ Linked (now corners) (now pairing) ⌝ ∗ ⌜ c < length (now corners) ⌝ }
-    ensures { λ r. ⌜ r ≡ wrongFor (under (now (coords .entry)) h k) (now (corners .entry)) (now (pairing .entry)) (now (ring .entry)) c ⌝ }
+    ensures { λ r. ⌜ r ≡ wrongFor (under (coords .entry .now) h k) (corners .entry .now) (pairing .entry .now) (ring .entry .now) c ⌝ }
 {
     if ring.len() <= c {
         return true;
@@ -121,7 +124,8 @@ fn first_wrong(
     ring: &[u32],
 ) -> usize
     requires { ⌜ Named (now coords) (now corners) ⌝ ∗ ⌜ Linked (now corners) (now pairing) ⌝ }
-    ensures { λ r. ⌜ r ≡ least (length (now (corners .entry))) (wrongFor (under (now (coords .entry)) h k) (now (corners .entry)) (now (pairing .entry)) (now (ring .entry))) ⌝ }
+    ensures { λ r. ⌜ r ≡ least (length (corners .entry .now))
+        (wrongFor (under (coords .entry .now) h k) (corners .entry .now) (pairing .entry .now) (ring .entry .now)) ⌝ }
 {
     let mut c: usize = 0;
     while c < corners.len() {
@@ -142,8 +146,9 @@ pub fn ring_test(
     ring: &[u32],
     n: usize,
 ) -> Verdict
-    requires { ⌜ Placed (now coords) (now corners) (now pairing) (now order) n ⌝ }
-    ensures { λ r. ⌜ r ≡ test (wrongRing (now (corners .entry)) (now (pairing .entry)) (now (order .entry)) (now (ring .entry)) n) ⌝ }
+    requires { ⌜ Placed (ordered (now coords) (now corners) (now pairing) (now order)) n ⌝ }
+    ensures { λ r. ⌜ tellVerdict r ≡ test (wrongRing
+        (sweep (ordered (coords .entry .now) (corners .entry .now) (pairing .entry .now) (order .entry .now)) (ring .entry .now) n)) ⌝ }
 {
     let h = height_behind(coords, order, n);
     let k = number_behind(order, n);
@@ -156,8 +161,8 @@ pub fn ring_test(
 
 // Refusal 12: the last passed vertex is the highest.
 pub fn height_test(coords: &[i32], order: &[u32], n: usize, h: i32) -> Verdict
-    requires { ⌜ n ≤ vertexCount (now coords) ⌝ ∗ ⌜ ((i : ℕ) → i < vertexCount (now coords) → Ranked (now coords) (now order) i) ⌝ }
-    ensures { λ r. ⌜ r ≡ test (notAbove (now (coords .entry)) (now (order .entry)) n h) ⌝ }
+    requires { ⌜ n ≤ vertexCount (now coords) ⌝ ∗ ⌜ InOrder (now coords) (now order) ⌝ }
+    ensures { λ r. ⌜ tellVerdict r ≡ test (notAbove (coords .entry .now) (order .entry .now) n h) ⌝ }
 {
     if n == 0 {
         return Verdict::Fine;
@@ -170,7 +175,7 @@ pub fn height_test(coords: &[i32], order: &[u32], n: usize, h: i32) -> Verdict
 
 // How many vertices a rise to h passes, from n on: all that it passed and those after them with z < h.
 pub fn risen_to(coords: &[i32], order: &[u32], n: usize, h: i32) -> usize
-    requires { ⌜ n ≤ vertexCount (now coords) ⌝ ∗ ⌜ ((i : ℕ) → i < vertexCount (now coords) → Ranked (now coords) (now order) i) ⌝ }
+    requires { ⌜ n ≤ vertexCount (now coords) ⌝ ∗ ⌜ InOrder (now coords) (now order) ⌝ }
     ensures { λ r. ⌜ r ≡ risenTo (now (coords .entry)) (now (order .entry)) h (vertexCount (now (coords .entry))) n ⌝ }
 {
     let vertices = coords.len() / 3;
@@ -212,8 +217,12 @@ pub fn raise(
     ends: &mut [u32],
     marks: &mut [u32],
 ) -> Rise
-    requires { ⌜ Liftable (now coords) (now corners) (now pairing) (now order) (now ring) n h ⌝ ∗ ⌜ Long (length (now corners)) (length (now names)) (length (now points)) (length (now ends)) (length (now marks)) ⌝ }
-    ensures { λ r. ⌜ Lifts (now (coords .entry)) (now (corners .entry)) (now (pairing .entry)) (now (order .entry)) (now (ring .entry)) n h (now (names .entry)) (now (points .entry)) (now (ends .entry)) (now (marks .entry)) r (now (ring .exit)) (now (names .exit)) (now (points .exit)) (now (ends .exit)) (now (marks .exit)) ⌝ }
+    requires { ⌜ RiseTested (sweep (ordered (now coords) (now corners) (now pairing) (now order)) (now ring) n) h ⌝
+        ∗ ⌜ Long (length (now corners)) (lengthsOf (lent (now names) (now points) (now ends) (now marks))) ⌝ }
+    ensures { λ r. ⌜ Lifts
+        (sweep (ordered (coords .entry .now) (corners .entry .now) (pairing .entry .now) (order .entry .now)) (ring .entry .now) n) h
+        (lent (names .entry .now) (points .entry .now) (ends .entry .now) (marks .entry .now)) r
+        (ring .exit .now) (lent (names .exit .now) (points .exit .now) (ends .exit .now) (marks .exit .now)) ⌝ }
 {
     let p = risen_to(coords, order, n, h);
     link_at(coords, corners, pairing, h, ring);

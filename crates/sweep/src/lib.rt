@@ -1,26 +1,35 @@
 // The sweep: a plane that starts below a mesh and rises past its vertices, with the rings of the section kept in a lent table.
 ghost use mathlib.Core.Path.{_≡_};
-ghost use mathlib.Core.List.{[], _∷_};
-ghost use Rattle.mesh.specs.Refusals.{verdict};
-ghost use Rattle.mesh.specs.Tests.{size, range, vertex, triangle, pairs, ordered};
-ghost use Rattle.mesh.specs.Corners.{vertexCount};
+ghost use Rattle.mesh.specs.Meshes.{mesh, paired, ordered};
+ghost use Rattle.mesh.specs.Operation.{verdict};
+ghost use Rattle.mesh.specs.Refusals.{tellVerdict};
 ghost use Rattle.section.specs.Section.{Right};
-ghost use Rattle.sweep.specs.Operations.{tooMany, wrongRing, notAbove, startRefusals, Starts, stepRefusals, Steps, riseTests, Rises};
-use crate::internal::height_test;
+ghost use Rattle.cutter.specs.Cut.{lent, lengths};
+ghost use Rattle.sweep.specs.Sweep.{sweep};
+ghost use Rattle.sweep.specs.Operations.{startTests, Starts, stateTests, stepTests, Steps, sweepTests, riseTests, Rises};
 use crate::internal::raise;
 use crate::internal::relink;
-use crate::internal::ring_test;
+use crate::tests::one_test;
+use crate::tests::passed_test;
 use cutter::tables_test;
 use mesh::Refusal;
 use mesh::Verdict;
 use mesh::internal::fill;
 use mesh::internal::wide;
-use mesh::tests::mesh_test;
 use mesh::tests::size_test;
-use tables::internal::pairing_test;
-use tables::ordering::order_test;
+use tables::MeshTest;
+use tables::tests::opening_test;
 
 pub mod internal;
+pub mod tests;
+
+// The tests of a sweep: those of its mesh, of the passed count, of the ring table and of the height.
+pub enum SweepTest {
+    Mesh(MeshTest),
+    Passed,
+    Ring,
+    Height,
+}
 
 // How many vertices are passed: the first so many of the order.
 pub struct State {
@@ -48,7 +57,7 @@ pub enum Rise {
 
 // Refusals 1 and 9 of Start, for a ring table of this length.
 fn start_test(coords: &[i32], corners: &[u32], ring: usize) -> Verdict
-    ensures { λ r. ⌜ r ≡ verdict (startRefusals (now (coords .entry)) (now (corners .entry)) ring) ⌝ }
+    ensures { λ r. ⌜ tellVerdict r ≡ verdict (startTests (mesh (coords .entry .now) (corners .entry .now)) ring) ⌝ }
 {
     let a = size_test(coords, corners);
     if let Verdict::Refused(_) = a {
@@ -62,7 +71,7 @@ fn start_test(coords: &[i32], corners: &[u32], ring: usize) -> Verdict
 
 // A fresh sweep: no vertex passed, and no crossing in the ring table.
 pub fn start(coords: &[i32], corners: &[u32], ring: &mut [u32]) -> Started
-    ensures { λ r. ⌜ Starts (now (coords .entry)) (now (corners .entry)) (now (ring .entry)) r (now (ring .exit)) ⌝ }
+    ensures { λ r. ⌜ Starts (mesh (coords .entry .now) (corners .entry .now)) (ring .entry .now) r (ring .exit .now) ⌝ }
 {
     let v = start_test(coords, corners, ring.len());
     if let Verdict::Refused(r) = v {
@@ -72,33 +81,15 @@ pub fn start(coords: &[i32], corners: &[u32], ring: &mut [u32]) -> Started
     Started::Fresh(State { passed: 0 })
 }
 
-// Refusals 1, 2, 3, 4 and 7.
-fn linked_test(coords: &[i32], corners: &[u32], pairing: &[u32]) -> Verdict
-    ensures { λ r. ⌜ r ≡ verdict (size (now (coords .entry)) (now (corners .entry)) ∷ range (now (coords .entry)) ∷ vertex (vertexCount (now (coords .entry))) (now (corners .entry)) ∷ triangle (now (corners .entry)) ∷ pairs (now (corners .entry)) (now (pairing .entry)) ∷ []) ⌝ }
-{
-    let a = size_test(coords, corners);
-    if let Verdict::Refused(_) = a {
-        return a;
-    }
-    let b = mesh_test(coords, corners);
-    if let Verdict::Refused(_) = b {
-        return b;
-    }
-    pairing_test(corners, pairing)
-}
-
 // Refusals 8 and 10.
-fn state_test(coords: &[i32], order: &[u32], n: usize) -> Verdict
-    ensures { λ r. ⌜ r ≡ verdict (ordered (now (coords .entry)) (now (order .entry)) ∷ tooMany (now (coords .entry)) n ∷ []) ⌝ }
+fn state_test(coords: &[i32], corners: &[u32], pairing: &[u32], order: &[u32], n: usize) -> Verdict
+    ensures { λ r. ⌜ tellVerdict r ≡ verdict (stateTests (coords .entry .now) (order .entry .now) n) ⌝ }
 {
-    let a = order_test(coords, order);
+    let a = tables::tests::one_test(MeshTest::Order, coords, corners, pairing, order);
     if let Verdict::Refused(_) = a {
         return a;
     }
-    if coords.len() / 3 < n {
-        return Verdict::Refused(Refusal::Passed(0));
-    }
-    Verdict::Fine
+    passed_test(coords, n)
 }
 
 // Refusals 1, 2, 3, 4, 7, 8, 10 and 11 of Step, for a ring table of this length.
@@ -110,13 +101,14 @@ fn step_test(
     ring: usize,
     n: usize,
 ) -> Verdict
-    ensures { λ r. ⌜ r ≡ verdict (stepRefusals (now (coords .entry)) (now (corners .entry)) (now (pairing .entry)) (now (order .entry)) ring n) ⌝ }
+    ensures { λ r. ⌜ tellVerdict r
+        ≡ verdict (stepTests (ordered (coords .entry .now) (corners .entry .now) (pairing .entry .now) (order .entry .now)) ring n) ⌝ }
 {
-    let a = linked_test(coords, corners, pairing);
+    let a = opening_test(coords, corners, pairing, true, true);
     if let Verdict::Refused(_) = a {
         return a;
     }
-    let b = state_test(coords, order, n);
+    let b = state_test(coords, corners, pairing, order, n);
     if let Verdict::Refused(_) = b {
         return b;
     }
@@ -135,7 +127,9 @@ pub fn step(
     ring: &mut [u32],
     state: State,
 ) -> Stepping
-    ensures { λ r. ⌜ Steps (now (coords .entry)) (now (corners .entry)) (now (pairing .entry)) (now (order .entry)) (now (ring .entry)) (state .passed) r (now (ring .exit)) ⌝ }
+    ensures { λ r. ⌜ Steps
+        (sweep (ordered (coords .entry .now) (corners .entry .now) (pairing .entry .now) (order .entry .now)) (ring .entry .now) (state .passed))
+        r (ring .exit .now) ⌝ }
 {
     let n = state.passed;
     let v = step_test(coords, corners, pairing, order, ring.len(), n);
@@ -162,18 +156,50 @@ fn sweep_test(
     n: usize,
     h: i32,
 ) -> Verdict
-    requires { ⌜ Right (now coords) (now corners) (now pairing) ⌝ }
-    ensures { λ r. ⌜ r ≡ verdict (ordered (now (coords .entry)) (now (order .entry)) ∷ tooMany (now (coords .entry)) n ∷ wrongRing (now (corners .entry)) (now (pairing .entry)) (now (order .entry)) (now (ring .entry)) n ∷ notAbove (now (coords .entry)) (now (order .entry)) n h ∷ []) ⌝ }
+    requires { ⌜ Right (paired (now coords) (now corners) (now pairing)) ⌝ }
+    ensures { λ r. ⌜ tellVerdict r
+        ≡ verdict (sweepTests (sweep (ordered (coords .entry .now) (corners .entry .now) (pairing .entry .now) (order .entry .now)) (ring .entry .now) n) h) ⌝ }
 {
-    let a = state_test(coords, order, n);
+    let a = one_test(
+        SweepTest::Mesh(MeshTest::Order),
+        coords,
+        corners,
+        pairing,
+        order,
+        ring,
+        n,
+        h,
+    );
     if let Verdict::Refused(_) = a {
         return a;
     }
-    let b = ring_test(coords, corners, pairing, order, ring, n);
+    let b = one_test(
+        SweepTest::Passed,
+        coords,
+        corners,
+        pairing,
+        order,
+        ring,
+        n,
+        h,
+    );
     if let Verdict::Refused(_) = b {
         return b;
     }
-    height_test(coords, order, n, h)
+    let d = one_test(SweepTest::Ring, coords, corners, pairing, order, ring, n, h);
+    if let Verdict::Refused(_) = d {
+        return d;
+    }
+    one_test(
+        SweepTest::Height,
+        coords,
+        corners,
+        pairing,
+        order,
+        ring,
+        n,
+        h,
+    )
 }
 
 // Refusals 1, 9, 2, 3, 4, 7, 8, 10, 11 and 12 of Layer, for lent tables of these lengths.
@@ -190,7 +216,9 @@ fn rise_test(
     ends: usize,
     marks: usize,
 ) -> Verdict
-    ensures { λ r. ⌜ r ≡ verdict (riseTests (now (coords .entry)) (now (corners .entry)) (now (pairing .entry)) (now (order .entry)) (now (ring .entry)) n h names points ends marks) ⌝ }
+    ensures { λ r. ⌜ tellVerdict r
+        ≡ verdict (riseTests (sweep (ordered (coords .entry .now) (corners .entry .now) (pairing .entry .now) (order .entry .now)) (ring .entry .now) n) h
+        (lengths names points ends marks)) ⌝ }
 {
     let a = tables_test(coords, corners, pairing, names, points, ends, marks);
     if let Verdict::Refused(_) = a {
@@ -213,7 +241,10 @@ pub fn layer(
     ends: &mut [u32],
     marks: &mut [u32],
 ) -> Rise
-    ensures { λ r. ⌜ Rises (now (coords .entry)) (now (corners .entry)) (now (pairing .entry)) (now (order .entry)) (now (ring .entry)) (state .passed) h (now (names .entry)) (now (points .entry)) (now (ends .entry)) (now (marks .entry)) r (now (ring .exit)) (now (names .exit)) (now (points .exit)) (now (ends .exit)) (now (marks .exit)) ⌝ }
+    ensures { λ r. ⌜ Rises
+        (sweep (ordered (coords .entry .now) (corners .entry .now) (pairing .entry .now) (order .entry .now)) (ring .entry .now) (state .passed)) h
+        (lent (names .entry .now) (points .entry .now) (ends .entry .now) (marks .entry .now)) r
+        (ring .exit .now) (lent (names .exit .now) (points .exit .now) (ends .exit .now) (marks .exit .now)) ⌝ }
 {
     let n = state.passed;
     let v = rise_test(

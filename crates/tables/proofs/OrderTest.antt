@@ -13,17 +13,15 @@ use Rattle.laws.specs.Booleans.{clash, is-false, and-parts, split-lt, split-eq}
 use Rattle.laws.specs.Least.{least}
 use Rattle.laws.specs.LeastLaws.{least-le, least-before, least-fits, least-is, least-none}
 use Rattle.mesh.specs.Corners.{vertexCount}
-use Rattle.mesh.specs.Order.{before}
-use Rattle.mesh.specs.Refusals.{test}
-use Rattle.mesh.specs.RefusalLaws.{nowhere-fine, fits-refused}
-use Rattle.mesh.specs.Tests.{orderedAt, ordered}
-use Rattle.mesh.specs.RankLaws.{rank, rank-before}
-use Rattle.mesh.specs.RisingLaws.{Rising}
-use Rattle.tables.specs.Rising.{risesAt, risen, misplacedAt}
+use Rattle.mesh.specs.Order.{before, rank, Ranked, RisingPrefix}
+use Rattle.mesh.specs.Operation.{refuses, fine, test}
+use Rattle.mesh.specs.OperationLaws.{nowhere-fine, fits-refused}
+use Rattle.mesh.specs.Refusals.{refusal}
+use Rattle.mesh.specs.Tests.{orderedAt, orders}
+use Rattle.mesh.specs.RankLaws.{rank-before}
+use Rattle.tables.specs.Rising.{risesAt, risingCount, misplacedAt}
 use Rattle.mesh.specs.RisingLaws.{right-before, rank-full}
-use Rattle.mesh.specs.OrderTableLaws.{Ranked, ordered-rank, rank-ordered}
-use Rattle.mesh.specs.declared.Refusal.the-variants.{Order}
-use Rattle.mesh.specs.declared.Verdict.the-variants.{Fine, Refused}
+use Rattle.mesh.specs.OrderTableLaws.{ordered-rank, rank-ordered}
 
 module _ (coords : List ℤ) (order : List ℕ) where
   -- ---- one entry
@@ -72,33 +70,34 @@ module _ (coords : List ℤ) (order : List ℕ) where
   abbrev stops : ℕ → Bool
   stops i = not (risesAt coords order i)
 
-  pub rising-of : (m : ℕ) → ((k : ℕ) → k < m → risesAt coords order k ≡ true) → Rising coords order m
+  pub rising-of : (m : ℕ) → ((k : ℕ) → k < m → risesAt coords order k ≡ true) → RisingPrefix coords order m
   rising-of m f = record { vertex = λ i l. rise-of i (f i l) .vertex; rises = λ i l. rise-of (suc i) (f (suc i) l) .after i refl }
 
-  pub risen-is : (m : ℕ) → m < vertexCount coords → ((k : ℕ) → k < m → risesAt coords order k ≡ true) → risesAt coords order m ≡ false → m ≡ risen coords order
-  unfolding risen
+  pub risen-is : (m : ℕ) → m < vertexCount coords → ((k : ℕ) → k < m → risesAt coords order k ≡ true) → risesAt coords order m ≡ false
+      → m ≡ risingCount coords order
+  unfolding risingCount
   risen-is m l f e = sym (least-is (vertexCount coords) stops m l (ap not e) (λ k h. ap not (f k h)))
 
-  pub risen-all : (m : ℕ) → m ≡ vertexCount coords → ((k : ℕ) → k < m → risesAt coords order k ≡ true) → m ≡ risen coords order
-  unfolding risen
+  pub risen-all : (m : ℕ) → m ≡ vertexCount coords → ((k : ℕ) → k < m → risesAt coords order k ≡ true) → m ≡ risingCount coords order
+  unfolding risingCount
   risen-all m e f = e ∙ sym (least-none (vertexCount coords) stops (λ k h. ap not (f k (omega arith))))
 
-  module _ (m : ℕ) (e : m ≡ risen coords order) where
+  module _ (m : ℕ) (e : m ≡ risingCount coords order) where
     rising-all : (k : ℕ) → k < m → risesAt coords order k ≡ true
-    unfolding risen
+    unfolding risingCount
     rising-all k l = not-false _ (least-before (vertexCount coords) stops k (omega arith))
 
     risen-le : m ≤ vertexCount coords
-    unfolding risen
+    unfolding risingCount
     risen-le = omega (arith, least-le (vertexCount coords) stops)
 
     risen-stops : m < vertexCount coords → risesAt coords order m ≡ false
-    unfolding risen
+    unfolding risingCount
     risen-stops l =
         let q : least (vertexCount coords) stops ≡ m = sym e in
         not-true _ (rw q at (least-fits (vertexCount coords) stops (omega arith)))
 
-    pub risen-prefix : (m ≤ length order) × Rising coords order m
+    pub risen-prefix : (m ≤ length order) × RisingPrefix coords order m
     risen-prefix =
         let last : length order < m → m - 1 < length order = λ h. rise-of (m - 1) (rising-all (m - 1) (omega arith)) .there in
         (⊎-elim (λ h. omega (arith, last h)) (λ h. h) (split-lt (length order) m), rising-of m rising-all)
@@ -135,7 +134,7 @@ module _ (coords : List ℤ) (order : List ℕ) where
         (λ l. let q : lo ≡ m = omega arith in q ∙ sym (least-none m (misplacedAt coords order) (λ k j. s .right k (omega arith))))
         (split-lt lo m)
 
-    module _ (prefix : Rising coords order m) (mid : ℕ) (l : lo ≤ mid) (h : mid < hi) where
+    module _ (prefix : RisingPrefix coords order m) (mid : ℕ) (l : lo ≤ mid) (h : mid < hi) where
       pub search-right : rank coords (getD order mid 0) ≡ mid → Search m (mid + 1) hi
       search-right e = record {
         low = omega arith;
@@ -154,8 +153,8 @@ module _ (coords : List ℤ) (order : List ℕ) where
 
   -- ---- the verdict
 
-  pub order-fine : (m : ℕ) → m ≡ risen coords order → m ≡ vertexCount coords → Fine ≡ test (ordered coords order)
-  order-fine m e q = nowhere-fine (ordered coords order) (λ i l. ap not (rank-ordered coords order i (ranked i (omega arith))))
+  pub order-fine : (m : ℕ) → m ≡ risingCount coords order → m ≡ vertexCount coords → fine ≡ test (orders coords order)
+  order-fine m e q = nowhere-fine (orders coords order) (λ i l. ap not (rank-ordered coords order i (ranked i (omega arith))))
     where
       ranked : (i : ℕ) → i < m → Ranked coords order i
       ranked i l =
@@ -170,10 +169,10 @@ module _ (coords : List ℤ) (order : List ℕ) where
       (λ z. let p = f (m - 1) (omega arith) in sym (rises-later m (r .there) (r .vertex) z) ∙ rank-before coords _ _ (p .vertex) (r .vertex) (omega arith))
       (split-eq m 0)
 
-  pub order-refused : (m : ℕ) → m ≡ risen coords order → (m ≡ vertexCount coords → ⊥) → (i : ℕ) → i ≡ least m (misplacedAt coords order)
-      → Refused (Order i) ≡ test (ordered coords order)
+  pub order-refused : (m : ℕ) → m ≡ risingCount coords order → (m ≡ vertexCount coords → ⊥) → (i : ℕ) → i ≡ least m (misplacedAt coords order)
+      → refuses (refusal 8 i) ≡ test (orders coords order)
   order-refused m e ne i q =
-      fits-refused (ordered coords order) i inside (ap not (is-false (orderedAt coords order i) (λ o. wrong (ordered-rank coords order i o inside))))
+      fits-refused (orders coords order) i inside (ap not (is-false (orderedAt coords order i) (λ o. wrong (ordered-rank coords order i o inside))))
       (λ j l. ap not (rank-ordered coords order j (ranked j l)))
     where
       within : i ≤ m
@@ -190,6 +189,7 @@ module _ (coords : List ℤ) (order : List ℕ) where
       wrong : Ranked coords order i → ⊥
       wrong r =
           ⊎-elim
-          (λ l. let p : misplacedAt coords order i ≡ true = rw q (least-fits m (misplacedAt coords order) (omega arith)) in clash p (misplaced-no i (r .rankIs)))
+          (λ l. let p : misplacedAt coords order i ≡ true = rw q (least-fits m (misplacedAt coords order) (omega arith)) in clash p
+          (misplaced-no i (r .rankIs)))
           (λ l. let p : i ≡ m = omega (arith, within) in clash (ranked-rises i r ranked) (risen-stops i (p ∙ e) inside))
           (split-lt i m)

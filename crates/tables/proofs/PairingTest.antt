@@ -17,7 +17,8 @@ use Rattle.tables.specs.Meeting.{Meets, Thrice, Met}
 
 module _ (corners pairing : List ℕ) where
   -- the code's reads and comparisons
-  pub meets-of : (c v d e : ℕ) → d ≡ pairOf pairing c → d < length corners → getD corners d 0 ≡ v → e ≡ getD pairing d 0 → eqb c e ≡ true → Meets corners pairing c v
+  pub meets-of : (c v d e : ℕ) → d ≡ pairOf pairing c → d < length corners → getD corners d 0 ≡ v → e ≡ getD pairing d 0 → eqb c e ≡ true
+      → Meets corners pairing c v
   meets-of c v d e p l s q b =
       record { corner = omega arith; start = ap (startOf corners) (sym p) ∙ s; back = ap (pairOf pairing) (sym p) ∙ sym q ∙ sym (eqb-true c e b) }
 

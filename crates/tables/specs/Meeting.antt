@@ -1,4 +1,4 @@
--- Internal: half of what a right pairing asks of a corner, enough where every corner has it.
+-- Half of what a right pairing asks of a corner, enough where every corner has it.
 use Prim.Native.Nat.{ℕ, _+_, _*_, _≤_, _<_}
 use mathlib.Core.Path.{_≡_}
 use mathlib.Core.List.{List}

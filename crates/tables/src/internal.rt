@@ -5,8 +5,8 @@ ghost use Prim.Native.Nat.{_<_, _≤_};
 ghost use lib.ListN.{length};
 ghost use Rattle.laws.specs.Least.{least};
 ghost use Rattle.mesh.specs.Corners.{triangleCount};
-ghost use Rattle.mesh.specs.Refusals.{test};
-ghost use Rattle.mesh.specs.RefusalLaws.{Nowhere};
+ghost use Rattle.mesh.specs.Operation.{Nowhere, test};
+ghost use Rattle.mesh.specs.Refusals.{tellVerdict};
 ghost use Rattle.mesh.specs.Tests.{Whole, reverse, pairedAt, unpaired, pairs};
 ghost use Rattle.tables.specs.Meeting.{Meets, Thrice};
 use mesh::Refusal;
@@ -117,7 +117,7 @@ fn all_meet(corners: &[u32], pairing: &[u32]) -> bool
 // Refusal 7.
 pub fn pairing_test(corners: &[u32], pairing: &[u32]) -> Verdict
     requires { ⌜ Whole (length (now corners)) ⌝ }
-    ensures { λ r. ⌜ r ≡ test (pairs (now (corners .entry)) (now (pairing .entry))) ⌝ }
+    ensures { λ r. ⌜ tellVerdict r ≡ test (pairs (now (corners .entry)) (now (pairing .entry))) ⌝ }
 {
     if all_meet(corners, pairing) {
         return Verdict::Fine;

@@ -8,11 +8,11 @@ ghost use Prim.Native.Nat.{_<_, _≤_};
 ghost use lib.ListN.{length};
 ghost use Rattle.laws.specs.Least.{least};
 ghost use Rattle.mesh.specs.Corners.{vertexCount};
-ghost use Rattle.mesh.specs.RankLaws.{rank};
-ghost use Rattle.mesh.specs.RisingLaws.{Rising};
-ghost use Rattle.tables.specs.Rising.{risesAt, risen, misplacedAt};
-ghost use Rattle.mesh.specs.Refusals.{test};
-ghost use Rattle.mesh.specs.Tests.{ordered};
+ghost use Rattle.mesh.specs.Order.{rank, RisingPrefix};
+ghost use Rattle.tables.specs.Rising.{risesAt, risingCount, misplacedAt};
+ghost use Rattle.mesh.specs.Operation.{test};
+ghost use Rattle.mesh.specs.Refusals.{tellVerdict};
+ghost use Rattle.mesh.specs.Tests.{orders};
 
 // How many vertices stand before vertex v.
 fn rank_of(coords: &[i32], v: usize) -> usize
@@ -33,7 +33,7 @@ fn rank_of(coords: &[i32], v: usize) -> usize
 
 // Whether entry i is there, is a vertex, and stands after the entry in front of it.
 fn goes_on(coords: &[i32], order: &[u32], i: usize) -> bool
-    requires { ⌜ Rising (now coords) (now order) i ⌝ }
+    requires { ⌜ RisingPrefix (now coords) (now order) i ⌝ }
     ensures { λ r. ⌜ r ≡ risesAt (now (coords .entry)) (now (order .entry)) i ⌝ }
 {
     let n = coords.len() / 3;
@@ -53,7 +53,7 @@ fn goes_on(coords: &[i32], order: &[u32], i: usize) -> bool
 
 // How many leading entries are vertices, each before the next.
 fn rising_prefix(coords: &[i32], order: &[u32]) -> usize
-    ensures { λ r. ⌜ r ≡ risen (now (coords .entry)) (now (order .entry)) ⌝ }
+    ensures { λ r. ⌜ r ≡ risingCount (now (coords .entry)) (now (order .entry)) ⌝ }
 {
     let n = coords.len() / 3;
     let mut m: usize = 0;
@@ -68,7 +68,7 @@ fn rising_prefix(coords: &[i32], order: &[u32]) -> usize
 
 // The first of m rising entries whose rank is not its place, and m where none is: once one is wrong, so is each after it.
 fn first_misplaced(coords: &[i32], order: &[u32], m: usize) -> usize
-    requires { ⌜ (m ≤ length (now order)) × Rising (now coords) (now order) m ⌝ }
+    requires { ⌜ (m ≤ length (now order)) × RisingPrefix (now coords) (now order) m ⌝ }
     ensures { λ r. ⌜ r ≡ least m (misplacedAt (now (coords .entry)) (now (order .entry))) ⌝ }
 {
     let mut lo: usize = 0;
@@ -87,7 +87,7 @@ fn first_misplaced(coords: &[i32], order: &[u32], m: usize) -> usize
 
 // Refusal 8: the least position where the order table is missing an entry or wrong.
 pub fn order_test(coords: &[i32], order: &[u32]) -> Verdict
-    ensures { λ r. ⌜ r ≡ test (ordered (now (coords .entry)) (now (order .entry))) ⌝ }
+    ensures { λ r. ⌜ tellVerdict r ≡ test (orders (now (coords .entry)) (now (order .entry))) ⌝ }
 {
     let n = coords.len() / 3;
     let m = rising_prefix(coords, order);

@@ -24,14 +24,19 @@ pub one-none : (links : List ℕ) (d : ℕ) → getD links d 0 ≡ noCorner → 
 one-none links d e i h k = let q : d ≡ i = omega arith in ap (λ (j : ℕ). getD links j 0) (sym q) ∙ e
 
 -- four links whose sum is the greatest
-pub four-none : (links : List ℕ) (c : ℕ) {w x y z : ℕ} → ((i : ℕ) → getD links i 0 < 4294967296) → w ≡ getD links c 0 → x ≡ getD links (c + 1) 0 → y ≡ getD links (c + 2) 0 → z ≡ getD links (c + 3) 0
+pub four-none : (links : List ℕ) (c : ℕ) {w x y z : ℕ} → ((i : ℕ) → getD links i 0 < 4294967296)
+    → w ≡ getD links c 0 → x ≡ getD links (c + 1) 0 → y ≡ getD links (c + 2) 0 → z ≡ getD links (c + 3) 0
     → w + x + (y + z) ≡ 17179869180 → None links c (c + 4)
 four-none links c small ew ex ey ez e =
     let a = small c in
     let b = small (c + 1) in
     let d = small (c + 2) in
     let f = small (c + 3) in
-    each-of (λ (i : ℕ). getD links i 0 ≡ noCorner) c (omega (arith, a, b, d, f)) (omega (arith, a, b, d, f)) (omega (arith, a, b, d, f)) (omega (arith, a, b, d, f))
+    each-of (λ (i : ℕ). getD links i 0 ≡ noCorner) c
+    (omega (arith, a, b, d, f))
+    (omega (arith, a, b, d, f))
+    (omega (arith, a, b, d, f))
+    (omega (arith, a, b, d, f))
 
 module _ {n : ℕ} {links : List ℕ} {c : ℕ} where
   pub sought-none : c ≤ n → Sought n links c c

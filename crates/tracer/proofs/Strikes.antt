@@ -42,10 +42,12 @@ unfolding member
 strike-same [] links x h e = absurd (clash e refl)
 strike-same (c ∷ cs) links x h e = by (eqb x c) refl e (strike-same cs (set links c noCorner) x (omega (arith, length-set links c noCorner)))
   where
-    by : (b : Bool) → eqb x c ≡ b → (b || member x cs) ≡ true → (member x cs ≡ true → getD (strike (set links c noCorner) cs) x 0 ≡ noCorner) → getD (strike (set links c noCorner) cs) x 0 ≡ noCorner
+    by : (b : Bool) → eqb x c ≡ b → (b || member x cs) ≡ true
+        → (member x cs ≡ true → getD (strike (set links c noCorner) cs) x 0 ≡ noCorner) → getD (strike (set links c noCorner) cs) x 0 ≡ noCorner
     by true q z k =
         let y = eqb-true x c q in
-        strike-kept cs (set links c noCorner) x (omega (arith, length-set links c noCorner)) (ap (λ (j : ℕ). getD (set links c noCorner) j 0) y ∙ getD-set-same links c noCorner 0 (omega arith))
+        strike-kept cs (set links c noCorner) x (omega (arith, length-set links c noCorner))
+        (ap (λ (j : ℕ). getD (set links c noCorner) j 0) y ∙ getD-set-same links c noCorner 0 (omega arith))
     by false q z k = k z
 
 -- nothing from n on is struck out

@@ -13,20 +13,21 @@ use Rattle.laws.specs.Booleans.{clash, is-false, and-parts}
 use Rattle.laws.specs.Tables.{overwrite}
 use Rattle.laws.specs.TableLaws.{length-snoc, overwrite-none, length-overwrite, overwrite-snoc, overwrite-more}
 use Rattle.section.specs.Section.{noCorner, Among}
-use Rattle.section.specs.Rings.{iterate, Ring}
+use Rattle.section.specs.Rings.{iterate, Ring, Leads}
 use Rattle.section.specs.Contours.{member, Traced, contours, namesOf as flat, traceTo, endsFrom, endsOf}
 use Rattle.section.specs.Links.{hasLink, linkOf, traceLinks}
 use Rattle.section.specs.OrbitLaws.{orbit, length-orbit, orbit-snoc}
-use Rattle.section.specs.LayerLaws.{names-snoc, Leads, starting, Begun, begun-start, begun-skip, crosses, ring, contour, fresh, begun-ring, ring-room, begun-few}
+use Rattle.section.specs.LayerLaws.{names-snoc, starting, Begun, begun-start, begun-skip, crosses, ring, contour, fresh, begun-ring, ring-room, begun-few}
 use Rattle.tracer.specs.Traces.{found, zeroed, namesAfter, endsAfter}
-use Rattle.tracer.specs.Walks.{ringOf, strike, Walkable, Traceable, Sought}
+use Rattle.tracer.specs.Walks.{ringOf, strike, Walkable, Traceable, None, Sought}
 use Rattle.tracer.specs.declared.Found.the-variants.{Contours}
 use Rattle.tracer.proofs.Strikes.{length-strike, strike-join, strike-other, strike-same, strike-behind}
 use Rattle.tracer.proofs.Walking.{ring-is}
 
 -- ---- ends
 
-ends-snoc : (k : ℕ) (rs : List (List ℕ)) (r : List ℕ) → endsFrom k (rs ++ (r ∷ [])) ≡ endsFrom k rs ++ ((k + length (flat rs) + length r) ∷ [])
+ends-snoc : (k : ℕ) (rs : List (List ℕ)) (r : List ℕ)
+    → endsFrom k (rs ++ (r ∷ [])) ≡ endsFrom k rs ++ ((k + length (flat rs) + length r) ∷ [])
 unfolding endsFrom
 ends-snoc k [] r = let e : k + length r ≡ k + 0 + length r = omega arith in ap (λ (x : ℕ). x ∷ []) e
 ends-snoc k (q ∷ rs) r =
@@ -42,7 +43,8 @@ length-ends k (r ∷ rs) = ap suc (length-ends (k + length r) rs)
 
 -- ---- two tables with the same links along a way
 
-orbit-same : (f g : ℕ → ℕ) (m c : ℕ) → ((i : ℕ) → i < m → f (iterate g i c) ≡ g (iterate g i c)) → (i : ℕ) → i ≤ m → iterate f i c ≡ iterate g i c
+orbit-same : (f g : ℕ → ℕ) (m c : ℕ) → ((i : ℕ) → i < m → f (iterate g i c) ≡ g (iterate g i c))
+    → (i : ℕ) → i ≤ m → iterate f i c ≡ iterate g i c
 unfolding iterate
 orbit-same f g m c h zero l = refl
 orbit-same f g m c h (suc i) l = ap f (orbit-same f g m c h i (omega arith)) ∙ h i (omega arith)
@@ -65,8 +67,8 @@ pub record Tracing (n : ℕ) (links₀ names₀ ends₀ links names ends : List 
   pub ends-is : ends ≡ overwrite (endsOf rings) ends₀
   pub links-is : links ≡ strike links₀ (flat rings)
 
-pub tracing-start : (n : ℕ) (links names ends : List ℕ) → Traceable n links names ends → Tracing n links names ends links names ends 0 0 0
-tracing-start n links names ends g =
+pub tracing-start : {n : ℕ} {links names ends : List ℕ} → Traceable n links names ends → Tracing n links names ends links names ends 0 0 0
+tracing-start {n} {links} {names} {ends} g =
     record {
       given = g;
       rings = [];
@@ -79,7 +81,7 @@ tracing-start n links names ends g =
       links-is = refl;
     }
 
-module _ (n : ℕ) (links₀ names₀ ends₀ links names ends : List ℕ) (c k j : ℕ) (w : Tracing n links₀ names₀ ends₀ links names ends c k j) where
+module _ {n : ℕ} {links₀ names₀ ends₀ links names ends : List ℕ} {c k j : ℕ} (w : Tracing n links₀ names₀ ends₀ links names ends c k j) where
   abbrev rises : ℕ → Bool
   rises = hasLink links₀
 
@@ -96,7 +98,9 @@ module _ (n : ℕ) (links₀ names₀ ends₀ links names ends : List ℕ) (c k 
   names-length = ap length (w .names-is) ∙ length-overwrite (flat (w .rings)) names₀ (omega (arith, k-few, w .at-k, w .given .names-room))
 
   pub ends-length : length ends ≡ length ends₀
-  ends-length = ap length (w .ends-is) ∙ length-overwrite (endsOf (w .rings)) ends₀ (omega (arith, length-ends 0 (w .rings), w .begun .few, w .upto, w .given .ends-room))
+  ends-length =
+      ap length (w .ends-is)
+      ∙ length-overwrite (endsOf (w .rings)) ends₀ (omega (arith, length-ends 0 (w .rings), w .begun .few, w .upto, w .given .ends-room))
 
   pub links-length : length links ≡ length links₀
   links-length = ap length (w .links-is) ∙ length-strike links₀ (flat (w .rings))
@@ -108,22 +112,25 @@ module _ (n : ℕ) (links₀ names₀ ends₀ links names ends : List ℕ) (c k 
     link-here : getD links c 0 ≡ getD (strike links₀ (flat (w .rings))) c 0
     link-here = ap (λ (t : List ℕ). getD t c 0) (w .links-is)
 
+    unlinked : member c (flat (w .rings)) ≡ false → getD links c 0 ≡ noCorner → hasLink links₀ c ≡ false
+    unfolding hasLink
+    unlinked m e = ap not (eq-eqb (getD links₀ c 0) noCorner (sym (strike-other (flat (w .rings)) links₀ c m) ∙ sym link-here ∙ e))
+
     -- no contour starts at c
     no-start : getD links c 0 ≡ noCorner → starting rises next n leads (w .rings) c ≡ false
     no-start e = by (member c (flat (w .rings))) refl
       where
         by : (b : Bool) → member c (flat (w .rings)) ≡ b → (hasLink links₀ c && not b) ≡ false
         by true m = is-false _ (λ s. clash refl (sym (and-parts (hasLink links₀ c) false s .1)))
-        by false m =
-            let z : hasLink links₀ c ≡ false = unfold hasLink in (ap not (eq-eqb (getD links₀ c 0) noCorner (sym (strike-other (flat (w .rings)) links₀ c m) ∙ sym link-here ∙ e))) in
-            simp z
+        by false m = simp (unlinked m e)
 
     pub tracing-skip : getD links c 0 ≡ noCorner → Tracing n links₀ names₀ ends₀ links names ends (c + 1) k j
     tracing-skip e =
         record {
           given = w .given;
           rings = w .rings;
-          begun = subst (λ (i : ℕ). Begun rises next n leads i (w .rings)) (sym (add-one c)) (begun-skip rises next n leads c (w .rings) (w .begun) (no-start e));
+          begun = subst (λ (i : ℕ). Begun rises next n leads i (w .rings)) (sym (add-one c))
+              (begun-skip rises next n leads c (w .rings) (w .begun) (no-start e));
           upto = omega arith;
           at-k = w .at-k;
           at-j = w .at-j;
@@ -137,12 +144,11 @@ module _ (n : ℕ) (links₀ names₀ ends₀ links names ends : List ℕ) (c k 
       unused : member c (flat (w .rings)) ≡ false
       unused = is-false _ (λ m. e (link-here ∙ strike-same (flat (w .rings)) links₀ c (omega (arith, w .given .links-room)) m))
 
+      linked : getD links₀ c 0 ≡ noCorner → ⊥
+      linked q = e (link-here ∙ strike-other (flat (w .rings)) links₀ c unused ∙ q)
+
       here : Among n (hasLink links₀) c
-      here =
-          record {
-            below = l;
-            upward = unfold hasLink in (ap not (ne-eqb (getD links₀ c 0) noCorner (λ q. e (link-here ∙ strike-other (flat (w .rings)) links₀ c unused ∙ q))));
-          }
+      here = record { below = l; upward = unfold hasLink in (ap not (ne-eqb (getD links₀ c 0) noCorner linked)) }
 
       abbrev r : Ring (linkOf links₀) n c
       r = ring rises next n leads c (w .rings) (w .begun) here unused
@@ -156,7 +162,8 @@ module _ (n : ℕ) (links₀ names₀ ends₀ links names ends : List ℕ) (c k 
       same-way : (i : ℕ) → i ≤ r .steps → iterate (linkOf links) i c ≡ iterate next i c
       same-way =
           orbit-same (linkOf links) next (r .steps) c
-          (λ i h. ap (λ (t : List ℕ). getD t (iterate next i c) 0) (w .links-is) ∙ strike-other (flat (w .rings)) links₀ (iterate next i c) (free i h))
+          (λ i h. ap (λ (t : List ℕ). getD t (iterate next i c) 0) (w .links-is)
+          ∙ strike-other (flat (w .rings)) links₀ (iterate next i c) (free i h))
 
       room : k + r .steps ≤ n
       room = omega (arith, w .at-k, ring-room rises next n leads c (w .rings) (w .begun) here unused)
@@ -189,20 +196,31 @@ module _ (n : ℕ) (links₀ names₀ ends₀ links names ends : List ℕ) (c k 
       pub end-few : k + length (ringOf links c) ≤ n
       end-few = omega (arith, room, length-ring)
 
-      pub tracing-ring : (links₁ names₁ ends₁ : List ℕ) (k₁ : ℕ) → names₁ ≡ sets names k (ringOf links c) → links₁ ≡ strike links (ringOf links c) → k₁ ≡ k + length (ringOf links c)
-          → ends₁ ≡ set ends j k₁ → Tracing n links₀ names₀ ends₀ links₁ names₁ ends₁ (c + 1) k₁ (j + 1)
-      tracing-ring links₁ names₁ ends₁ k₁ en el ek ee =
+      -- the pass after the walk of corner c
+      pub tracing-ring : {links₁ names₁ : List ℕ} {k₁ : ℕ} → names₁ ≡ sets names k (ringOf links c)
+          → links₁ ≡ strike links (ringOf links c) → k₁ ≡ k + length (ringOf links c)
+          → Tracing n links₀ names₀ ends₀ links₁ names₁ (set ends j k₁) (c + 1) k₁ (j + 1)
+      tracing-ring {links₁} {names₁} {k₁} en el ek =
           record {
             given = w .given;
             rings = w .rings ++ (o ∷ []);
-            begun = subst (λ (i : ℕ). Begun rises next n leads i (w .rings ++ (o ∷ []))) (sym (add-one c)) (begun-ring rises next n leads c (w .rings) (w .begun) here unused);
+            begun = subst (λ (i : ℕ). Begun rises next n leads i (w .rings ++ (o ∷ []))) (sym (add-one c))
+                (begun-ring rises next n leads c (w .rings) (w .begun) here unused);
             upto = omega arith;
             at-k = omega (arith, len, ap length all, length-append (flat (w .rings)) o);
             at-j = omega (arith, w .at-j, length-snoc (w .rings) o);
-            names-is = en ∙ (λ i. sets (w .names-is i) k (ring-same i)) ∙ overwrite-more o (flat (w .rings)) names₀ k (w .at-k) (omega (arith, room, length-orbit next (r .steps) c, w .given .names-room)) ∙ ap (λ (a : List ℕ). overwrite a names₀) (sym all);
-            ends-is = ee ∙ (λ i. set (w .ends-is i) j (len i)) ∙ overwrite-snoc (endsOf (w .rings)) ends₀ (0 + length (flat (w .rings)) + length o) j (w .at-j ∙ sym (length-ends 0 (w .rings))) (omega (arith, w .at-j, w .begun .few, w .given .ends-room))
+            names-is = en
+                ∙ (λ i. sets (w .names-is i) k (ring-same i))
+                ∙ overwrite-more o (flat (w .rings)) names₀ k (w .at-k) (omega (arith, room, length-orbit next (r .steps) c, w .given .names-room))
+                ∙ ap (λ (a : List ℕ). overwrite a names₀) (sym all);
+            ends-is = (λ i. set (w .ends-is i) j (len i))
+                ∙ overwrite-snoc (endsOf (w .rings)) ends₀ (0 + length (flat (w .rings)) + length o) j (w .at-j ∙ sym (length-ends 0 (w .rings)))
+                (omega (arith, w .at-j, w .begun .few, w .given .ends-room))
                 ∙ ap (λ (a : List ℕ). overwrite a ends₀) (sym (ends-snoc 0 (w .rings) o));
-            links-is = el ∙ (λ i. strike (w .links-is i) (ring-same i)) ∙ sym (strike-join links₀ (flat (w .rings)) o) ∙ ap (strike links₀) (sym all);
+            links-is = el
+                ∙ (λ i. strike (w .links-is i) (ring-same i))
+                ∙ sym (strike-join links₀ (flat (w .rings)) o)
+                ∙ ap (strike links₀) (sym all);
           }
         where
           all : flat (w .rings ++ (o ∷ [])) ≡ flat (w .rings) ++ o
@@ -217,34 +235,52 @@ module _ (n : ℕ) (links₀ names₀ ends₀ links names ends : List ℕ) (c k 
     unfolding traceLinks
     trace-is = let e : c ≡ n = omega (arith, w .upto) in subst (λ (i : ℕ). traceTo rises next n i ≡ contours (w .rings)) e (w .begun .is)
 
-    pub found-is : Contours j k ≡ found (traceLinks n links₀)
+    found-is : Contours j k ≡ found (traceLinks n links₀)
     unfolding found
     found-is = (λ i. Contours (w .at-j i) (w .at-k i)) ∙ ap found (sym trace-is)
 
-    pub names-end : names ≡ namesAfter (traceLinks n links₀) n names₀
+    names-end : names ≡ namesAfter (traceLinks n links₀) n names₀
     unfolding namesAfter
     names-end = w .names-is ∙ ap (λ (t : Traced). namesAfter t n names₀) (sym trace-is)
 
-    pub ends-end : ends ≡ endsAfter (traceLinks n links₀) n ends₀
+    ends-end : ends ≡ endsAfter (traceLinks n links₀) n ends₀
     unfolding endsAfter
     ends-end = w .ends-is ∙ ap (λ (t : Traced). endsAfter t n ends₀) (sym trace-is)
 
-    pub links-end : (t : List ℕ) → t ≡ overwrite (replicate n 0) links → t ≡ zeroed n links₀
+    links-end : zeroed n links ≡ zeroed n links₀
     unfolding overwrite
-    links-end t e =
+    links-end =
         let z : length {A = ℕ} (replicate n 0) ≡ n = length-replicate {A = ℕ} n 0 in
-        e ∙ ap (λ (s : List ℕ). replicate n 0 ++ s)
-        (ap (λ (i : ℕ). drop i links) z ∙ ap (drop n) (w .links-is) ∙ strike-behind (flat (w .rings)) links₀ n (λ x y. w .begun .only x y .below) ∙ ap (λ (i : ℕ). drop i links₀) (sym z))
+        ap (λ (s : List ℕ). replicate n 0 ++ s)
+        (ap (λ (i : ℕ). drop i links) z
+        ∙ ap (drop n) (w .links-is)
+        ∙ strike-behind (flat (w .rings)) links₀ n (λ x y. w .begun .only x y .below)
+        ∙ ap (λ (i : ℕ). drop i links₀) (sym z))
+
+    -- what the last corner leaves, once the links are zeroed
+    pub traced : {t : List ℕ} → t ≡ zeroed n links
+        → (Contours j k ≡ found (traceLinks n links₀))
+        × ((names ≡ namesAfter (traceLinks n links₀) n names₀) × ((ends ≡ endsAfter (traceLinks n links₀) n ends₀) × (t ≡ zeroed n links₀)))
+    traced e = (found-is, (names-end, (ends-end, e ∙ links-end)))
 
 -- the corners passed over
-pub tracing-pass : {n : ℕ} {links₀ names₀ ends₀ links names ends : List ℕ} {c k j : ℕ} (d : ℕ) → Tracing n links₀ names₀ ends₀ links names ends c k j → Sought n links c d → Tracing n links₀ names₀ ends₀ links names ends d k j
-tracing-pass {n} {links₀} {names₀} {ends₀} {links} {names} {ends} {c} {k} {j} d w s =
-    let e : c + (d - c) ≡ d = omega (arith, s .onward) in
-    subst (λ (i : ℕ). Tracing n links₀ names₀ ends₀ links names ends i k j) e (go (d - c) c w (λ i l h. s .none i l (omega (arith, s .onward))) (omega (arith, s .onward, s .upto)))
-  where
-    go : (m c : ℕ) → Tracing n links₀ names₀ ends₀ links names ends c k j → ((i : ℕ) → c ≤ i → i < c + m → getD links i 0 ≡ noCorner) → c + m ≤ n → Tracing n links₀ names₀ ends₀ links names ends (c + m) k j
-    go zero c w f l = subst (λ (i : ℕ). Tracing n links₀ names₀ ends₀ links names ends i k j) (sym (add-zero c)) w
-    go (suc m) c w f l =
-        let e : c + 1 + m ≡ c + suc m = omega arith in
-        subst (λ (i : ℕ). Tracing n links₀ names₀ ends₀ links names ends i k j) e
-        (go m (c + 1) (tracing-skip n links₀ names₀ ends₀ links names ends c k j w (omega arith) (f c (omega arith) (omega arith))) (λ i a b. f i (omega arith) (omega arith)) (omega arith))
+module _ (n : ℕ) (links₀ names₀ ends₀ links names ends : List ℕ) (k j : ℕ) where
+  -- the pass stands at corner c
+  abbrev Reached : ℕ → Type 0
+  Reached c = Tracing n links₀ names₀ ends₀ links names ends c k j
+
+  over : (m c : ℕ) → Reached c → None links c (c + m) → c + m ≤ n → Reached (c + m)
+  over zero c w f l = subst Reached (sym (add-zero c)) w
+  over (suc m) c w f l =
+      let e : c + 1 + m ≡ c + suc m = omega arith in
+      let here = tracing-skip w (omega arith) (f c (omega arith) (omega arith)) in
+      subst Reached e (over m (c + 1) here (λ i a b. f i (omega arith) (omega arith)) (omega arith))
+
+  over-to : (c d : ℕ) → Reached c → Sought n links c d → Reached d
+  over-to c d w s =
+      let e : c + (d - c) ≡ d = omega (arith, s .onward) in
+      subst Reached e (over (d - c) c w (λ i l h. s .none i l (omega (arith, s .onward))) (omega (arith, s .onward, s .upto)))
+
+pub tracing-pass : {n : ℕ} {links₀ names₀ ends₀ links names ends : List ℕ} {c d k j : ℕ}
+    → Tracing n links₀ names₀ ends₀ links names ends c k j → Sought n links c d → Tracing n links₀ names₀ ends₀ links names ends d k j
+tracing-pass w s = over-to _ _ _ _ _ _ _ _ _ _ _ w s

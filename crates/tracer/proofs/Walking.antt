@@ -17,7 +17,8 @@ use Rattle.section.specs.OrbitLaws.{orbit, length-orbit, orbit-snoc, orbit-at, 
 use Rattle.tracer.specs.Walks.{placesOf, ringOf, strike, Walkable}
 use Rattle.tracer.proofs.Strikes.{length-strike, strike-join, strike-other}
 
-pub ring-is : (links : List ℕ) (start : ℕ) (r : Ring (linkOf links) (length links) start) → ringOf links start ≡ orbit (linkOf links) (r .steps) start
+pub ring-is : (links : List ℕ) (start : ℕ) (r : Ring (linkOf links) (length links) start)
+    → ringOf links start ≡ orbit (linkOf links) (r .steps) start
 unfolding ringOf
 ring-is links start r = ap placesOf (walk-closes (linkOf links) (length links) start r [] (λ j l. unfold member in refl))
 
@@ -31,8 +32,8 @@ pub record Walking (links₀ names₀ : List ℕ) (start at : ℕ) (links names 
   pub names-is : names ≡ sets names₀ at (orbit (linkOf links₀) place start)
   pub links-is : links ≡ strike links₀ (orbit (linkOf links₀) place start)
 
-pub walking-start : (links names : List ℕ) (start at : ℕ) → Walkable links names start at → Walking links names start at links names start at
-walking-start links names start at way =
+pub walking-start : {links names : List ℕ} {start at : ℕ} → Walkable links names start at → Walking links names start at links names start at
+walking-start way =
     record {
       way = way;
       place = 0;
@@ -43,7 +44,7 @@ walking-start links names start at way =
       links-is = unfold orbit in refl;
     }
 
-module _ (links₀ names₀ : List ℕ) (start at : ℕ) (links names : List ℕ) (c k : ℕ) (w : Walking links₀ names₀ start at links names c k) where
+module _ {links₀ names₀ : List ℕ} {start at : ℕ} {links names : List ℕ} {c k : ℕ} (w : Walking links₀ names₀ start at links names c k) where
   abbrev f : ℕ → ℕ
   f = linkOf links₀
 
@@ -64,7 +65,10 @@ module _ (links₀ names₀ : List ℕ) (start at : ℕ) (links names : List ℕ
 
   -- a place that the walk has not come to keeps its link
   ahead : (i : ℕ) → w .place ≤ i → i < w .way .back .steps → member (iterate f i start) (orbit f (w .place) start) ≡ false
-  ahead i lo hi = is-false _ (λ e. let a = orbit-at f (iterate f i start) (w .place) start e in w .way .back .once (a .0) i (omega (arith, a .1)) hi (sym (a .2)))
+  ahead i lo hi =
+      is-false _ (λ e.
+      let a = orbit-at f (iterate f i start) (w .place) start e in
+      w .way .back .once (a .0) i (omega (arith, a .1)) hi (sym (a .2)))
 
   link-is : getD links c 0 ≡ iterate f (suc (w .place)) start
   unfolding iterate
@@ -76,7 +80,8 @@ module _ (links₀ names₀ : List ℕ) (start at : ℕ) (links names : List ℕ
   names-next : set names k c ≡ sets names₀ at (orbit f (suc (w .place)) start)
   names-next =
       (λ i. set (w .names-is i) k (w .at-c i))
-      ∙ sets-snoc (orbit f (w .place) start) names₀ at k (iterate f (w .place) start) (w .at-k ∙ ap (λ (j : ℕ). at + j) (sym (length-orbit f (w .place) start)))
+      ∙ sets-snoc (orbit f (w .place) start) names₀ at k (iterate f (w .place) start)
+      (w .at-k ∙ ap (λ (j : ℕ). at + j) (sym (length-orbit f (w .place) start)))
       ∙ ap (sets names₀ at) (sym (orbit-snoc f (w .place) start))
 
   links-next : set links c noCorner ≡ strike links₀ (orbit f (suc (w .place)) start)
@@ -85,7 +90,7 @@ module _ (links₀ names₀ : List ℕ) (start at : ℕ) (links names : List ℕ
       ∙ sym (strike-join links₀ (orbit f (w .place) start) (iterate f (w .place) start ∷ []))
       ∙ ap (strike links₀) (sym (orbit-snoc f (w .place) start))
 
-  module _ (d : ℕ) (step : d ≡ getD links c 0) where
+  module _ {d : ℕ} (step : d ≡ getD links c 0) where
     d-is : d ≡ iterate f (suc (w .place)) start
     d-is = step ∙ link-is
 
@@ -119,16 +124,20 @@ module _ (links₀ names₀ : List ℕ) (start at : ℕ) (links names : List ℕ
       where
         by : Dec (suc (w .place) ≡ w .way .back .steps) → suc (w .place) ≡ w .way .back .steps
         by (yes q) = q
-        by (no q) = absurd (w .way .back .once 0 (suc (w .place)) (omega arith) (omega (arith, w .short)) (unfold iterate in (sym (sym d-is ∙ e))))
+        by (no q) =
+            absurd (w .way .back .once 0 (suc (w .place)) (omega arith) (omega (arith, w .short)) (unfold iterate in (sym (sym d-is ∙ e))))
 
     pub walking-end : d ≡ start
-        → (k + 1 ≡ at + length (ringOf links₀ start)) × ((set names k c ≡ sets names₀ at (ringOf links₀ start)) × (set links c noCorner ≡ strike links₀ (ringOf links₀ start)))
+        → (k + 1 ≡ at + length (ringOf links₀ start))
+        × ((set names k c ≡ sets names₀ at (ringOf links₀ start)) × (set links c noCorner ≡ strike links₀ (ringOf links₀ start)))
     walking-end e =
         let q = last e in
-        let r : orbit f (suc (w .place)) start ≡ ringOf links₀ start = ap (λ (j : ℕ). orbit f j start) q ∙ sym (ring-is links₀ start (w .way .back)) in
+        let r : orbit f (suc (w .place)) start ≡ ringOf links₀ start =
+        ap (λ (j : ℕ). orbit f j start) q ∙ sym (ring-is links₀ start (w .way .back)) in
         let l = ap length (sym r) ∙ length-orbit f (suc (w .place)) start in
         (omega (arith, w .at-k, l), (names-next ∙ ap (sets names₀ at) r, links-next ∙ ap (strike links₀) r))
 
 -- refusal 16 does not arise: the next place still has its link
-pub never-met : (links₀ names₀ : List ℕ) (start at : ℕ) (links names : List ℕ) (d k : ℕ) → Walking links₀ names₀ start at links names d k → getD links d 0 ≡ noCorner → ⊥
-never-met links₀ names₀ start at links names d k w e = omega (arith, link-is links₀ names₀ start at links names d k w, w .way .small (suc (w .place)) (w .short))
+pub never-met : {links₀ names₀ : List ℕ} {start at : ℕ} {links names : List ℕ} {d k : ℕ}
+    → Walking links₀ names₀ start at links names d k → getD links d 0 ≡ noCorner → ⊥
+never-met w e = omega (arith, link-is w, w .way .small (suc (w .place)) (w .short))

@@ -21,6 +21,7 @@ unfoldable pub namesAfter : Traced → ℕ → List ℕ → List ℕ
 namesAfter (contours rs) n table = overwrite (namesOf rs) table
 namesAfter (stuck p) n table = zeroed n table
 
+-- the same of the ends of the contours
 unfoldable pub endsAfter : Traced → ℕ → List ℕ → List ℕ
 endsAfter (contours rs) n table = overwrite (endsOf rs) table
 endsAfter (stuck p) n table = zeroed n table

@@ -1,4 +1,4 @@
-// Internal: tracing, whose `requires` say that the links lead round rings.
+// Tracing: the contours of a table of links, each `requires` saying that the links lead round rings.
 ghost use mathlib.Core.Path.{_≡_};
 ghost use mathlib.Core.Bool.{true};
 ghost use Prim.Native.Nat.{_+_, _≤_, _<_};
@@ -16,9 +16,9 @@ use mesh::internal::wide;
 // Writes the ring of `start` into names, from place `at` on, and takes its links out.
 fn walk(links: &mut [u32], names: &mut [u32], start: usize, at: usize) -> Walked
     requires { ⌜ Walkable (now links) (now names) start at ⌝ }
-    ensures { λ r. ⌜ r ≡ Walked.Closed (at + length (ringOf (now (links .entry)) start)) ⌝ }
-    ensures { λ _. ⌜ now (names .exit) ≡ sets (now (names .entry)) at (ringOf (now (links .entry)) start) ⌝ }
-    ensures { λ _. ⌜ now (links .exit) ≡ strike (now (links .entry)) (ringOf (now (links .entry)) start) ⌝ }
+    ensures { λ r. ⌜ r ≡ Walked.Closed (at + length (ringOf (links .entry .now) start)) ⌝ }
+    ensures { λ _. ⌜ names .exit .now ≡ sets (names .entry .now) at (ringOf (links .entry .now) start) ⌝ }
+    ensures { λ _. ⌜ links .exit .now ≡ strike (links .entry .now) (ringOf (links .entry .now) start) ⌝ }
 {
     let mut c = start;
     let mut k = at;
@@ -41,9 +41,9 @@ fn walk(links: &mut [u32], names: &mut [u32], start: usize, at: usize) -> Walked
 // Zeroes the first n entries of each table.
 fn wipe(n: usize, marks: &mut [u32], names: &mut [u32], ends: &mut [u32])
     requires { ⌜ (n ≤ length (now marks)) × (n ≤ length (now names)) × (n ≤ length (now ends)) ⌝ }
-    ensures { λ _. ⌜ now (marks .exit) ≡ zeroed n (now (marks .entry)) ⌝ }
-    ensures { λ _. ⌜ now (names .exit) ≡ zeroed n (now (names .entry)) ⌝ }
-    ensures { λ _. ⌜ now (ends .exit) ≡ zeroed n (now (ends .entry)) ⌝ }
+    ensures { λ _. ⌜ marks .exit .now ≡ zeroed n (marks .entry .now) ⌝ }
+    ensures { λ _. ⌜ names .exit .now ≡ zeroed n (names .entry .now) ⌝ }
+    ensures { λ _. ⌜ ends .exit .now ≡ zeroed n (ends .entry .now) ⌝ }
 {
     fill(marks, n, 0);
     fill(names, n, 0);
@@ -53,7 +53,7 @@ fn wipe(n: usize, marks: &mut [u32], names: &mut [u32], ends: &mut [u32])
 // Whether the four corners from c on have no link. A link is at most 4294967295.
 fn no_links(links: &[u32], c: usize) -> bool
     requires { ⌜ (c < 196608) × (c + 3 < length (now links)) ⌝ }
-    ensures { λ r. ⌜ (r ≡ true → None (now (links .entry)) c (c + 4)) ⌝ }
+    ensures { λ r. ⌜ (r ≡ true → None (links .entry .now) c (c + 4)) ⌝ }
 {
     let a = wide(links[c]) + wide(links[c + 1]);
     let b = wide(links[c + 2]) + wide(links[c + 3]);
@@ -63,7 +63,7 @@ fn no_links(links: &[u32], c: usize) -> bool
 // A corner from c on, below n, with no link before it: by fours.
 fn leap(n: usize, links: &[u32], c: usize) -> usize
     requires { ⌜ Seekable n (now links) c ⌝ }
-    ensures { λ r. ⌜ Sought n (now (links .entry)) c r ⌝ }
+    ensures { λ r. ⌜ Sought n (links .entry .now) c r ⌝ }
 {
     let mut d = c;
     while d + 4 <= n {
@@ -78,8 +78,8 @@ fn leap(n: usize, links: &[u32], c: usize) -> usize
 // The first corner from c on that has a link, else n.
 fn seek(n: usize, links: &[u32], c: usize) -> usize
     requires { ⌜ Seekable n (now links) c ⌝ }
-    ensures { λ r. ⌜ Sought n (now (links .entry)) c r ⌝ }
-    ensures { λ r. ⌜ (r < n → getD (now (links .entry)) r 0 ≡ noCorner → ⊥) ⌝ }
+    ensures { λ r. ⌜ Sought n (links .entry .now) c r ⌝ }
+    ensures { λ r. ⌜ (r < n → getD (links .entry .now) r 0 ≡ noCorner → ⊥) ⌝ }
 {
     let mut d = leap(n, links, c);
     while d < n {
@@ -94,10 +94,10 @@ fn seek(n: usize, links: &[u32], c: usize) -> usize
 // Takes the contours out of the first n links, by first corner, and leaves zeros there.
 pub fn trace(n: usize, links: &mut [u32], names: &mut [u32], ends: &mut [u32]) -> Found
     requires { ⌜ Traceable n (now links) (now names) (now ends) ⌝ }
-    ensures { λ r. ⌜ r ≡ found (traceLinks n (now (links .entry))) ⌝ }
-    ensures { λ _. ⌜ now (names .exit) ≡ namesAfter (traceLinks n (now (links .entry))) n (now (names .entry)) ⌝ }
-    ensures { λ _. ⌜ now (ends .exit) ≡ endsAfter (traceLinks n (now (links .entry))) n (now (ends .entry)) ⌝ }
-    ensures { λ _. ⌜ now (links .exit) ≡ zeroed n (now (links .entry)) ⌝ }
+    ensures { λ r. ⌜ r ≡ found (traceLinks n (links .entry .now)) ⌝ }
+    ensures { λ _. ⌜ names .exit .now ≡ namesAfter (traceLinks n (links .entry .now)) n (names .entry .now) ⌝ }
+    ensures { λ _. ⌜ ends .exit .now ≡ endsAfter (traceLinks n (links .entry .now)) n (ends .entry .now) ⌝ }
+    ensures { λ _. ⌜ links .exit .now ≡ zeroed n (links .entry .now) ⌝ }
 {
     let mut c = seek(n, links, 0);
     let mut k: usize = 0;

@@ -1,2 +1,2 @@
 -- Lemmas that belong to no one function.
-pub mod Answers
+pub mod Numbers

@@ -1,2 +1,3 @@
 -- The C interface.
 pub mod Interface
+pub mod InterfaceLaws

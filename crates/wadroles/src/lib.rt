@@ -1,5 +1,11 @@
 // The C interface. Every function returns 0 or the refusal's number, and fills `out`: the place on refusal, the values on success.
-ghost use mathlib.Core.Path.{_≡_};
+ghost use Rattle.mesh.specs.Meshes.{mesh, paired, ordered};
+ghost use Rattle.polygons.specs.Flat.{flat};
+ghost use Rattle.checker.specs.Check.{checkTables};
+ghost use Rattle.cutter.specs.Cut.{lent};
+ghost use Rattle.sweep.specs.Sweep.{sweep};
+ghost use Rattle.layers.specs.AllLayers.{work};
+ghost use Rattle.parts.specs.Parts.{part};
 ghost use Rattle.wadroles.specs.Interface.{CheckC, CutC, ContourC, AreaC, StartC, StepC, LayerC, AllLayersC, ReadLayerC, ReadPartC};
 use answers::refuse;
 use answers::word;
@@ -22,7 +28,8 @@ pub extern "C" fn wadroles_check(
     order: &mut [u32],
     out: &mut [u64; 4],
 ) -> u32
-    ensures { λ r. ⌜ CheckC (now (coords .entry)) (now (corners .entry)) (now (pairing .entry)) (now (order .entry)) (now (out .entry)) r (now (pairing .exit)) (now (order .exit)) (now (out .exit)) ⌝ }
+    ensures { λ r. ⌜ CheckC (mesh (coords .entry .now) (corners .entry .now)) (checkTables (pairing .entry .now) (order .entry .now)) (out .entry .now) r
+        (checkTables (pairing .exit .now) (order .exit .now)) (out .exit .now) ⌝ }
 {
     let a = checker::check(coords, corners, pairing, order);
     match a {
@@ -43,7 +50,9 @@ pub extern "C" fn wadroles_cut(
     marks: &mut [u32],
     out: &mut [u64; 4],
 ) -> u32
-    ensures { λ r. ⌜ CutC (now (coords .entry)) (now (corners .entry)) (now (pairing .entry)) h (now (names .entry)) (now (points .entry)) (now (ends .entry)) (now (marks .entry)) (now (out .entry)) r (now (names .exit)) (now (points .exit)) (now (ends .exit)) (now (marks .exit)) (now (out .exit)) ⌝ }
+    ensures { λ r. ⌜ CutC (paired (coords .entry .now) (corners .entry .now) (pairing .entry .now)) h
+        (lent (names .entry .now) (points .entry .now) (ends .entry .now) (marks .entry .now)) (out .entry .now) r
+        (lent (names .exit .now) (points .exit .now) (ends .exit .now) (marks .exit .now)) (out .exit .now) ⌝ }
 {
     let a = cutter::cut(coords, corners, pairing, h, names, points, ends, marks);
     match a {
@@ -63,7 +72,7 @@ pub extern "C" fn wadroles_contour(
     j: usize,
     out: &mut [u64; 4],
 ) -> u32
-    ensures { λ r. ⌜ ContourC (now (points .entry)) (now (ends .entry)) j (now (out .entry)) r (now (out .exit)) ⌝ }
+    ensures { λ r. ⌜ ContourC (points .entry .now) (ends .entry .now) j (out .entry .now) r (out .exit .now) ⌝ }
 {
     let p = contours::part_of(points.len(), ends, j);
     let first = p.first;
@@ -75,7 +84,7 @@ pub extern "C" fn wadroles_contour(
 
 #[no_mangle]
 pub extern "C" fn wadroles_area(points: &[i32], out: &mut [u64; 4]) -> u32
-    ensures { λ r. ⌜ AreaC (now (points .entry)) (now (out .entry)) r (now (out .exit)) ⌝ }
+    ensures { λ r. ⌜ AreaC (points .entry .now) (out .entry .now) r (out .exit .now) ⌝ }
 {
     let a = contours::area(points);
     match a {
@@ -94,7 +103,8 @@ pub extern "C" fn wadroles_start(
     ring: &mut [u32],
     out: &mut [u64; 4],
 ) -> u32
-    ensures { λ r. ⌜ StartC (now (coords .entry)) (now (corners .entry)) (now (ring .entry)) (now (out .entry)) r (now (ring .exit)) (now (out .exit)) ⌝ }
+    ensures { λ r. ⌜ StartC (mesh (coords .entry .now) (corners .entry .now)) (ring .entry .now) (out .entry .now) r
+        (ring .exit .now) (out .exit .now) ⌝ }
 {
     let a = sweep::start(coords, corners, ring);
     match a {
@@ -116,7 +126,9 @@ pub extern "C" fn wadroles_step(
     passed: usize,
     out: &mut [u64; 4],
 ) -> u32
-    ensures { λ r. ⌜ StepC (now (coords .entry)) (now (corners .entry)) (now (pairing .entry)) (now (order .entry)) (now (ring .entry)) passed (now (out .entry)) r (now (ring .exit)) (now (out .exit)) ⌝ }
+    ensures { λ r. ⌜ StepC
+        (sweep (ordered (coords .entry .now) (corners .entry .now) (pairing .entry .now) (order .entry .now)) (ring .entry .now) passed)
+        (out .entry .now) r (ring .exit .now) (out .exit .now) ⌝ }
 {
     let s = State { passed: passed };
     let a = sweep::step(coords, corners, pairing, order, ring, s);
@@ -150,7 +162,10 @@ pub extern "C" fn wadroles_layer(
     marks: &mut [u32],
     out: &mut [u64; 4],
 ) -> u32
-    ensures { λ r. ⌜ LayerC (now (coords .entry)) (now (corners .entry)) (now (pairing .entry)) (now (order .entry)) (now (ring .entry)) passed h (now (names .entry)) (now (points .entry)) (now (ends .entry)) (now (marks .entry)) (now (out .entry)) r (now (ring .exit)) (now (names .exit)) (now (points .exit)) (now (ends .exit)) (now (marks .exit)) (now (out .exit)) ⌝ }
+    ensures { λ r. ⌜ LayerC
+        (sweep (ordered (coords .entry .now) (corners .entry .now) (pairing .entry .now) (order .entry .now)) (ring .entry .now) passed) h
+        (lent (names .entry .now) (points .entry .now) (ends .entry .now) (marks .entry .now)) (out .entry .now) r
+        (ring .exit .now) (lent (names .exit .now) (points .exit .now) (ends .exit .now) (marks .exit .now)) (out .exit .now) ⌝ }
 {
     let s = State { passed: passed };
     let a = sweep::layer(
@@ -192,7 +207,10 @@ pub extern "C" fn wadroles_all_layers(
     output: &mut [u8],
     out: &mut [u64; 4],
 ) -> u32
-    ensures { λ r. ⌜ AllLayersC (now (coords .entry)) (now (corners .entry)) (now (pairing .entry)) (now (order .entry)) (now (heights .entry)) (now (names .entry)) (now (points .entry)) (now (ends .entry)) (now (marks .entry)) (now (ring .entry)) (now (output .entry)) (now (out .entry)) r (now (names .exit)) (now (points .exit)) (now (ends .exit)) (now (marks .exit)) (now (ring .exit)) (now (output .exit)) (now (out .exit)) ⌝ }
+    ensures { λ r. ⌜ AllLayersC
+        (ordered (coords .entry .now) (corners .entry .now) (pairing .entry .now) (order .entry .now)) (heights .entry .now)
+        (work (names .entry .now) (points .entry .now) (ends .entry .now) (marks .entry .now) (ring .entry .now)) (output .entry .now) (out .entry .now) r
+        (work (names .exit .now) (points .exit .now) (ends .exit .now) (marks .exit .now) (ring .exit .now)) (output .exit .now) (out .exit .now) ⌝ }
 {
     let a = filing::all_layers(
         coords,
@@ -224,7 +242,9 @@ pub extern "C" fn wadroles_read_layer(
     ends: &mut [u32],
     out: &mut [u64; 4],
 ) -> u32
-    ensures { λ r. ⌜ ReadLayerC (now (file .entry)) i (now (points .entry)) (now (ends .entry)) (now (out .entry)) r (now (points .exit)) (now (ends .exit)) (now (out .exit)) ⌝ }
+    ensures { λ r. ⌜ ReadLayerC (file .entry .now) i
+        (flat (points .entry .now) (ends .entry .now)) (out .entry .now) r
+        (flat (points .exit .now) (ends .exit .now)) (out .exit .now) ⌝ }
 {
     let a = reader::read_layer(file, i, points, ends);
     match a {
@@ -247,7 +267,9 @@ pub extern "C" fn wadroles_read_part(
     heights: &mut [i32],
     out: &mut [u64; 4],
 ) -> u32
-    ensures { λ r. ⌜ ReadPartC (now (file .entry)) (now (coords .entry)) (now (corners .entry)) (now (heights .entry)) (now (out .entry)) r (now (coords .exit)) (now (corners .exit)) (now (heights .exit)) (now (out .exit)) ⌝ }
+    ensures { λ r. ⌜ ReadPartC (file .entry .now)
+        (part (coords .entry .now) (corners .entry .now) (heights .entry .now)) (out .entry .now) r
+        (part (coords .exit .now) (corners .exit .now) (heights .exit .now)) (out .exit .now) ⌝ }
 {
     let a = parts::read_part(file, coords, corners, heights);
     match a {

@@ -1,29 +1,25 @@
--- Worked pieces: an input of an operation, and the result that the definitions give for it.
+-- Worked pieces: an input of an operation, and the result that its definition gives: what it answers, and what it leaves in lent tables that have just the
+-- entries asked for.
 use Prim.Native.Nat.{ℕ, _*_}
 use mathlib.Core.List.{List, [], _∷_}
-use lib.ListN.{length, replicate}
+use lib.ListN.{length, take, replicate}
 use lib.IntN.{ℤ, pos}
-use Rattle.mesh.specs.Order.{orderOf}
-use Rattle.mesh.specs.Refusals.{numberOf, placeOf, verdict}
-use Rattle.mesh.specs.declared.Verdict.{Verdict}
-use Rattle.mesh.specs.declared.Verdict.the-variants.{Fine, Refused}
-use Rattle.pairing.specs.Partners.{pairingOf}
-use Rattle.checker.specs.Check as check
-use Rattle.section.specs.Contours.{Traced, contours, stuck, namesOf, trace}
-use Rattle.points.specs.Points.{pointAt, pointsOf}
-use Rattle.cutter.specs.Cut as cut
-use Rattle.contours.specs.Areas as areas
+use Rattle.mesh.specs.Corners.{vertexCount}
+use Rattle.mesh.specs.Meshes.{Mesh, mesh, OrderedMesh, ordered}
+use Rattle.mesh.specs.Operation.{Answer, gives, refuses, answerOf, leftBy}
+use Rattle.mesh.specs.Refusals.{Told}
+use Rattle.polygons.specs.Flat.{flat}
+use Rattle.checker.specs.Check.{CheckTables, checkTables, checking}
+use Rattle.section.specs.Contours.{Traced, contours, stuck, trace}
+use Rattle.points.specs.Points.{pointAt}
+use Rattle.cutter.specs.Cut.{CutTables, lent, cutting}
+use Rattle.contours.specs.Areas.{measuring}
 use Rattle.sweep.specs.Sweep.{passedAt}
-use Rattle.heights.specs.Heights.{heightsTaken}
-use Rattle.layers.specs.AllLayers as layers
-use Rattle.reader.specs.Reading as reading
+use Rattle.layers.specs.AllLayers.{work, filing}
+use Rattle.reader.specs.Reading.{layerReading}
 
--- a mesh
-pub record Mesh : Type 0 where
-  pub coords : List ℤ
-  pub corners : List ℕ
+-- ---- what is asked
 
--- what is asked
 pub data Input : Type 0 where
   -- Check
   checked : Mesh → Input
@@ -40,7 +36,16 @@ pub data Input : Type 0 where
   -- Read layer 0 of these bytes
   read : List ℕ → Input
 
--- what is answered
+-- ---- what is answered
+
+-- a layer: the counts of contours and points, and its names, points and ends
+pub record LayerGiven : Type 0 where
+  pub count : ℕ
+  pub total : ℕ
+  pub names : List ℕ
+  pub points : List ℤ
+  pub ends : List ℕ
+
 pub data Result : Type 0 where
   -- a refusal's number and place
   refused : ℕ → ℕ → Result
@@ -48,56 +53,75 @@ pub data Result : Type 0 where
   paired : List ℕ → Result
   -- rings, each from its least corner on
   rings : List (List ℕ) → Result
-  -- names and points of a layer
-  layer : List ℕ → List ℤ → Result
+  layer : LayerGiven → Result
   -- a number: a doubled area, a coordinate, a count of layers
   number : ℤ → Result
   -- the bytes of a file
   bytes : List ℕ → Result
 
--- the verdict decides
-abbrev pub orRefused : Verdict → Result → Result
-orRefused Fine r = r
-orRefused (Refused f) r = refused (numberOf f) (placeOf f)
+-- of an answer: the refusal, or what its values say
+abbrev pub resultFrom : {G : Type 0} → (G → Result) → Answer Told G → Result
+resultFrom says (gives g) = says g
+resultFrom says (refuses r) = refused (r .number) (r .place)
+
+-- ---- the operations, with tables to lend
+
+abbrev pub checkLent : Mesh → CheckTables
+checkLent m = checkTables (replicate (length (m .corners)) 0) (replicate (vertexCount (m .coords)) 0)
+
+abbrev pub cutLent : List ℕ → CutTables
+cutLent corners =
+    let n = length corners in
+    lent (replicate n 0) (replicate (2 * n) (pos 0)) (replicate n 0) (replicate n 0)
+
+-- the mesh with the pairing and the order that Check leaves
+unfoldable pub withTables : Mesh → OrderedMesh
+withTables m =
+    let t = leftBy (checking (m, checkLent m)) in
+    ordered (m .coords) (m .corners) (t .pairing) (t .order)
+
+-- ---- the result of each
+
+unfoldable pub checkedAs : Mesh → Result
+checkedAs m = resultFrom (λ _. paired (leftBy (checking (m, checkLent m)) .pairing)) (answerOf (checking (m, checkLent m)))
 
 abbrev pub ringsOf : Traced → Result
 ringsOf (contours rs) = rings rs
 ringsOf (stuck p) = refused 16 p
 
--- ---- the result of each, from the definitions. Lent tables have just the entries that are asked for
+unfoldable pub passedAs : OrderedMesh → ℕ → Result
+passedAs m n = ringsOf (trace (passedAt (m .order) n) (m .paired .mesh .corners) (m .paired .pairing))
 
-unfoldable pub checkedAs : List ℤ → List ℕ → Result
-checkedAs coords corners = orRefused (verdict (check.refusals coords corners (replicate (length corners) 0) (replicate (length coords) 0))) (paired (pairingOf corners))
+-- the layer of j contours and k points in front of Cut's tables
+abbrev pub layerIn : CutTables → ℕ × ℕ → Result
+layerIn t (j, k) = layer (record { count = j; total = k; names = take k (t .names); points = take (2 * k) (t .points); ends = take j (t .ends) })
 
-unfoldable pub passedAs : List ℕ → List ℕ → List ℕ → ℕ → Result
-passedAs corners pairing order n = ringsOf (trace (passedAt order n) corners pairing)
-
-unfoldable pub cutAs : List ℤ → List ℕ → List ℕ → ℤ → Result
-cutAs coords corners pairing h =
-    let n = length corners in
-    let names = namesOf (cut.contoursOf (cut.section coords corners pairing h)) in
-    orRefused (verdict (cut.refusals coords corners pairing h n (2 * n) n n)) (layer names (pointsOf coords corners h names))
+unfoldable pub cutAs : OrderedMesh → ℤ → Result
+cutAs m h =
+    let o = cutting (m .paired, h, cutLent (m .paired .mesh .corners)) in
+    resultFrom (layerIn (leftBy o)) (answerOf o)
 
 unfoldable pub areaAs : List ℤ → Result
-areaAs points = orRefused (verdict (areas.refusals points)) (number (areas.areaOf points))
+areaAs points = resultFrom number (answerOf (measuring points))
 
-unfoldable pub filedAs : List ℤ → List ℕ → List ℕ → List ℕ → List ℤ → ℕ → Result
-filedAs coords corners pairing order heights output =
-    let n = length corners in
-    orRefused (verdict (layers.layersRefusals coords corners pairing order heights n (2 * n) n n n output)) (bytes (layers.fileOf coords corners pairing (heightsTaken coords heights)))
+unfoldable pub filedAs : OrderedMesh → List ℤ → ℕ → Result
+filedAs m heights output =
+    let n = length (m .paired .mesh .corners) in
+    let t = cutLent (m .paired .mesh .corners) in
+    let o = filing (m, heights, work (t .names) (t .points) (t .ends) (t .marks) (replicate n 0), replicate output 0) in
+    resultFrom (λ n. bytes (take n (leftBy o .1))) (answerOf o)
 
 unfoldable pub edgeAs : List ℤ → ℤ → Result
-edgeAs edge h = number (pointAt edge (0 ∷ 1 ∷ 0 ∷ []) h 0 0)
+edgeAs edge h = number (pointAt (mesh edge (0 ∷ 1 ∷ 0 ∷ [])) h 0 0)
 
 unfoldable pub readAs : List ℕ → Result
-readAs file = orRefused (verdict (reading.refusals file 0 0 0)) (number (pos (length (reading.layersIn file))))
+readAs file = resultFrom (λ v. number (pos (v .0))) (answerOf (layerReading (file, 0, flat [] [])))
 
--- pairing and order are those that Check writes
 unfoldable pub resultOf : Input → Result
-resultOf (checked m) = checkedAs (m .coords) (m .corners)
-resultOf (passed m n) = passedAs (m .corners) (pairingOf (m .corners)) (orderOf (m .coords)) n
-resultOf (cutAt m h) = cutAs (m .coords) (m .corners) (pairingOf (m .corners)) h
+resultOf (checked m) = checkedAs m
+resultOf (passed m n) = passedAs (withTables m) n
+resultOf (cutAt m h) = cutAs (withTables m) h
 resultOf (areaOf points) = areaAs points
-resultOf (filed m heights output) = filedAs (m .coords) (m .corners) (pairingOf (m .corners)) (orderOf (m .coords)) heights output
+resultOf (filed m heights output) = filedAs (withTables m) heights output
 resultOf (edgeAt edge h) = edgeAs edge h
 resultOf (read file) = readAs file

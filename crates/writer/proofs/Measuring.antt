@@ -14,7 +14,8 @@ use Rattle.writer.specs.LayerTables.{LayerTables}
 use Rattle.writer.specs.Written.{pointsIn, contoursIn, layerOf, pointBytes, contourBytes, layerBytes}
 use Rattle.writer.specs.WrittenLaws.{flatMap-first}
 use Rattle.formats.specs.GroupLaws.{number-few}
-use Rattle.writer.proofs.Rows.{bytesAfter, next-bytes, no-bytes, row-bytes, Place, contoursAfter, place-start, place-next, end-rises, end-within, next-contour, no-contours, held-bytes}
+use Rattle.writer.proofs.Rows.{bytesAfter, next-bytes, no-bytes, row-bytes, Place, contoursAfter, place-start, place-next, end-rises, end-within}
+use Rattle.writer.proofs.Rows.{next-contour, no-contours, held-bytes}
 
 -- ---- points
 
@@ -35,27 +36,36 @@ unfolding pointBytes
 points-start = record { x-word = omega arith; y-word = omega arith; inside = omega arith; few = omega arith; same = omega arith }
 
 module _ {row : List ℤ} {x y : ℤ} {total k : ℕ} (m : Points row x y total k) where
-  module _ (h : k < length row / 2) {nx ny : ℤ} (ex : nx ≡ getD row (2 * k) (pos 0)) (ey : ny ≡ getD row (2 * k + 1) (pos 0)) (vx : Word (getD row (2 * k) (pos 0))) (vy : Word (getD row (2 * k + 1) (pos 0)))
-      {dx dy lx ly : ℕ} (fx : dx ≡ zigzag (nx -ℤ x)) (fy : dy ≡ zigzag (ny -ℤ y)) (gx : lx ≡ length (encodeNumber dx)) (gy : ly ≡ length (encodeNumber dy)) where
-    wx : Word nx
-    wx = rw ex vx
+  module _ (h : k < length row / 2) {nx ny : ℤ} (ex : nx ≡ getD row (2 * k) (pos 0)) (ey : ny ≡ getD row (2 * k + 1) (pos 0))
+      (vx : Word (getD row (2 * k) (pos 0))) (vy : Word (getD row (2 * k + 1) (pos 0)))
+      {dx dy lx ly : ℕ} (fx : dx ≡ zigzag (nx -ℤ x)) (fy : dy ≡ zigzag (ny -ℤ y)) (gx : lx ≡ length (encodeNumber dx)) (gy : ly ≡ length (encodeNumber dy))
+    where
+      wx : Word nx
+      wx = rw ex vx
 
-    wy : Word ny
-    wy = rw ey vy
+      wy : Word ny
+      wy = rw ey vy
 
-    pub point-short : lx + ly ≤ 10
-    point-short = omega (arith, gx ∙ ap (λ (d : ℕ). length (encodeNumber d)) fx, gy ∙ ap (λ (d : ℕ). length (encodeNumber d)) fy, difference-short x nx (m .x-word) wx, difference-short y ny (m .y-word) wy)
+      pub point-short : lx + ly ≤ 10
+      point-short =
+          omega (
+            arith,
+            gx ∙ ap (λ (d : ℕ). length (encodeNumber d)) fx,
+            gy ∙ ap (λ (d : ℕ). length (encodeNumber d)) fy,
+            difference-short x nx (m .x-word) wx,
+            difference-short y ny (m .y-word) wy,
+          )
 
-    pub points-next : Points row nx ny (total + (lx + ly)) (k + 1)
-    points-next =
-        record {
-          x-word = wx;
-          y-word = wy;
-          inside = omega arith;
-          few = omega (arith, point-short, m .few);
-          same =
-              omega (arith, gx, gy, m .same, simp length-append at (ap length (next-bytes row k h (record { x = x; y = y }) ex ey fx fy)));
-        }
+      pub points-next : Points row nx ny (total + (lx + ly)) (k + 1)
+      points-next =
+          record {
+            x-word = wx;
+            y-word = wy;
+            inside = omega arith;
+            few = omega (arith, point-short, m .few);
+            same =
+                omega (arith, gx, gy, m .same, simp length-append at (ap length (next-bytes row k h (record { x = x; y = y }) ex ey fx fy)));
+          }
 
   pub points-end : length row / 2 ≤ k → (total ≡ length (pointBytes (pointsIn row))) × (total ≤ 5 * length row)
   points-end h = (omega (arith, ap length (no-bytes row k h (record { x = x; y = y })), m .same), omega (arith, m .inside, m .few))
@@ -80,7 +90,8 @@ contours-start t = record { place = place-start t; few = omega arith; same = ome
 
 module _ {points : List ℤ} {ends : List ℕ} {j total from i : ℕ} (m : Contours points ends j total from i) where
   module _ (h : i < j) {e : ℕ} (is : e ≡ getD ends i 0) {n : ℕ}
-      (r : (n ≡ length (contourBytes (pointsIn (take (2 * e - 2 * from) (drop (2 * from) points))))) × (n ≤ 1 + 6 * length (take (2 * e - 2 * from) (drop (2 * from) points)))) where
+      (r : (n ≡ length (contourBytes (pointsIn (take (2 * e - 2 * from) (drop (2 * from) points))))) × (n ≤ 1 + 6 * length
+      (take (2 * e - 2 * from) (drop (2 * from) points)))) where
     contour-few : total + n ≤ i + 1 + 12 * e
     contour-few =
         let l : length (take (2 * e - 2 * from) (drop (2 * from) points)) ≤ 2 * e - 2 * from = simp length-take (omega arith) in
@@ -94,13 +105,22 @@ module _ {points : List ℤ} {ends : List ℕ} {j total from i : ℕ} (m : Conto
         record {
           place = place-next (m .place) h is;
           few = contour-few;
-          same = omega (arith, r .0, m .same, simp length-append at (ap length (ap (flatMap contourBytes) (next-contour (m .place) h is) ∙ flatMap-first contourBytes _ _)));
+          same = omega (
+            arith,
+            r .0,
+            m .same,
+            simp length-append at
+                (ap length (ap (flatMap contourBytes) (next-contour (m .place) h is) ∙ flatMap-first contourBytes _ _)),
+          );
         }
 
   pub contours-end : j ≤ i → (total ≡ length (flatMap contourBytes (contoursIn points 0 (take j ends)))) × (total ≤ j + 6 * length points)
   unfolding flatMap
-  contours-end h =
-      (omega (arith, ap (λ (cs : List (List Point)). length (flatMap contourBytes cs)) (no-contours (m .place) h), m .same), omega (arith, m .few, m .place .within, m .place .inside))
+  contours-end h = (
+    omega (arith, ap (λ (cs : List (List Point)). length (flatMap contourBytes cs)) (no-contours (m .place) h), m .same),
+    omega
+        (arith, m .few, m .place .within, m .place .inside),
+  )
 
 -- ---- a layer: its height, its count and its contours
 

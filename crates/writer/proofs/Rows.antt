@@ -12,7 +12,7 @@ use Rattle.formats.specs.Numbers.{encodeNumber, zigzag}
 use Rattle.formats.specs.SequenceLaws.{encode-none, encode-first}
 use Rattle.formats.specs.LayerFile.{Point, point, latest}
 use Rattle.formats.specs.LayerFileLaws.{point-encode}
-use Rattle.writer.specs.LayerTables.{Rise, LayerTables}
+use Rattle.writer.specs.LayerTables.{EndsWithin, LayerTables}
 use Rattle.writer.specs.Written.{pointsIn, contoursIn, layerOf, pointBytes, contourBytes, layerBytes}
 use Rattle.writer.specs.WrittenLaws.{contour-bytes, layer-bytes}
 
@@ -42,7 +42,8 @@ module _ (row : List ℤ) (k : ℕ) where
   next-point h =
       let e : suc (suc (2 * k)) ≡ 2 * (k + 1) = omega arith in
       let f : suc (2 * k) ≡ 2 * k + 1 = omega arith in
-      ap pointsIn (drop-cons row (2 * k) (pos 0) (omega arith) ∙ ap (λ (l : List ℤ). getD row (2 * k) (pos 0) ∷ l) (drop-cons row (suc (2 * k)) (pos 0) (omega arith)))
+      ap pointsIn (drop-cons row (2 * k) (pos 0) (omega arith) ∙ ap (λ (l : List ℤ). getD row (2 * k) (pos 0) ∷ l)
+      (drop-cons row (suc (2 * k)) (pos 0) (omega arith)))
       ∙ (λ i. record { x = getD row (2 * k) (pos 0); y = getD row (f i) (pos 0) } ∷ pointsIn (drop (e i) row))
 
   no-points : length row / 2 ≤ k → pointsAfter row k ≡ []
@@ -79,7 +80,7 @@ pub record Place (points : List ℤ) (ends : List ℕ) (j from i : ℕ) : Type 0
   pub there : j ≤ length ends
   pub inside : i ≤ j
   pub within : 2 * from ≤ length points
-  pub rise : Rise (length points) from (slice i j ends)
+  pub rise : EndsWithin (length points) from (slice i j ends)
 
 -- the contours from contour i on
 abbrev pub contoursAfter : List ℤ → List ℕ → ℕ → ℕ → ℕ → List (List Point)
@@ -99,8 +100,8 @@ module _ {points : List ℤ} {ends : List ℕ} {j from i : ℕ} (w : Place point
     next-end : slice i j ends ≡ e ∷ slice (i + 1) j ends
     next-end = rw (is, add-one) (slice-cons i j ends 0 h (w .there))
 
-    rises : (from ≤ e) × (2 * e ≤ length points) × Rise (length points) e (slice (i + 1) j ends)
-    rises = subst (Rise (length points) from) next-end (w .rise)
+    rises : (from ≤ e) × (2 * e ≤ length points) × EndsWithin (length points) e (slice (i + 1) j ends)
+    rises = subst (EndsWithin (length points) from) next-end (w .rise)
 
     pub end-rises : from ≤ e
     end-rises = rises .0

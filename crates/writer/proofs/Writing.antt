@@ -11,7 +11,8 @@ use Rattle.formats.specs.EmitLaws.{Emit, emit-start, emit-fits, emit, emit-end,
 use Rattle.writer.specs.LayerTables.{LayerTables}
 use Rattle.writer.specs.Written.{pointsIn, contoursIn, layerOf, pointBytes, contourBytes, layerBytes, HasRoom, Puts}
 use Rattle.writer.specs.WrittenLaws.{each-room, each-put, each-end}
-use Rattle.writer.proofs.Rows.{Pieces, bytesAfter, next-bytes, no-bytes, Place, contoursAfter, place-start, place-next, next-contour, no-contours, heldContours, held-bytes}
+use Rattle.writer.proofs.Rows.{Pieces, bytesAfter, next-bytes, no-bytes, Place, contoursAfter, place-start, place-next, next-contour, no-contours}
+use Rattle.writer.proofs.Rows.{heldContours, held-bytes}
 
 -- ---- one piece after the other
 
@@ -41,7 +42,8 @@ unfolding pointBytes
 points-start h = record { bytes = emit-start _ _ _ h }
 
 module _ {l : List ℕ} {at : ℕ} {row : List ℤ} {m : List ℕ} {x y : ℤ} {p k : ℕ} (w : Points l at row m x y p k) where
-  module _ (h : k < length row / 2) {nx ny : ℤ} (ex : nx ≡ getD row (2 * k) (pos 0)) (ey : ny ≡ getD row (2 * k + 1) (pos 0)) {dx dy : ℕ} (fx : dx ≡ zigzag (nx -ℤ x)) (fy : dy ≡ zigzag (ny -ℤ y)) where
+  module _ (h : k < length row / 2) {nx ny : ℤ} (ex : nx ≡ getD row (2 * k) (pos 0)) (ey : ny ≡ getD row (2 * k + 1) (pos 0)) {dx dy : ℕ}
+      (fx : dx ≡ zigzag (nx -ℤ x)) (fy : dy ≡ zigzag (ny -ℤ y)) where
     pieces : Emit l at (pointBytes (pointsIn row)) m p (encodeNumber dx ++ (encodeNumber dy ++ bytesAfter row (k + 1) (record { x = nx; y = ny })))
     pieces = subst (Emit l at (pointBytes (pointsIn row)) m p) (next-bytes row k h (record { x = x; y = y }) ex ey fx fy) (w .bytes)
 
@@ -65,18 +67,21 @@ pub record Contours (l : List ℕ) (at : ℕ) (points : List ℤ) (ends : List �
   pub place : Place points ends j from i
   pub bytes : Emit l at (flatMap contourBytes (contoursIn points 0 (take j ends))) m p (flatMap contourBytes (contoursAfter points ends j from i))
 
-pub contours-start : {l : List ℕ} {at : ℕ} {points : List ℤ} {ends : List ℕ} {j : ℕ} → LayerTables points ends j → HasRoom l at (flatMap contourBytes (contoursIn points 0 (take j ends))) → Contours l at points ends j l at 0 0
+pub contours-start : {l : List ℕ} {at : ℕ} {points : List ℤ} {ends : List ℕ} {j : ℕ} → LayerTables points ends j
+    → HasRoom l at (flatMap contourBytes (contoursIn points 0 (take j ends))) → Contours l at points ends j l at 0 0
 contours-start t h = record { place = place-start t; bytes = emit-start _ _ _ h }
 
 module _ {l : List ℕ} {at : ℕ} {points : List ℤ} {ends : List ℕ} {j : ℕ} {m : List ℕ} {p from i : ℕ} (w : Contours l at points ends j m p from i) where
   module _ (h : i < j) {e : ℕ} (is : e ≡ getD ends i 0) where
-    next : Emit l at (flatMap contourBytes (contoursIn points 0 (take j ends))) m p (flatMap contourBytes (pointsIn (take (2 * e - 2 * from) (drop (2 * from) points)) ∷ contoursAfter points ends j e (i + 1)))
+    next : Emit l at (flatMap contourBytes (contoursIn points 0 (take j ends))) m p
+        (flatMap contourBytes (pointsIn (take (2 * e - 2 * from) (drop (2 * from) points)) ∷ contoursAfter points ends j e (i + 1)))
     next = rw (next-contour (w .place) h is) at (w .bytes)
 
     pub contour-room : HasRoom m p (contourBytes (pointsIn (take (2 * e - 2 * from) (drop (2 * from) points))))
     contour-room = each-room contourBytes _ _ next
 
-    pub contours-next : {q : ℕ} {m1 : List ℕ} → Puts m p (contourBytes (pointsIn (take (2 * e - 2 * from) (drop (2 * from) points)))) q m1 → Contours l at points ends j m1 q e (i + 1)
+    pub contours-next : {q : ℕ} {m1 : List ℕ} → Puts m p (contourBytes (pointsIn (take (2 * e - 2 * from) (drop (2 * from) points)))) q m1
+        → Contours l at points ends j m1 q e (i + 1)
     contours-next v = record { place = place-next (w .place) h is; bytes = each-put contourBytes _ _ next v }
 
   pub contours-end : j ≤ i → Puts l at (flatMap contourBytes (contoursIn points 0 (take j ends))) p m
@@ -84,7 +89,8 @@ module _ {l : List ℕ} {at : ℕ} {points : List ℤ} {ends : List ℕ} {j : �
 
 -- ---- a layer: its height, its count and its contours
 
-module _ (l : List ℕ) (at : ℕ) {points : List ℤ} {ends : List ℕ} {j : ℕ} (t : LayerTables points ends j) (h : ℤ) {u : ℕ} (is : u ≡ zigzag h) (r : HasRoom l at (layerBytes (layerOf h points ends j))) where
+module _ (l : List ℕ) (at : ℕ) {points : List ℤ} {ends : List ℕ} {j : ℕ} (t : LayerTables points ends j) (h : ℤ) {u : ℕ} (is : u ≡ zigzag h)
+    (r : HasRoom l at (layerBytes (layerOf h points ends j))) where
   pub height-room : HasRoom l at (encodeNumber u)
   height-room = first-room l at (held-bytes t h is) r
 

@@ -6,7 +6,8 @@ use lib.IntN.{ℤ, pos, negsuc}
 use Rattle.formats.specs.Formats.{encodeAll}
 use Rattle.formats.specs.Numbers.{groups, encodeNumber}
 use Rattle.formats.specs.LayerFile.{Layer, coordinate, point, contour, contourList, heightAbove, layer}
-use Rattle.writer.specs.Written.{pointsIn, contoursIn, layerOf, numbersOf, endsFrom, endsOf, layerBytes}
+use Rattle.polygons.specs.Flat.{pointsIn, contoursIn, numbersOf, endsFrom, endsOf}
+use Rattle.writer.specs.Written.{layerOf, layerBytes}
 
 -- ---- P at height 5: (5,0), (0,5), (0,0), in front of entries that are not used
 

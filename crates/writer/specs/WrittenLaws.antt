@@ -1,24 +1,28 @@
 -- The bytes of the layer file part by part, how many they are, and what the tables of a layer hold.
-use Prim.Native.Nat.{ℕ, suc, _+_, _-_, _*_, _≤_}
+use Prim.Native.Nat.{ℕ, _+_, _*_, _≤_}
 use mathlib.Core.Path.{_≡_, refl, sym, ap, _∙_, subst}
-use mathlib.Core.List.{List, [], _∷_, _++_, map, flatMap, flatten, append-assoc, map-append}
+use mathlib.Core.List.{List, [], _∷_, _++_, flatMap, flatten, append-assoc}
 use native.Mathlib.Omega.{arith}
-use lib.ListN.{length, take, drop, length-append, length-map}
-use lib.Seq.{sets, take-at, drop-at}
+use lib.ListN.{length, take, drop, length-append}
+use lib.Seq.{sets, take-at}
 use lib.IntN.{ℤ, natAbs, _-ℤ_}
 use Rattle.laws.specs.Integers.{abs-sub}
 use Rattle.laws.specs.Tables.{overwrite}
 use Rattle.laws.specs.TableLaws.{overwrite-none, overwrite-more}
 use Rattle.mesh.specs.Corners.{largest}
+use Rattle.polygons.specs.FlatLaws.{length-numbers, numbers-none, contours-in}
+pub use Rattle.polygons.specs.FlatLaws.{length-ends, length-flatten, flatten-map, ends-map}
 use Rattle.formats.specs.Formats.{Format, encodeAll, Each}
 use Rattle.formats.specs.Numbers.{encodeNumber, zigzag}
 use Rattle.formats.specs.NumberLaws.{encode-short, word-bytes, word-sent, zigzag-abs}
 use Rattle.formats.specs.EmitLaws.{Emit, emit-start, emit-fits, emit, emit-end}
-use Rattle.formats.specs.LayerFile.{Point, Layer, mostPoints, point, latest, origin, contour, roomAfter, contourList, heightAbove, layer, heightOf, lowest, layerFile}
+use Rattle.formats.specs.LayerFile.{Point, Layer, mostPoints, point, latest, origin, contour, roomAfter, contourList, heightAbove, layer, heightOf, lowest}
+use Rattle.formats.specs.LayerFile.{layerFile}
 use Rattle.formats.specs.LayerFileLaws.{point-encode}
 use Rattle.formats.specs.LayerRules.{PointRules, ContourRules, pointTotal, LayerRules}
-use Rattle.writer.specs.Written.{pointsIn, contoursIn, layerOf, numbersOf, endsFrom, endsOf, pointBytes, contourBytes, layerBytes, mostLayerBytes, HasRoom, Puts, totalOf}
-use Rattle.writer.specs.LayerTables.{Rise, LayerTables}
+use Rattle.writer.specs.Written.{contoursIn, layerOf, numbersOf, endsFrom, endsOf, pointBytes, contourBytes, layerBytes, mostLayerBytes, HasRoom}
+use Rattle.writer.specs.Written.{Puts, totalOf}
+use Rattle.writer.specs.LayerTables.{EndsWithin, LayerTables}
 
 -- ---- lists
 
@@ -57,17 +61,18 @@ module _ {A : Type 0} (f : A → ℕ) where
 
 -- ---- a loop that writes the values of a list one after the other
 
-module _ {A : Type 0} (f : A → List ℕ) {l : List ℕ} {at : ℕ} {all m : List ℕ} {i : ℕ} (a : A) (rest : List A) (e : Emit l at all m i (flatMap f (a ∷ rest))) where
-  next : Emit l at all m i (f a ++ flatMap f rest)
-  next = subst (Emit l at all m i) (flatMap-first f a rest) e
+module _ {A : Type 0} (f : A → List ℕ) {l : List ℕ} {at : ℕ} {all m : List ℕ} {i : ℕ} (a : A) (rest : List A) (e : Emit l at all m i (flatMap f (a ∷ rest)))
+  where
+    next : Emit l at all m i (f a ++ flatMap f rest)
+    next = subst (Emit l at all m i) (flatMap-first f a rest) e
 
-  -- the next value has room
-  pub each-room : HasRoom m i (f a)
-  each-room = emit-fits (f a) (flatMap f rest) next
+    -- the next value has room
+    pub each-room : HasRoom m i (f a)
+    each-room = emit-fits (f a) (flatMap f rest) next
 
-  -- and is written
-  pub each-put : {p : ℕ} {n : List ℕ} → Puts m i (f a) p n → Emit l at all n p (flatMap f rest)
-  each-put v = rw (v .0, v .1) (emit (f a) (flatMap f rest) next)
+    -- and is written
+    pub each-put : {p : ℕ} {n : List ℕ} → Puts m i (f a) p n → Emit l at all n p (flatMap f rest)
+    each-put v = rw (v .0, v .1) (emit (f a) (flatMap f rest) next)
 
 -- all are written
 pub each-end : {A : Type 0} (f : A → List ℕ) {l : List ℕ} {at : ℕ} {all m : List ℕ} {i : ℕ} → Emit l at all m i (flatMap f []) → Puts l at all i m
@@ -81,7 +86,8 @@ put-front output bytes h = ap (λ (l : List ℕ). sets l 0 bytes) (sym (overwrit
 -- ---- the bytes, part by part
 
 -- a sequence whose values are written alike in every state
-encode-each : {S A : Type 0} (F : S → Format A) (step : S → A → S) (f : A → List ℕ) → ((s : S) (a : A) → (F s) .encode a ≡ f a) → (s : S) (l : List A) → encodeAll F step s l ≡ flatMap f l
+encode-each : {S A : Type 0} (F : S → Format A) (step : S → A → S) (f : A → List ℕ) → ((s : S) (a : A) → (F s) .encode a ≡ f a) → (s : S) (l : List A)
+    → encodeAll F step s l ≡ flatMap f l
 unfolding encodeAll flatMap
 encode-each F step f e s [] = refl
 encode-each F step f e s (a ∷ l) = λ i. e s a i ++ encode-each F step f e (step s a) l i
@@ -128,76 +134,12 @@ module _ (output : List ℕ) (at : ℕ) (ls : List Layer) (h : HasRoom output at
 
 -- ---- what the tables of a layer hold
 
-module _ {A : Type 0} where
-  pub length-ends : (k : ℕ) (cs : List (List A)) → length (endsFrom k cs) ≡ length cs
-  unfolding endsFrom
-  length-ends k [] = refl
-  length-ends k (c ∷ cs) = ap suc (length-ends (k + length c) cs)
-
--- for contours that are told by names: the points of the names, and the same ends
-module _ {A B : Type 0} (f : A → B) where
-  pub flatten-map : (cs : List (List A)) → flatten (map (map f) cs) ≡ map f (flatten cs)
-  unfolding flatten
-  flatten-map [] = refl
-  flatten-map (c ∷ cs) = ap (λ (l : List B). map f c ++ l) (flatten-map cs) ∙ sym (map-append f c (flatten cs))
-
-  pub ends-map : (k : ℕ) (cs : List (List A)) → endsFrom k (map (map f) cs) ≡ endsFrom k cs
-  unfolding endsFrom
-  ends-map k [] = refl
-  ends-map k (c ∷ cs) = (λ i. (k + length-map c f i) ∷ endsFrom (k + length-map c f i) (map (map f) cs)) ∙ ap (λ (l : List ℕ). (k + length c) ∷ l) (ends-map (k + length c) cs)
-
-pub length-numbers : (c : List Point) → length (numbersOf c) ≡ 2 * length c
-unfolding numbersOf
-length-numbers [] = refl
-length-numbers (p ∷ c) = omega (arith, length-numbers c)
-
-pub numbers-append : (c d : List Point) → numbersOf (c ++ d) ≡ numbersOf c ++ numbersOf d
-unfolding numbersOf
-numbers-append [] d = refl
-numbers-append (p ∷ c) d = ap (λ (l : List ℤ). p .x ∷ p .y ∷ l) (numbers-append c d)
-
-pub points-numbers : (c : List Point) → pointsIn (numbersOf c) ≡ c
-unfolding pointsIn numbersOf
-points-numbers [] = refl
-points-numbers (p ∷ c) = ap (λ (l : List Point). p ∷ l) (points-numbers c)
-
-pub length-flatten : (cs : List (List Point)) → length (flatten cs) ≡ pointTotal cs
-unfolding flatten
-length-flatten [] = refl
-length-flatten (c ∷ cs) = length-append c (flatten cs) ∙ ap (λ (n : ℕ). length c + n) (length-flatten cs)
-
--- the first of some contours, after points that stand in front, and the table by what stands in front of the others
-module _ (front c : List Point) (cs : List (List Point)) (rest : List ℤ) where
-  split : numbersOf (c ++ flatten cs) ++ rest ≡ numbersOf c ++ (numbersOf (flatten cs) ++ rest)
-  split = ap (λ (l : List ℤ). l ++ rest) (numbers-append c (flatten cs)) ∙ append-assoc (numbersOf c) (numbersOf (flatten cs)) rest
-
-  first-part : take (2 * (length front + length c - length front)) (drop (2 * length front) (numbersOf front ++ (numbersOf (c ++ flatten cs) ++ rest))) ≡ numbersOf c
-  first-part =
-      let size : length front + length c - length front ≡ length c = omega arith in
-      (λ i. take (2 * size i) (drop-at (numbersOf front) (numbersOf (c ++ flatten cs) ++ rest) (2 * length front) (length-numbers front) i))
-      ∙ ap (take (2 * length c)) split
-      ∙ take-at (numbersOf c) (numbersOf (flatten cs) ++ rest) (2 * length c) (length-numbers c)
-
-  front-more : numbersOf front ++ (numbersOf (c ++ flatten cs) ++ rest) ≡ numbersOf (front ++ c) ++ (numbersOf (flatten cs) ++ rest)
-  front-more =
-      ap (λ (l : List ℤ). numbersOf front ++ l) split
-      ∙ sym (append-assoc (numbersOf front) (numbersOf c) (numbersOf (flatten cs) ++ rest))
-      ∙ ap (λ (l : List ℤ). l ++ (numbersOf (flatten cs) ++ rest)) (sym (numbers-append front c))
-
-contours-in : (front : List Point) (cs : List (List Point)) (rest : List ℤ) → contoursIn (numbersOf front ++ (numbersOf (flatten cs) ++ rest)) (length front) (endsFrom (length front) cs) ≡ cs
-unfolding contoursIn endsFrom flatten
-contours-in front [] rest = refl
-contours-in front (c ∷ cs) rest =
-    let n = sym (length-append front c) in
-    λ i. (ap pointsIn (first-part front c cs rest) ∙ points-numbers c) i
-    ∷ ((λ k. contoursIn (front-more front c cs rest k) (n k) (endsFrom (n k) cs)) ∙ contours-in (front ++ c) cs rest) i
-
-rise-ends : {A : Type 0} (n k : ℕ) (cs : List (List A)) → 2 * (k + length (flatten cs)) ≤ n → Rise n k (endsFrom k cs)
+ends-within : {A : Type 0} (n k : ℕ) (cs : List (List A)) → 2 * (k + length (flatten cs)) ≤ n → EndsWithin n k (endsFrom k cs)
 unfolding endsFrom flatten
-rise-ends n k [] h = tt
-rise-ends n k (c ∷ cs) h =
+ends-within n k [] h = tt
+ends-within n k (c ∷ cs) h =
     let l : length (c ++ flatten cs) ≡ length c + length (flatten cs) = length-append c (flatten cs) in
-    (omega arith, omega arith, rise-ends n (k + length c) cs (omega arith))
+    (omega arith, omega arith, ends-within n (k + length c) cs (omega arith))
 
 -- the numbers of all contours in front of a table of points, and their ends in front of a table of ends
 module _ (cs : List (List Point)) (points : List ℤ) (ends : List ℕ) where
@@ -206,7 +148,8 @@ module _ (cs : List (List Point)) (points : List ℤ) (ends : List ℕ) where
   front-ends = take-at (endsOf cs) (drop (length (endsOf cs)) ends) (length cs) (length-ends 0 cs)
 
   -- they hold these contours
-  pub layer-held : (h : ℤ) → layerOf h (overwrite (numbersOf (flatten cs)) points) (overwrite (endsOf cs) ends) (length cs) ≡ record { height = h; contours = cs }
+  pub layer-held : (h : ℤ)
+      → layerOf h (overwrite (numbersOf (flatten cs)) points) (overwrite (endsOf cs) ends) (length cs) ≡ record { height = h; contours = cs }
   unfolding layerOf overwrite numbersOf
   layer-held h =
       ap (λ (c : List (List Point)). record { height = h; contours = c })
@@ -220,8 +163,8 @@ module _ (cs : List (List Point)) (points : List ℤ) (ends : List ℕ) where
       record {
         there = omega (arith, length-append (endsOf cs) (drop (length (endsOf cs)) ends), length-ends 0 cs);
         rise =
-            subst (Rise (length (overwrite (numbersOf (flatten cs)) points)) 0) (sym front-ends)
-            (rise-ends (length (overwrite (numbersOf (flatten cs)) points)) 0 cs
+            subst (EndsWithin (length (overwrite (numbersOf (flatten cs)) points)) 0) (sym front-ends)
+            (ends-within (length (overwrite (numbersOf (flatten cs)) points)) 0 cs
             (omega (arith, length-append (numbersOf (flatten cs)) (drop (length (numbersOf (flatten cs))) points), length-numbers (flatten cs))));
       }
 
@@ -240,7 +183,8 @@ points-short p h (q ∷ c) e =
     let n = simp length-append at (ap length (point-encode p q)) in
     omega (arith, x, y, n, length-append ((point p) .encode q) (encodeAll point latest q c), points-short q (e .0) c (e .1))
 
-contours-short : (cs : List (List Point)) → pointTotal cs ≤ mostPoints → Each ContourRules cs → length (flatMap contourBytes cs) ≤ 3 * length cs + 8 * pointTotal cs
+contours-short : (cs : List (List Point)) → pointTotal cs ≤ mostPoints → Each ContourRules cs
+    → length (flatMap contourBytes cs) ≤ 3 * length cs + 8 * pointTotal cs
 unfolding flatMap pointBytes
 contours-short [] h e = omega arith
 contours-short (c ∷ cs) h e =
@@ -254,14 +198,16 @@ few-contours [] e = omega arith
 few-contours (c ∷ cs) e = omega (arith, e .0 .0, few-contours cs (e .1))
 
 -- a layer whose points and contours keep the rules
-pub layer-short : (l : Layer) → pointTotal (l .contours) ≤ mostPoints → Each ContourRules (l .contours) → length (layerBytes l) ≤ length (encodeNumber (zigzag (l .height))) + 3 + 10 * pointTotal (l .contours)
+pub layer-short : (l : Layer) → pointTotal (l .contours) ≤ mostPoints → Each ContourRules (l .contours)
+    → length (layerBytes l) ≤ length (encodeNumber (zigzag (l .height))) + 3 + 10 * pointTotal (l .contours)
 layer-short l h e =
     let few = few-contours (l .contours) e in
     let n = encode-short 2 (length (l .contours)) (omega arith) in
     omega (arith, few, n, contours-short (l .contours) h e, simp length-append at (ap length (layer-bytes l)))
 
 pub layer-most : (l : Layer) → LayerRules l → length (layerBytes l) ≤ mostLayerBytes
-layer-most l r = omega (arith, layer-short l (r .few) (r .each), r .few, word-bytes (zigzag (l .height)) (omega (arith, word-sent (l .height) (r .height-fits))))
+layer-most l r =
+    omega (arith, layer-short l (r .few) (r .each), r .few, word-bytes (zigzag (l .height)) (omega (arith, word-sent (l .height) (r .height-fits))))
 
 pub layers-most : (ls : List Layer) → Each LayerRules ls → totalOf (λ l. length (layerBytes l)) ls ≤ length ls * mostLayerBytes
 unfolding totalOf

@@ -1,4 +1,4 @@
-// Internal: a layer that lies in a table of points and a table of ends, as its `requires` says, measured and written.
+// Measuring and writing a layer that lies in a table of points and a table of ends, as each `requires` says.
 ghost use mathlib.Core.Path.{_≡_};
 ghost use mathlib.Core.List.{flatMap};
 ghost use Prim.Native.Nat.{_+_, _*_, _≤_};
@@ -13,7 +13,7 @@ use mesh::internal::wide;
 
 // How many bytes the points of a contour take, at most five for each number.
 fn points_length(points: &[i32]) -> usize
-    ensures { λ r. ⌜ (r ≡ length (pointBytes (pointsIn (now (points .entry))))) × (r ≤ 5 * length (now (points .entry))) ⌝ }
+    ensures { λ r. ⌜ (r ≡ length (pointBytes (pointsIn (points .entry .now)))) × (r ≤ 5 * length (points .entry .now)) ⌝ }
 {
     let n = points.len() / 2;
     let mut x: i32 = 0;
@@ -35,7 +35,7 @@ fn points_length(points: &[i32]) -> usize
 
 // How many bytes a contour takes.
 fn contour_length(points: &[i32]) -> usize
-    ensures { λ r. ⌜ (r ≡ length (contourBytes (pointsIn (now (points .entry))))) × (r ≤ 1 + 6 * length (now (points .entry))) ⌝ }
+    ensures { λ r. ⌜ (r ≡ length (contourBytes (pointsIn (points .entry .now)))) × (r ≤ 1 + 6 * length (points .entry .now)) ⌝ }
 {
     number_length((points.len() / 2) as u64) + points_length(points)
 }
@@ -43,7 +43,8 @@ fn contour_length(points: &[i32]) -> usize
 // How many bytes the contours of a layer take.
 fn contours_length(points: &[i32], ends: &[u32], j: usize) -> usize
     requires { ⌜ LayerTables (now points) (now ends) j ⌝ }
-    ensures { λ r. ⌜ (r ≡ length (flatMap contourBytes (contoursIn (now (points .entry)) 0 (take j (now (ends .entry)))))) × (r ≤ j + 6 * length (now (points .entry))) ⌝ }
+    ensures { λ r. ⌜ (r ≡ length (flatMap contourBytes (contoursIn (points .entry .now) 0 (take j (ends .entry .now)))))
+        × (r ≤ j + 6 * length (points .entry .now)) ⌝ }
 {
     let mut total: usize = 0;
     let mut from: usize = 0;
@@ -62,7 +63,7 @@ fn contours_length(points: &[i32], ends: &[u32], j: usize) -> usize
 // How many bytes the layer of height h and of j contours takes.
 pub fn layer_length(h: i32, points: &[i32], ends: &[u32], j: usize) -> usize
     requires { ⌜ LayerTables (now points) (now ends) j ⌝ }
-    ensures { λ r. ⌜ r ≡ length (layerBytes (layerOf h (now (points .entry)) (now (ends .entry)) j)) ⌝ }
+    ensures { λ r. ⌜ r ≡ length (layerBytes (layerOf h (points .entry .now) (ends .entry .now) j)) ⌝ }
 {
     number_length(unsigned_of(h as i64))
         + number_length(j as u64)
@@ -72,7 +73,7 @@ pub fn layer_length(h: i32, points: &[i32], ends: &[u32], j: usize) -> usize
 // Writes the points of a contour at a position, and returns the position after them. All before and after stays, here and below.
 fn write_points(points: &[i32], output: &mut [u8], at: usize) -> usize
     requires { ⌜ HasRoom (now output) at (pointBytes (pointsIn (now points))) ⌝ }
-    ensures { λ r. ⌜ Puts (now (output .entry)) at (pointBytes (pointsIn (now (points .entry)))) r (now (output .exit)) ⌝ }
+    ensures { λ r. ⌜ Puts (output .entry .now) at (pointBytes (pointsIn (points .entry .now))) r (output .exit .now) ⌝ }
 {
     let count = points.len() / 2;
     let mut x: i32 = 0;
@@ -98,7 +99,7 @@ fn write_points(points: &[i32], output: &mut [u8], at: usize) -> usize
 // Writes a contour.
 fn write_contour(points: &[i32], output: &mut [u8], at: usize) -> usize
     requires { ⌜ HasRoom (now output) at (contourBytes (pointsIn (now points))) ⌝ }
-    ensures { λ r. ⌜ Puts (now (output .entry)) at (contourBytes (pointsIn (now (points .entry)))) r (now (output .exit)) ⌝ }
+    ensures { λ r. ⌜ Puts (output .entry .now) at (contourBytes (pointsIn (points .entry .now))) r (output .exit .now) ⌝ }
 {
     let p = write_number(output, at, (points.len() / 2) as u64);
     write_points(points, output, p)
@@ -107,7 +108,9 @@ fn write_contour(points: &[i32], output: &mut [u8], at: usize) -> usize
 // Writes the contours of a layer.
 fn write_contours(points: &[i32], ends: &[u32], j: usize, output: &mut [u8], at: usize) -> usize
     requires { ⌜ LayerTables (now points) (now ends) j ⌝ ∗ ⌜ HasRoom (now output) at (flatMap contourBytes (contoursIn (now points) 0 (take j (now ends)))) ⌝ }
-    ensures { λ r. ⌜ Puts (now (output .entry)) at (flatMap contourBytes (contoursIn (now (points .entry)) 0 (take j (now (ends .entry))))) r (now (output .exit)) ⌝ }
+    ensures { λ r. ⌜ Puts (output .entry .now) at
+        (flatMap contourBytes (contoursIn (points .entry .now) 0 (take j (ends .entry .now)))) r
+        (output .exit .now) ⌝ }
 {
     let mut p = at;
     let mut from: usize = 0;
@@ -133,7 +136,7 @@ pub fn write_layer(
     at: usize,
 ) -> usize
     requires { ⌜ LayerTables (now points) (now ends) j ⌝ ∗ ⌜ HasRoom (now output) at (layerBytes (layerOf h (now points) (now ends) j)) ⌝ }
-    ensures { λ r. ⌜ Puts (now (output .entry)) at (layerBytes (layerOf h (now (points .entry)) (now (ends .entry)) j)) r (now (output .exit)) ⌝ }
+    ensures { λ r. ⌜ Puts (output .entry .now) at (layerBytes (layerOf h (points .entry .now) (ends .entry .now) j)) r (output .exit .now) ⌝ }
 {
     let p = write_number(output, at, unsigned_of(h as i64));
     let q = write_number(output, p, j as u64);

@@ -1,8 +1,11 @@
 -- `area` meets its contract.
-use mathlib.Core.Path.{_∙_}
+use mathlib.Core.Path.{refl, ap, _∙_}
 use mir.Syntax.{w64}
 use Rattle.laws.specs.Machine.{same}
-use Rattle.contours.proofs.Answers.{answers-refused, answers-area, tested-run}
+use Rattle.mesh.specs.Operation.{gives}
+use Rattle.mesh.specs.OperationLaws.{does-refuse, does-give}
+use Rattle.mesh.specs.Refusals.{tellVerdict}
+use Rattle.contours.proofs.Answers.{tested-run}
 use borrow.Author.Needs.{needs}
 use Rattle.contours.proofs.area.Statement.{statement}
 use Rattle.contours.proofs.area.Tie as tie
@@ -14,7 +17,7 @@ enum-known-a : tie.Need-enum-known-a
 enum-known-a c = search needs
 
 returns : tie.Need-returns
-returns c = answers-refused (c .before .before .before .before .args .points .now) (c .before .before .before .points-test .ensures) (c .before .a .given .1)
+returns c = does-refuse (c .before .before .before .points-test .ensures) (ap tellVerdict (c .before .a .given .1)) refl refl
 
 enum-told : tie.Need-enum-told
 enum-told c = search needs
@@ -23,7 +26,9 @@ doubled-area-requires : tie.Need-doubled-area-requires
 doubled-area-requires c κs = tested-run _ (c .before .before .points-test .ensures) (c .enum-told .given .1)
 
 returns-2 : tie.Need-returns-2
-returns-2 c = answers-area _ (c .before .before .before .points-test .ensures) (c .before .enum-told .given .1) (same w64 (c .doubled-area .result) (c .doubled-area .ok) ∙ c .doubled-area .ensures)
+returns-2 c =
+    does-give (c .before .before .before .points-test .ensures) (ap tellVerdict (c .before .enum-told .given .1))
+    (ap gives (same w64 (c .doubled-area .result) (c .doubled-area .ok) ∙ c .doubled-area .ensures)) refl
 
 pub area-spec : {M : Type 1} → statement M
 area-spec =

@@ -21,13 +21,16 @@ wide-requires : tie.Need-wide-requires
 wide-requires c κs = search needs
 
 returns-2 : tie.Need-returns-2
-returns-2 c = part-falls _ _ _ (c .before .before .before .prior-end .ensures) (c .before .wide .ensures) (omega arith)
+returns-2 c = part-falls _ _ _ (c .before .before .before .prior-end .ensures) (c .before .wide .ensures) (c .if2 .taken)
 
 sub-count : tie.Need-sub-count
 sub-count c = omega arith
 
 mul-if3 : tie.Need-mul-if3
-mul-if3 c = omega (arith, c .before .before .shared-slice-known2 .given (c .before .before .before .before .before .before .args .j))
+mul-if3 c =
+    let at-known2 = c .before .before in
+    let start = at-known2 .before .before .before .before in
+    omega (arith, at-known2 .shared-slice-known2 .given (start .args .j))
 
 returns-3 : tie.Need-returns-3
 returns-3 c = part-past _ _ _ (c .before .before .wide .ensures) (c .if3 .taken)
@@ -39,7 +42,11 @@ mul-t11 : tie.Need-mul-t11
 mul-t11 c = search needs
 
 returns-4 : tie.Need-returns-4
-returns-4 c = part-there _ _ _ (c .before .before .before .before .prior-end .ensures) (c .before .before .wide .ensures) (c .before .before .before .before .before .if1 .left) (c .before .if2 .left) (c .if3 .left)
+returns-4 c =
+    let at-wide = c .before .before in
+    let at-prior-end = at-wide .before .before in
+    let at-if1 = at-prior-end .before in
+    part-there _ _ _ (at-prior-end .prior-end .ensures) (at-wide .wide .ensures) (at-if1 .if1 .left) (c .before .if2 .left) (c .if3 .left)
 
 pub part-of-spec : {M : Type 1} → statement M
 part-of-spec =

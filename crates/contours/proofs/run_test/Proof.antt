@@ -1,7 +1,7 @@
 -- `run_test` meets its contract.
 use mathlib.Core.Path.{ap}
 use mathlib.Core.Bool.{not}
-use Rattle.mesh.specs.RefusalLaws.{whole-refused, whole-fine}
+use Rattle.mesh.specs.OperationLaws.{whole-refused, whole-fine}
 use Rattle.contours.specs.AreaLaws.{fits-of}
 use Rattle.contours.proofs.Answers.{fits-odd, fits-many}
 use Rattle.contours.proofs.run_test.Statement.{statement}

@@ -1,10 +1,12 @@
 -- `cut` meets its contract.
 use denote.Ref.{now}
-use mathlib.Core.Path.{subst}
+use mathlib.Core.Path.{ap, subst}
 use lib.IntN.{ℤ}
 use mir.Syntax.{w32}
 use mir.ValLaws.{toZ-ofZ}
-use Rattle.cutter.specs.Cut.{section}
+use Rattle.mesh.specs.Meshes.{paired}
+use Rattle.mesh.specs.Refusals.{tellVerdict}
+use Rattle.cutter.specs.Cut.{lent, section}
 use Rattle.cutter.specs.Outlines.{Traces}
 use Rattle.cutter.proofs.Slicing.{passed, cuts-refused, cuts-traced}
 use borrow.Author.Needs.{needs}
@@ -18,13 +20,18 @@ enum-known-v : tie.Need-enum-known-v
 enum-known-v c = search needs
 
 returns : tie.Need-returns
-returns c = cuts-refused (now (c .before .before .before .before .before .before .before .before .before .args .coords)) (now (c .before .before .before .before .before .before .before .before .before .args .corners)) (now (c .before .before .before .before .before .before .before .before .before .args .pairing)) (c .before .before .before .before .before .before .before .before .before .args .h) (now (c .before .before .before .before .before .before .before .before .before .args .names)) (now (c .before .before .before .before .before .before .before .before .before .args .points)) (now (c .before .before .before .before .before .before .before .before .before .args .ends)) (now (c .before .before .before .before .before .before .before .before .before .args .marks)) (c .before .before .before .tables-test .result) (c .before .before .before .tables-test .ensures) _ (c .before .v .given .1)
+returns c = cuts-refused _ _ _ (c .before .before .before .tables-test .ensures) (ap tellVerdict (c .before .v .given .1))
 
 enum-told : tie.Need-enum-told
 enum-told c = search needs
 
 slice-requires : tie.Need-slice-requires
-slice-requires c κs = passed (now (c .before .before .before .before .before .before .before .before .before .before .before .before .args .coords)) (now (c .before .before .before .before .before .before .before .before .before .before .before .before .args .corners)) (now (c .before .before .before .before .before .before .before .before .before .before .before .before .args .pairing)) (c .before .before .before .before .before .before .before .before .before .before .before .before .args .h) (now (c .before .before .before .before .before .before .before .before .before .before .before .before .args .names)) (now (c .before .before .before .before .before .before .before .before .before .before .before .before .args .points)) (now (c .before .before .before .before .before .before .before .before .before .before .before .before .args .ends)) (now (c .before .before .before .before .before .before .before .before .before .before .before .before .args .marks)) (c .before .before .before .before .before .before .tables-test .result) (c .before .before .before .before .before .before .tables-test .ensures) (c .before .before .before .before .enum-told .given .1)
+slice-requires c κs =
+    let at-test = c .before .before .before .before .before .before in
+    let start = at-test .before .before .before .before .before .before in
+    let m = paired (now (start .args .coords)) (now (start .args .corners)) (now (start .args .pairing)) in
+    let t = lent (now (start .args .names)) (now (start .args .points)) (now (start .args .ends)) (now (start .args .marks)) in
+    passed m (start .args .h) t (at-test .tables-test .ensures) (ap tellVerdict (c .before .before .before .before .enum-told .given .1))
 
 same-length : tie.Need-same-length
 same-length c = search needs
@@ -40,10 +47,16 @@ same-length-4 c = search needs
 
 returns-2 : tie.Need-returns-2
 returns-2 c =
-    let a = c .before .before .before .before .before .before .before .before .before .before .before .before .before .before .before .before .before .before .before .before .args in
-    cuts-traced (now (c .before .before .before .before .before .before .before .before .before .before .before .before .before .before .before .before .before .before .before .before .args .coords)) (now (c .before .before .before .before .before .before .before .before .before .before .before .before .before .before .before .before .before .before .before .before .args .corners)) (now (c .before .before .before .before .before .before .before .before .before .before .before .before .before .before .before .before .before .before .before .before .args .pairing)) (c .before .before .before .before .before .before .before .before .before .before .before .before .before .before .before .before .before .before .before .before .args .h) (now (c .before .before .before .before .before .before .before .before .before .before .before .before .before .before .before .before .before .before .before .before .args .names)) (now (c .before .before .before .before .before .before .before .before .before .before .before .before .before .before .before .before .before .before .before .before .args .points)) (now (c .before .before .before .before .before .before .before .before .before .before .before .before .before .before .before .before .before .before .before .before .args .ends)) (now (c .before .before .before .before .before .before .before .before .before .before .before .before .before .before .before .before .before .before .before .before .args .marks)) (c .before .before .before .before .before .before .before .before .before .before .before .before .before .before .tables-test .result) (c .before .before .before .before .before .before .before .before .before .before .before .before .before .before .tables-test .ensures) (c .before .before .before .before .before .before .before .before .before .before .before .before .enum-told .given .1)
-    (subst (λ (z : ℤ). Traces (section (now (a .coords)) (now (a .corners)) (now (a .pairing)) z) (now (a .coords)) (now (a .corners)) z (now (a .names)) (now (a .points)) (now (a .ends)) (now (a .marks)) (c .before .before .before .before .before .before .before .slice .result) (c .before .before .before .before .before .before .before .slice .last .1 .1 .1 .1 .0) (c .before .before .before .before .before .before .before .slice .last .1 .1 .1 .1 .1 .0) (c .before .before .before .before .before .before .before .slice .last .1 .1 .1 .1 .1 .1 .0) (c .before .before .before .before .before .before .before .slice .last .1 .1 .1 .1 .1 .1 .1 .0))
-    (toZ-ofZ w32 (a .h) (c .before .before .before .before .before .before .before .before .before .before .before .before .before .before .before .before .before .before .before .before .fits .h)) (c .before .before .before .before .before .before .before .slice .ensures))
+    let at-slice = c .before .before .before .before .before .before .before in
+    let at-fine = at-slice .before .before .before .before .before in
+    let at-test = at-fine .before .before in
+    let start = at-test .before .before .before .before .before .before in
+    let m = paired (now (start .args .coords)) (now (start .args .corners)) (now (start .args .pairing)) in
+    let t = lent (now (start .args .names)) (now (start .args .points)) (now (start .args .ends)) (now (start .args .marks)) in
+    let left = at-slice .slice .last .1 .1 .1 .1 in
+    cuts-traced m (start .args .h) t (at-test .tables-test .ensures) (ap tellVerdict (at-fine .enum-told .given .1))
+    (subst (λ (z : ℤ). Traces (section m z) (m .mesh) z t (at-slice .slice .result) (lent (left .0) (left .1 .0) (left .1 .1 .0) (left .1 .1 .1 .0)))
+    (toZ-ofZ w32 (start .args .h) (start .fits .h)) (at-slice .slice .ensures))
 
 pub cut-spec : {M : Type 1} → statement M
 cut-spec =

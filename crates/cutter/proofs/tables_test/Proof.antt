@@ -1,80 +1,31 @@
--- `tables_test` meets its contract.
-use mathlib.Core.Path.{sym, _∙_}
-use mathlib.Core.List.{[], _∷_}
-use native.Mathlib.Omega.{arith}
-use borrow.Author.Tests.{not-false}
+-- `tables_test` meets its contract: the tests that operations begin with, with the room that Cut asks for.
 use denote.Ref.{now}
-use Rattle.mesh.specs.RefusalLaws.{verdict-stop, verdict-next, verdict-one, join-stop, join-next, fine-nowhere}
-use Rattle.mesh.specs.Tests.{size, mesh, pairs}
-use Rattle.mesh.specs.TestLaws.{sizes-whole}
+use mathlib.Core.Path.{ap, _∙_}
+use mathlib.Core.Bool.{Bool, not}
+use mathlib.Core.List.{_∷_}
 use borrow.Author.Needs.{needs}
+use Rattle.mesh.specs.Meshes.{paired}
+use Rattle.mesh.specs.Operation.{whole, verdict}
+use Rattle.mesh.specs.Refusals.{refusal}
+use Rattle.mesh.specs.Tests.{size}
+use Rattle.tables.specs.MeshTests.{contentTests}
+use Rattle.tables.specs.OpeningLaws.{opening-few}
 use Rattle.cutter.proofs.tables_test.Statement.{statement}
 use Rattle.cutter.proofs.tables_test.Tie as tie
 
-size-test-requires : tie.Need-size-test-requires
-size-test-requires c κs = search needs
+room-for-requires : tie.Need-room-for-requires
+room-for-requires c κs = search needs
 
-enum-told : tie.Need-enum-told
-enum-told c = search needs
+opening-test-requires : tie.Need-opening-test-requires
+opening-test-requires c κs = search needs
 
 returns : tie.Need-returns
-returns c = verdict-stop _ _ (c .before .before .size-test .ensures) (c .enum-told .given .1)
-
-enum-told-2 : tie.Need-enum-told-2
-enum-told-2 c = search needs
-
-room-test-requires : tie.Need-room-test-requires
-room-test-requires c κs = search needs
-
-enum-told-3 : tie.Need-enum-told-3
-enum-told-3 c = search needs
-
-returns-2 : tie.Need-returns-2
-returns-2 c = verdict-next _ _ (c .before .before .before .before .before .size-test .ensures) (c .before .before .before .enum-told2 .given .1) (verdict-stop _ _ (c .before .before .room-test .ensures) (c .enum-told3 .given .1))
-
-enum-told-4 : tie.Need-enum-told-4
-enum-told-4 c = search needs
-
-mesh-test-requires : tie.Need-mesh-test-requires
-mesh-test-requires c κs = search needs
-
-enum-told-5 : tie.Need-enum-told-5
-enum-told-5 c = search needs
-
-returns-3 : tie.Need-returns-3
-returns-3 c =
-    verdict-next _ _ (c .before .before .before .before .before .before .before .before .size-test .ensures) (c .before .before .before .before .before .before .enum-told2 .given .1)
-    (verdict-next _ _ (c .before .before .before .before .before .room-test .ensures) (c .before .before .before .enum-told4 .given .1)
-    (join-stop (mesh (now (c .before .before .before .before .before .before .before .before .before .before .before .args .coords)) (now (c .before .before .before .before .before .before .before .before .before .before .before .args .corners))) (pairs (now (c .before .before .before .before .before .before .before .before .before .before .before .args .corners)) (now (c .before .before .before .before .before .before .before .before .before .before .before .args .pairing)) ∷ []) (c .before .before .mesh-test .ensures) (c .enum-told5 .given .1)))
-
-enum-told-6 : tie.Need-enum-told-6
-enum-told-6 c = search needs
-
-pairing-test-requires : tie.Need-pairing-test-requires
-pairing-test-requires c κs = let a = c .before .before .before .before .before .before .before .before .before .before .before .args in sizes-whole _ _ (not-false _ (fine-nowhere (size (now (a .coords)) (now (a .corners))) (sym (c .before .before .before .before .before .before .before .before .size-test .ensures) ∙ c .before .before .before .before .before .before .enum-told2 .given .1) 0 (omega arith)))
-
-returns-4 : tie.Need-returns-4
-returns-4 c =
-    verdict-next _ _ (c .before .before .before .before .before .before .before .before .before .size-test .ensures) (c .before .before .before .before .before .before .before .enum-told2 .given .1)
-    (verdict-next _ _ (c .before .before .before .before .before .before .room-test .ensures) (c .before .before .before .before .enum-told4 .given .1)
-    (join-next (mesh (now (c .before .before .before .before .before .before .before .before .before .before .before .before .args .coords)) (now (c .before .before .before .before .before .before .before .before .before .before .before .before .args .corners))) (pairs (now (c .before .before .before .before .before .before .before .before .before .before .before .before .args .corners)) (now (c .before .before .before .before .before .before .before .before .before .before .before .before .args .pairing)) ∷ []) (c .before .before .before .mesh-test .ensures) (c .before .enum-told6 .given .1)
-    (c .pairing-test .ensures ∙ verdict-one (pairs (now (c .before .before .before .before .before .before .before .before .before .before .before .before .args .corners)) (now (c .before .before .before .before .before .before .before .before .before .before .before .before .args .pairing))))))
+returns c =
+    let a = c .before .before .before .before .args in
+    let m = paired (now (a .coords)) (now (a .corners)) (now (a .pairing)) in
+    c .opening-test .ensures
+    ∙ opening-few m (c .before .room-for .result)
+    ∙ ap (λ (b : Bool). verdict (size (m .mesh) ∷ whole (refusal 9) (not b) ∷ contentTests m)) (c .before .room-for .ensures)
 
 pub tables-test-spec : {M : Type 1} → statement M
-tables-test-spec =
-    tie.close
-    (tie.spec
-    size-test-requires
-    enum-told
-    returns
-    enum-told-2
-    room-test-requires
-    enum-told-3
-    returns-2
-    enum-told-4
-    mesh-test-requires
-    enum-told-5
-    returns-3
-    enum-told-6
-    pairing-test-requires
-    returns-4)
+tables-test-spec = tie.close (tie.spec room-for-requires opening-test-requires returns)

@@ -1,11 +1,32 @@
 -- `all_layers` meets its contract.
+use mathlib.Core.Path.{ap}
 use native.Mathlib.Omega.{arith}
 use denote.Ref.{now}
+use Rattle.mesh.specs.Meshes.{OrderedMesh, ordered}
+use Rattle.mesh.specs.Refusals.{tellVerdict}
+use Rattle.layers.specs.AllLayers.{WorkTables, work}
 use Rattle.layers.specs.PassLaws.{works-long, held-is}
-use Rattle.filing.proofs.Filing.{passed, listed, files-refused, files-put}
+use Rattle.layers.specs.LayersLaws.{FileTested}
+use Rattle.filing.proofs.Filing.{layers-tested, files-refused, files-tested, files-put}
 use borrow.Author.Needs.{needs}
 use Rattle.filing.proofs.all_layers.Statement.{statement}
 use Rattle.filing.proofs.all_layers.Tie as tie
+
+abbrev meshOf : tie.Start → OrderedMesh
+meshOf start = ordered (now (start .args .coords)) (now (start .args .corners)) (now (start .args .pairing)) (now (start .args .order))
+
+abbrev workOf : tie.Start → WorkTables
+workOf start = work (now (start .args .names)) (now (start .args .points)) (now (start .args .ends)) (now (start .args .marks)) (now (start .args .ring))
+
+abbrev startOf : tie.After-enum-told → tie.Start
+startOf at-fine = at-fine .before .before .before .before .before .before .before .before .before .before .before
+
+-- what the tests establish
+tested : (at-fine : tie.After-enum-told) → FileTested (meshOf (startOf at-fine)) (now (startOf at-fine .args .heights)) (workOf (startOf at-fine))
+tested at-fine =
+    let start = startOf at-fine in
+    files-tested (meshOf start) (now (start .args .heights)) (workOf start) (now (start .args .output)) (at-fine .before .before .layers-test .ensures)
+    (ap tellVerdict (at-fine .enum-told .given .1))
 
 layers-test-requires : tie.Need-layers-test-requires
 layers-test-requires c κs = search needs
@@ -14,7 +35,11 @@ enum-known-v : tie.Need-enum-known-v
 enum-known-v c = search needs
 
 returns : tie.Need-returns
-returns c = let a = c .before .before .before .before .before .before .before .before .before .before .before .before .args in files-refused (now (a .coords)) (now (a .corners)) (now (a .pairing)) (now (a .order)) (now (a .heights)) (now (a .names)) (now (a .points)) (now (a .ends)) (now (a .marks)) (now (a .ring)) (now (a .output)) (c .before .before .before .layers-test .result) (c .before .before .before .layers-test .ensures) _ (c .before .v .given .1)
+returns c =
+    let at-test = c .before .before .before in
+    let start = at-test .before .before .before .before .before .before .before .before .before in
+    files-refused (meshOf start) (now (start .args .heights)) (workOf start) (now (start .args .output)) (at-test .layers-test .ensures)
+    (ap tellVerdict (c .before .v .given .1))
 
 enum-told : tie.Need-enum-told
 enum-told c = search needs
@@ -27,21 +52,16 @@ taken-count-requires c κs = search needs
 
 put-file-requires : tie.Need-put-file-requires
 put-file-requires c κs =
-    let a = c .before .before .before .before .before .before .before .before .before .before .before .before .before .before .before .before .before .before .before .args in
-    let p = passed (now (a .coords)) (now (a .corners)) (now (a .pairing)) (now (a .order)) (now (a .heights)) (now (a .names)) (now (a .points)) (now (a .ends)) (now (a .marks)) (now (a .ring)) (now (a .output)) (c .before .before .before .before .before .before .before .before .before .before .layers-test .result) (c .before .before .before .before .before .before .before .before .before .before .layers-test .ensures) (c .before .before .before .before .before .before .before .before .enum-told .given .1) in
-    record {
-      right = p .right;
-      long = p .long;
-      ring-long = p .ring-long;
-      listed = listed (now (a .coords)) (now (a .corners)) (now (a .pairing)) (now (a .order)) (now (a .heights)) (now (a .names)) (now (a .points)) (now (a .ends)) (now (a .marks)) (now (a .ring)) (now (a .output)) (c .before .before .before .before .before .before .before .before .before .before .layers-test .result) (c .before .before .before .before .before .before .before .before .before .before .layers-test .ensures) (c .before .before .before .before .before .before .before .before .enum-told .given .1) (held-is (c .before .before .before .before .before .before .before .base-z .ok) (c .before .before .before .before .before .before .before .base-z .ensures)) (c .before .before .before .before .before .before .taken-count .ensures);
-    }
+    let at-count = c .before .before .before .before .before .before in
+    let at-base = at-count .before in
+    layers-tested (tested (at-base .before)) (held-is (at-base .base-z .ok) (at-base .base-z .ensures)) (at-count .taken-count .ensures)
 
 clear-work-requires : tie.Need-clear-work-requires
 clear-work-requires c κs =
-    let a = c .before .before .before .before .before .before .before .before .before .before .before .before .before .before .before .before .before .before .before .before .before .before .before .before .before .before .before .before .before .before .before .before .before .before .before .before .args in
-    let p = passed (now (a .coords)) (now (a .corners)) (now (a .pairing)) (now (a .order)) (now (a .heights)) (now (a .names)) (now (a .points)) (now (a .ends)) (now (a .marks)) (now (a .ring)) (now (a .output)) (c .before .before .before .before .before .before .before .before .before .before .before .before .before .before .before .before .before .before .before .before .before .before .before .before .before .before .before .layers-test .result) (c .before .before .before .before .before .before .before .before .before .before .before .before .before .before .before .before .before .before .before .before .before .before .before .before .before .before .before .layers-test .ensures) (c .before .before .before .before .before .before .before .before .before .before .before .before .before .before .before .before .before .before .before .before .before .before .before .before .before .enum-told .given .1) in
-    let w = c .before .before .before .before .before .before .before .before .before .before .before .before .before .before .before .before .put-file .ensures .1 in
-    (works-long (p .long) w, (omega (arith, p .ring-long, w .ring-spent .same-length), p .right .named .whole .few))
+    let at-put = c .before .before .before .before .before .before .before .before .before .before .before .before .before .before .before .before in
+    let t = tested (at-put .before .before .before .before .before .before .before .before .before) in
+    let w = at-put .put-file .ensures .1 in
+    (works-long (t .long) w, (omega (arith, t .ring-long, w .ring-spent .same-length), t .right .named .whole .few))
 
 same-length : tie.Need-same-length
 same-length c = search needs
@@ -63,8 +83,14 @@ same-length-6 c = search needs
 
 returns-2 : tie.Need-returns-2
 returns-2 c =
-    let a = c .before .before .before .before .before .before .before .before .before .before .before .before .before .before .before .before .before .before .before .before .before .before .before .before .before .before .before .before .before .before .before .before .before .before .before .before .before .before .before .before .before .before .before .before .before .before .args in
-    files-put (now (a .coords)) (now (a .corners)) (now (a .pairing)) (now (a .order)) (now (a .heights)) (now (a .names)) (now (a .points)) (now (a .ends)) (now (a .marks)) (now (a .ring)) (now (a .output)) (c .before .before .before .before .before .before .before .before .before .before .before .before .before .before .before .before .before .before .before .before .before .before .before .before .before .before .before .before .before .before .before .before .before .before .before .before .before .layers-test .result) (c .before .before .before .before .before .before .before .before .before .before .before .before .before .before .before .before .before .before .before .before .before .before .before .before .before .before .before .before .before .before .before .before .before .before .before .before .before .layers-test .ensures) (c .before .before .before .before .before .before .before .before .before .before .before .before .before .before .before .before .before .before .before .before .before .before .before .before .before .before .before .before .before .before .before .before .before .before .before .enum-told .given .1) (c .before .before .before .before .before .before .before .before .before .before .before .before .before .before .before .before .before .before .before .before .before .before .before .before .before .before .put-file .ensures .0) (c .before .before .before .before .before .before .before .before .before .before .before .before .before .before .before .before .before .before .before .before .before .before .before .before .before .before .put-file .ensures .1) (c .before .before .before .before .before .before .before .before .before .clear-work .ensures)
+    let at-clear = c .before .before .before .before .before .before .before .before .before in
+    let at-args = at-clear .before in
+    let at-put = at-args .before .before .before .before .before .before .before .before .before .before .before .before .before .before .before .before in
+    let at-fine = at-put .before .before .before .before .before .before .before .before .before in
+    let start = startOf at-fine in
+    let passed = ap tellVerdict (at-fine .enum-told .given .1) in
+    files-put (meshOf start) (now (start .args .heights)) (workOf start) (now (start .args .output)) (at-fine .before .before .layers-test .ensures) passed
+    (at-put .put-file .ensures .0) (at-put .put-file .ensures .1) (at-clear .clear-work .ensures)
 
 pub all-layers-spec : {M : Type 1} → statement M
 all-layers-spec =

@@ -16,7 +16,10 @@ z-span-requires : tie.Need-z-span-requires
 z-span-requires c κs = search needs
 
 returns-2 : tie.Need-returns-2
-returns-2 c = same w32 (c .before .z-span .result .low) (c .struct-told .given .0 .1) ∙ c .before .z-span .ensures .0 ∙ base-default (now (c .before .before .before .args .coords)) (now (c .before .before .before .args .heights)) (omega arith)
+returns-2 c =
+    let start = c .before .before .before in
+    same w32 (c .before .z-span .result .low) (c .struct-told .given .0 .1) ∙ c .before .z-span .ensures .0
+    ∙ base-default (now (start .args .coords)) (now (start .args .heights)) (omega arith)
 
 pub base-z-spec : {M : Type 1} → statement M
 base-z-spec = tie.close (tie.spec returns z-span-requires returns-2)

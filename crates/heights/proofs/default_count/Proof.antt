@@ -22,7 +22,9 @@ cast-high : tie.Need-cast-high
 cast-high c = cast-ok (word-held (c .before .before .before .before .z-span .result .high) (c .struct-told2 .given .1 .0 .1)) tt
 
 -- what `z_span` gave
-found : (c : tie.After-struct-told2) → let b = c .before .before .before .before in Found (now (b .before .before .args .coords)) (b .z-span .result .low) (b .z-span .result .high)
+found : (c : tie.After-struct-told2)
+    → let b = c .before .before .before .before in
+    Found (now (b .before .before .args .coords)) (b .z-span .result .low) (b .z-span .result .high)
 found c =
     let b = c .before .before .before .before in
     record {

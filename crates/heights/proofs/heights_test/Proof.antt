@@ -1,6 +1,6 @@
 -- `heights_test` meets its contract.
 use borrow.Author.Needs.{needs}
-use Rattle.mesh.specs.RefusalLaws.{test-refused, test-fine}
+use Rattle.mesh.specs.OperationLaws.{test-refused, test-fine}
 use Rattle.heights.proofs.heights_test.Statement.{statement}
 use Rattle.heights.proofs.heights_test.Tie as tie
 

@@ -24,7 +24,9 @@ shared-slice-copy-out-result-2 : tie.Need-shared-slice-copy-out-result-2
 shared-slice-copy-out-result-2 c = search needs
 
 returns-2 : tie.Need-returns-2
-returns-2 c = let s = c .before .before .before in forerunner (now (s .args .heights)) (s .args .i) (c .before .before .if1 .left) (c .before .result .given) (c .result2 .given)
+returns-2 c =
+    let s = c .before .before .before in
+    forerunner (now (s .args .heights)) (s .args .i) (c .before .before .if1 .left) (c .before .result .given) (c .result2 .given)
 
 pub not-above-last-spec : {M : Type 1} → statement M
 not-above-last-spec =

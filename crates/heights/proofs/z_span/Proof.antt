@@ -49,7 +49,8 @@ loop-less c = omega arith
 loop-again : tie.Need-loop-again Inv-loop μ-loop
 loop-again c =
     let b = c .before .before in
-    span-more (now (b .before .before .before .before .before .args .coords)) (b .before .before .loop .inv) (c .before .lower .result) (c .higher .result)
+    let start = b .before .before .before .before .before in
+    span-more (now (start .args .coords)) (b .before .before .loop .inv) (c .before .lower .result) (c .higher .result)
     (b .z .given) (c .before .lower .ok) (c .higher .ok) (c .before .lower .ensures) (c .higher .ensures) (omega arith)
 
 returns-2 : tie.Need-returns-2 Inv-loop μ-loop

@@ -1,7 +1,7 @@
 -- `list` meets its contract.
+use mathlib.Core.Path.{refl}
 use native.Mathlib.Omega.{arith}
-use borrow.Author.Needs.{needs}
-use Rattle.lister.proofs.Lists.{too-short, written}
+use Rattle.lister.proofs.Lists.{zeros-held, too-short, written}
 use borrow.Author.Needs.{needs}
 use Rattle.lister.proofs.list.Statement.{statement}
 use Rattle.lister.proofs.list.Tie as tie
@@ -37,13 +37,18 @@ slice-aggregate-list-with-9 : tie.Need-slice-aggregate-list-with-9
 slice-aggregate-list-with-9 c = search needs
 
 list-with-requires : tie.Need-list-with-requires
-list-with-requires c κs = search needs
+list-with-requires c κs =
+    let at-if = c .before .before .before .before .before .before .before .before .before .before in
+    (refl, (zeros-held refl refl refl refl refl refl, omega (arith, at-if .if1 .left)))
 
 same-length : tie.Need-same-length
 same-length c = search needs
 
 returns-2 : tie.Need-returns-2
-returns-2 c = written (omega (arith, c .before .before .before .before .before .before .before .before .before .before .before .before .before .before .before .before .before .before .before .before .before .before .if1 .left)) (c .before .before .before .before .before .before .before .before .before .before .before .list-with .ensures)
+returns-2 c =
+    let at-list = c .before .before .before .before .before .before .before .before .before .before .before in
+    let at-if = at-list .before .before .before .before .before .before .before .before .before .before .before in
+    written (omega (arith, at-if .if1 .left)) (at-list .list-with .ensures)
 
 pub list-spec : {M : Type 1} → statement M
 list-spec =

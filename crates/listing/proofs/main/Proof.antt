@@ -1,5 +1,4 @@
 -- `main` meets its contract.
-use borrow.Author.Needs.{needs}
 use Rattle.listing.proofs.Reading.{position, front-length}
 use borrow.Author.Needs.{needs}
 use Rattle.listing.proofs.main.Statement.{statement}
@@ -18,7 +17,9 @@ array-share-prefix-input : tie.Need-array-share-prefix-input
 array-share-prefix-input c = position 0 _ _ (c .before .a .given .1) (c .before .before .before .before .read-input .ensures) .1
 
 slice-aggregate-write-listing : tie.Need-slice-aggregate-write-listing
-slice-aggregate-write-listing c = front-length _ _ (position 0 _ _ (c .before .before .a .given .1) (c .before .before .before .before .before .read-input .ensures) .1)
+slice-aggregate-write-listing c =
+    let at-read = c .before .before .before .before .before in
+    front-length _ _ (position 0 _ _ (c .before .before .a .given .1) (at-read .read-input .ensures) .1)
 
 write-listing-requires : tie.Need-write-listing-requires
 write-listing-requires c κs = search needs

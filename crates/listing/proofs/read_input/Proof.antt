@@ -2,9 +2,9 @@
 use Prim.Native.Nat.{_-_, _≤_}
 use mathlib.Core.Path.{_≡_, refl, _∙_}
 use native.Mathlib.Omega.{arith}
-use borrow.Author.Needs.{needs}
 use lib.ListN.{length}
 use Rattle.listing.proofs.Reading.{position}
+use borrow.Author.Needs.{needs}
 use Rattle.listing.proofs.read_input.Statement.{statement}
 use Rattle.listing.proofs.read_input.Tie as tie
 
@@ -27,22 +27,35 @@ enum-told : tie.Need-enum-told Inv-loop μ-loop
 enum-told c = search needs
 
 same-length : tie.Need-same-length Inv-loop μ-loop
-same-length c = c .before .before .before .before .read-on .kept .0 ∙ c .before .before .before .before .before .before .before .loop .inv .1
+same-length c =
+    let at-read = c .before .before .before .before in
+    at-read .read-on .kept .0 ∙ at-read .before .before .before .loop .inv .1
 
 returns : tie.Need-returns Inv-loop μ-loop
 returns c = tt
 
 same-length-2 : tie.Need-same-length-2 Inv-loop μ-loop
-same-length-2 c = c .before .before .before .before .before .before .read-on .kept .0 ∙ c .before .before .before .before .before .before .before .before .before .loop .inv .1
+same-length-2 c =
+    let at-read = c .before .before .before .before .before .before in
+    at-read .read-on .kept .0 ∙ at-read .before .before .before .loop .inv .1
 
 returns-2 : tie.Need-returns-2 Inv-loop μ-loop
-returns-2 c = let p = position (c .before .before .before .before .before .before .before .before .before .loop .done) _ _ (c .before .before .a .given .1) (c .before .before .before .before .before .before .read-on .ensures) in (omega arith, omega (arith, p .0, p .1, c .if1 .taken))
+returns-2 c =
+    let at-read = c .before .before .before .before .before .before in
+    let p = position (at-read .before .before .before .loop .done) _ _ (c .before .before .a .given .1) (at-read .read-on .ensures) in
+    (omega arith, omega (arith, p .0, p .1, c .if1 .taken))
 
 loop-less : tie.Need-loop-less Inv-loop μ-loop
-loop-less c = let p = position (c .before .before .before .before .before .before .before .before .before .loop .done) _ _ (c .before .before .a .given .1) (c .before .before .before .before .before .before .read-on .ensures) in omega (arith, p .0, p .1, c .if1 .left, c .before .before .before .before .before .before .read-on .kept .0 ∙ c .before .before .before .before .before .before .before .before .before .loop .inv .1)
+loop-less c =
+    let at-read = c .before .before .before .before .before .before in
+    let p = position (at-read .before .before .before .loop .done) _ _ (c .before .before .a .given .1) (at-read .read-on .ensures) in
+    omega (arith, p .0, p .1, c .if1 .left, at-read .read-on .kept .0 ∙ at-read .before .before .before .loop .inv .1)
 
 loop-again : tie.Need-loop-again Inv-loop μ-loop
-loop-again c = let p = position (c .before .before .before .before .before .before .before .before .before .loop .done) _ _ (c .before .before .a .given .1) (c .before .before .before .before .before .before .read-on .ensures) in (p .1, c .before .before .before .before .before .before .read-on .kept .0 ∙ c .before .before .before .before .before .before .before .before .before .loop .inv .1)
+loop-again c =
+    let at-read = c .before .before .before .before .before .before in
+    let p = position (at-read .before .before .before .loop .done) _ _ (c .before .before .a .given .1) (at-read .read-on .ensures) in
+    (p .1, at-read .read-on .kept .0 ∙ at-read .before .before .before .loop .inv .1)
 
 same-length-3 : tie.Need-same-length-3 Inv-loop μ-loop
 same-length-3 c = c .before .loop .inv .1

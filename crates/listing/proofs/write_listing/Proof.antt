@@ -1,5 +1,4 @@
 -- `write_listing` meets its contract.
-use borrow.Author.Needs.{needs}
 use Rattle.lister.specs.ListingLaws.{written}
 use Rattle.listing.proofs.Reading.{front-length}
 use borrow.Author.Needs.{needs}
@@ -19,7 +18,9 @@ array-share-prefix-output : tie.Need-array-share-prefix-output
 array-share-prefix-output c = written (c .before .before .before .before .list .ensures) (c .before .a .given .1) .within
 
 slice-aggregate-write-all : tie.Need-slice-aggregate-write-all
-slice-aggregate-write-all c = front-length _ _ (written (c .before .before .before .before .before .list .ensures) (c .before .before .a .given .1) .within)
+slice-aggregate-write-all c =
+    let at-list = c .before .before .before .before .before in
+    front-length _ _ (written (at-list .list .ensures) (c .before .before .a .given .1) .within)
 
 write-all-requires : tie.Need-write-all-requires
 write-all-requires c κs = search needs

@@ -39,7 +39,9 @@ array-share-prefix-heights : tie.Need-array-share-prefix-heights
 array-share-prefix-heights c = search needs
 
 slice-aggregate-file-heights : tie.Need-slice-aggregate-file-heights
-slice-aggregate-file-heights c = omega (arith, length-take 4096 (c .before .before .before .before .rise .last .0), c .before .before .before .before .rise .kept .0)
+slice-aggregate-file-heights c =
+    let at-rise = c .before .before .before .before in
+    omega (arith, length-take 4096 (at-rise .rise .last .0), at-rise .rise .kept .0)
 
 file-heights-requires : tie.Need-file-heights-requires
 file-heights-requires c κs = search needs

@@ -15,7 +15,9 @@ array-share-prefix-line : tie.Need-array-share-prefix-line
 array-share-prefix-line c = search needs
 
 slice-aggregate-write-all : tie.Need-slice-aggregate-write-all
-slice-aggregate-write-all c = omega (arith, length-take (c .before .before .write-refusal .result) (c .before .before .write-refusal .last .0), c .before .before .write-refusal .ensures .within)
+slice-aggregate-write-all c =
+    let wrote = c .before .before .write-refusal in
+    omega (arith, length-take (wrote .result) (wrote .last .0), wrote .ensures .within)
 
 write-all-requires : tie.Need-write-all-requires
 write-all-requires c κs = search needs

@@ -1,14 +1,14 @@
 -- `locate` meets its contract.
 use mathlib.Core.Path.{_≡_, sym, _∙_, subst}
-use lib.ListN.{drop}
-use Rattle.formats.specs.Formats.{sequence}
-use Rattle.formats.specs.LayerFile.{mostLayers, layer, lowest, heightOf}
+use mathlib.Core.List.{List}
+use Prim.Native.Nat.{ℕ}
+use Rattle.formats.specs.Formats.{Parse}
+use Rattle.formats.specs.LayerFile.{Layer, mostLayers, lowest}
 use Rattle.formats.specs.Positions.{numberAt}
 use Rattle.formats.specs.PositionLaws.{took}
 use Rattle.formats.specs.declared.Number.the-variants.{Value}
-use Rattle.checking.specs.Answers.{final}
 use Rattle.reader.specs.ReadingLaws.{verdict-broken, verdict-absent}
-use Rattle.reader.specs.Places.{Searched}
+use Rattle.reader.specs.Places.{lastLayers, Searched}
 use Rattle.reader.specs.declared.Search.{Search}
 use Rattle.reader.proofs.Answering.{no-count, searched-broken, searched-missing, searched-found, Held, refused-short, ready}
 use borrow.Author.Needs.{needs}
@@ -25,23 +25,47 @@ enum-told : tie.Need-enum-told
 enum-told c = search needs
 
 returns : tie.Need-returns
-returns c = verdict-broken _ (c .before .before .before .before .args .i) _ _ _ (no-count _ (sym (c .before .before .read-number .ensures) ∙ c .enum-told .given .1))
+returns c =
+    let at-number = c .before .before in
+    let i = at-number .before .before .args .i in
+    verdict-broken _ i _ (no-count _ (sym (at-number .read-number .ensures) ∙ c .enum-told .given .1))
 
--- the layer count
-count : (c : tie.After-known-told) → numberAt mostLayers (c .before .before .before .before .before .args .file .now) 0 ≡ Value (c .before .n .given .0 .0) (c .before .n .given .0 .1 .0)
-count c = sym (c .before .before .before .read-number .ensures) ∙ c .before .n .given .1
+-- the layer count, and where the layers start
+module _ (c : tie.After-known-told) where
+  abbrev entry : tie.Start
+  entry = c .before .before .before .before .before
+
+  abbrev file : List ℕ
+  file = entry .args .file .now
+
+  abbrev number : ℕ
+  number = c .before .n .given .0 .0
+
+  abbrev start : ℕ
+  start = c .before .n .given .0 .1 .0
+
+  count : numberAt mostLayers file 0 ≡ Value number start
+  count = sym (c .before .before .before .read-number .ensures) ∙ c .before .n .given .1
+
+  -- the layers
+  abbrev layers : Parse (List Layer)
+  layers = lastLayers number lowest file start
 
 find-layer-requires : tie.Need-find-layer-requires
-find-layer-requires c κs = took _ _ _ _ _ (count c) .inside
+find-layer-requires c κs = took (count c) .inside
 
 -- what the search says
 sought : (c : tie.After-find-layer) {s : Search} → c .find-layer .result ≡ s
-    → Searched (c .before .before .before .before .before .before .args .file .now) (c .before .before .before .before .before .before .args .i) ((final (sequence layer heightOf (c .before .before .n .given .0 .0) lowest)) .parse (drop (c .before .before .n .given .0 .1 .0) (c .before .before .before .before .before .before .args .file .now))) s
-sought c e = subst (Searched (c .before .before .before .before .before .before .args .file .now) (c .before .before .before .before .before .before .args .i) ((final (sequence layer heightOf (c .before .before .n .given .0 .0) lowest)) .parse (drop (c .before .before .n .given .0 .1 .0) (c .before .before .before .before .before .before .args .file .now)))) e (c .find-layer .ensures)
+    → Searched (file (c .before)) (entry (c .before) .args .i) (layers (c .before)) s
+sought c e = subst (Searched (file (c .before)) (entry (c .before) .args .i) (layers (c .before))) e (c .find-layer .ensures)
 
 -- the layer that it found
-layer-held : (c : tie.After-known-told2) → Held (c .before .before .before .before .before .before .before .before .before .args .file .now) (c .before .before .before .before .before .n .given .0 .0) (c .before .before .before .before .before .n .given .0 .1 .0) (count (c .before .before .before .before)) (c .before .before .before .before .before .before .before .before .before .args .i) (c .before .s .given .0 .0)
-layer-held c = searched-found _ _ _ (count (c .before .before .before .before)) _ _ (sought (c .before .before .before) (c .before .s .given .1))
+module _ (c : tie.After-known-told2) where
+  abbrev at-count : tie.After-known-told
+  at-count = c .before .before .before .before
+
+  layer-held : Held (file at-count) (count at-count) (entry at-count .args .i) (c .before .s .given .0 .0)
+  layer-held = searched-found _ (count at-count) _ (sought (c .before .before .before) (c .before .s .given .1))
 
 enum-known-s : tie.Need-enum-known-s
 enum-known-s c = search needs
@@ -50,7 +74,9 @@ room-for-requires : tie.Need-room-for-requires
 room-for-requires c κs = search needs
 
 returns-2 : tie.Need-returns-2
-returns-2 c = ready _ _ _ _ _ _ (count (c .before .before .before .before .before .before)) _ (layer-held (c .before .before)) (sym (c .before .room-for .ensures) ∙ c .if1 .taken)
+returns-2 c =
+    let found = c .before .before in
+    ready _ (layer-held found) (sym (c .before .room-for .ensures) ∙ c .if1 .taken)
 
 enum-told-2 : tie.Need-enum-told-2
 enum-told-2 c = search needs
@@ -59,13 +85,20 @@ enum-known-s-2 : tie.Need-enum-known-s-2
 enum-known-s-2 c = search needs
 
 returns-3 : tie.Need-returns-3
-returns-3 c = refused-short _ _ _ _ _ _ (count (c .before .before .before .before .before .before)) _ (layer-held (c .before .before)) (sym (c .before .room-for .ensures) ∙ c .if1 .left)
+returns-3 c =
+    let found = c .before .before in
+    refused-short _ (layer-held found) (sym (c .before .room-for .ensures) ∙ c .if1 .left)
 
 returns-4 : tie.Need-returns-4
-returns-4 c = let q = searched-missing _ _ _ (count (c .before .before .before)) _ (sought (c .before .before) (c .enum-told2 .given .1)) in verdict-absent _ _ _ _ (q .0) (q .1) (q .2)
+returns-4 c =
+    let q = searched-missing _ (count (c .before .before .before)) _ (sought (c .before .before) (c .enum-told2 .given .1)) in
+    verdict-absent _ _ _ (q .1) (q .2)
 
 returns-5 : tie.Need-returns-5
-returns-5 c = verdict-broken _ (c .before .before .before .before .before .before .before .before .before .args .i) _ _ _ (searched-broken _ _ _ (count (c .before .before .before .before)) (c .before .before .before .before .before .before .before .before .before .args .i) _ (sought (c .before .before .before) (c .before .s2 .given .1)))
+returns-5 c =
+    let at-search = c .before .before .before in
+    let i = entry (at-search .before) .args .i in
+    verdict-broken _ i _ (searched-broken _ (count (at-search .before)) i (sought at-search (c .before .s2 .given .1)))
 
 pub locate-spec : {M : Type 1} → statement M
 locate-spec =

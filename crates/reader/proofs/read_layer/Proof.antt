@@ -1,11 +1,15 @@
 -- `read_layer` meets its contract.
 use mathlib.Core.Path.{_≡_, subst}
+use mathlib.Core.List.{List}
+use Prim.Native.Nat.{ℕ}
 use native.Mathlib.Omega.{arith}
-use lib.ListN.{length}
+use lib.IntN.{ℤ}
 use mir.Syntax.{w32, w64}
 use mir.Val.{toZ, ofZ}
 use Rattle.laws.specs.Machine.{same}
+use Rattle.polygons.specs.Flat.{FlatLayer, flat}
 use Rattle.reader.specs.Places.{Located, Ready}
+use Rattle.reader.specs.Reading.{entriesOf}
 use Rattle.reader.specs.declared.Location.{Location}
 use Rattle.reader.proofs.Answering.{reads-refused, height-fits, fill-ready, reads-layer}
 use borrow.Author.Needs.{needs}
@@ -22,27 +26,48 @@ enum-known-a-2 : tie.Need-enum-known-a-2
 enum-known-a-2 c = search needs
 
 -- what the tests say
-told : (c : tie.After-locate) {a : Location} → c .locate .result ≡ a → Located (c .before .before .before .args .file .now) (c .before .before .before .args .i) (length (c .before .before .before .args .points .now)) (length (c .before .before .before .args .ends .now)) a
-told c e = subst (Located (c .before .before .before .args .file .now) (c .before .before .before .args .i) (length (c .before .before .before .args .points .now)) (length (c .before .before .before .args .ends .now))) e (c .locate .ensures)
+module _ (c : tie.After-locate) where
+  abbrev file : List ℕ
+  file = c .before .before .before .args .file .now
 
-ready : (c : tie.After-known-told2) → Ready (c .before .before .before .before .before .before .args .file .now) (c .before .before .before .before .before .before .args .i) (length (c .before .before .before .before .before .before .args .points .now)) (length (c .before .before .before .before .before .before .args .ends .now)) (c .before .a2 .given .0 .0) (c .before .a2 .given .0 .1 .0)
-ready c = told (c .before .before .before) (c .before .a2 .given .1)
+  abbrev index : ℕ
+  index = c .before .before .before .args .i
+
+  abbrev tables : FlatLayer
+  tables = flat (c .before .before .before .args .points .now) (c .before .before .before .args .ends .now)
+
+  told : {a : Location} → c .locate .result ≡ a → Located file index (entriesOf tables) a
+  told e = subst (Located file index (entriesOf tables)) e (c .locate .ensures)
+
+-- the layer that they found
+module _ (c : tie.After-known-told2) where
+  abbrev at-locate : tie.After-locate
+  at-locate = c .before .before .before
+
+  ready : Ready (file at-locate) (index at-locate) (entriesOf (tables at-locate)) (c .before .a2 .given .0 .0) (c .before .a2 .given .0 .1 .0)
+  ready = told at-locate (c .before .a2 .given .1)
+
+  -- its height as a number of 64 bits and of 32 bits
+  abbrev height : ℤ
+  height = c .before .a2 .given .0 .1 .0 .height
+
+  wide : toZ w64 (ofZ w64 height) ≡ height
+  wide = same w64 height (omega (arith, height-fits ready))
+
+  narrow : toZ w32 (ofZ w32 height) ≡ height
+  narrow = same w32 height (height-fits ready)
 
 fill-layer-requires : tie.Need-fill-layer-requires
-fill-layer-requires c κs = fill-ready _ _ (ready (c .before .before))
-
--- the height as a number of 64 bits and of 32 bits
-wide : (c : tie.After-known-told2) → toZ w64 (ofZ w64 (c .before .a2 .given .0 .1 .0 .height)) ≡ c .before .a2 .given .0 .1 .0 .height
-wide c = same w64 (c .before .a2 .given .0 .1 .0 .height) (omega (arith, height-fits (ready c)))
-
-narrow : (c : tie.After-known-told2) → toZ w32 (ofZ w32 (c .before .a2 .given .0 .1 .0 .height)) ≡ c .before .a2 .given .0 .1 .0 .height
-narrow c = same w32 (c .before .a2 .given .0 .1 .0 .height) (height-fits (ready c))
+fill-layer-requires c κs = fill-ready (ready (c .before .before))
 
 cast-t22 : tie.Need-cast-t22
-cast-t22 c = rw (wide (c .before .before .before .before .before .before .before .before)) (record { sfits = height-fits (ready (c .before .before .before .before .before .before .before .before)) })
+cast-t22 c =
+    let at-told2 = c .before .before .before .before .before .before .before .before in
+    let found = at-told2 in
+    rw (wide found) (record { sfits = height-fits (ready found) })
 
 returns : tie.Need-returns
-returns c = reads-refused _ (told (c .before .before .before) (c .before .a .given .1))
+returns c = reads-refused (told (c .before .before .before) (c .before .a .given .1))
 
 same-length : tie.Need-same-length
 same-length c = search needs
@@ -51,7 +76,11 @@ same-length-2 : tie.Need-same-length-2
 same-length-2 c = search needs
 
 returns-2 : tie.Need-returns-2
-returns-2 c = rw (wide (c .before .before .before .before .before .before .before .before), narrow (c .before .before .before .before .before .before .before .before)) (reads-layer _ _ (ready (c .before .before .before .before .before .before .before .before)) _ _ (c .before .before .before .before .before .fill-layer .ensures))
+returns-2 c =
+    let at-fill-layer = c .before .before .before .before .before in
+    let at-fill = at-fill-layer in
+    let found = at-fill .before .before .before in
+    rw (wide found, narrow found) (reads-layer (ready found) (at-fill .fill-layer .ensures))
 
 pub read-layer-spec : {M : Type 1} → statement M
 read-layer-spec =

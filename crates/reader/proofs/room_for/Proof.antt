@@ -4,10 +4,10 @@ use Rattle.reader.proofs.room_for.Statement.{statement}
 use Rattle.reader.proofs.room_for.Tie as tie
 
 returns : tie.Need-returns
-returns c = room-1 _ _ _ _ (c .if1 .taken)
+returns c = room-1 _ _ _ (c .if1 .taken)
 
 returns-2 : tie.Need-returns-2
-returns-2 c = room-2 _ _ _ _ (c .if1 .left)
+returns-2 c = room-2 _ _ _ (c .if1 .left)
 
 pub room-for-spec : {M : Type 1} → statement M
 room-for-spec =

@@ -1,10 +1,32 @@
 -- `layer` meets its contract.
 use denote.Ref.{now}
-use lib.ListN.{length}
-use Rattle.sweep.proofs.Operating.{held-tests, held-liftable, at-height, liftable, rises-refused, rises-lifted}
+use mathlib.Core.Path.{_≡_, ap}
+use Rattle.mesh.specs.Meshes.{ordered}
+use Rattle.mesh.specs.Operation.{verdict}
+use Rattle.mesh.specs.Refusals.{tellVerdict}
+use Rattle.cutter.specs.Cut.{CutTables, lent, lengthsOf}
+use Rattle.sweep.specs.Sweep.{Sweep, sweep}
+use Rattle.sweep.specs.Operations.{riseTests}
+use Rattle.sweep.proofs.Operating.{held-tests, held-tested, at-height, liftable, rises-refused, rises-lifted}
 use borrow.Author.Needs.{needs}
 use Rattle.sweep.proofs.layer.Statement.{statement}
 use Rattle.sweep.proofs.layer.Tie as tie
+
+abbrev sweepOf : tie.Start → Sweep
+sweepOf start =
+    sweep (ordered (now (start .args .coords)) (now (start .args .corners)) (now (start .args .pairing)) (now (start .args .order)))
+    (now (start .args .ring)) (start .args .state .passed)
+
+abbrev lentOf : tie.Start → CutTables
+lentOf start = lent (now (start .args .names)) (now (start .args .points)) (now (start .args .ends)) (now (start .args .marks))
+
+-- what the tests find, at the height that was handed in
+found : (c : tie.After-rise-test)
+    → let start = c .before .before .before .before .before .before .before .before .before in
+    tellVerdict (c .rise-test .result) ≡ verdict (riseTests (sweepOf start) (start .args .h) (lengthsOf (lentOf start)))
+found c =
+    let start = c .before .before .before .before .before .before .before .before .before in
+    held-tests (sweepOf start) (start .fits .h) (lengthsOf (lentOf start)) (c .rise-test .ensures)
 
 rise-test-requires : tie.Need-rise-test-requires
 rise-test-requires c κs = search needs
@@ -16,13 +38,21 @@ same-length : tie.Need-same-length
 same-length c = search needs
 
 returns : tie.Need-returns
-returns c = rises-refused (now (c .before .before .before .before .before .before .before .before .before .before .before .before .args .coords)) (now (c .before .before .before .before .before .before .before .before .before .before .before .before .args .corners)) (now (c .before .before .before .before .before .before .before .before .before .before .before .before .args .pairing)) (now (c .before .before .before .before .before .before .before .before .before .before .before .before .args .order)) (now (c .before .before .before .before .before .before .before .before .before .before .before .before .args .ring)) (c .before .before .before .before .before .before .before .before .before .before .before .before .args .state .passed) (c .before .before .before .before .before .before .before .before .before .before .before .before .args .h) (now (c .before .before .before .before .before .before .before .before .before .before .before .before .args .names)) (now (c .before .before .before .before .before .before .before .before .before .before .before .before .args .points)) (now (c .before .before .before .before .before .before .before .before .before .before .before .before .args .ends)) (now (c .before .before .before .before .before .before .before .before .before .before .before .before .args .marks)) (c .before .before .before .rise-test .result) (held-tests (now (c .before .before .before .before .before .before .before .before .before .before .before .before .args .coords)) (now (c .before .before .before .before .before .before .before .before .before .before .before .before .args .corners)) (now (c .before .before .before .before .before .before .before .before .before .before .before .before .args .pairing)) (now (c .before .before .before .before .before .before .before .before .before .before .before .before .args .order)) (now (c .before .before .before .before .before .before .before .before .before .before .before .before .args .ring)) (c .before .before .before .before .before .before .before .before .before .before .before .before .args .state .passed) (c .before .before .before .before .before .before .before .before .before .before .before .before .args .h) (length (now (c .before .before .before .before .before .before .before .before .before .before .before .before .args .names))) (length (now (c .before .before .before .before .before .before .before .before .before .before .before .before .args .points))) (length (now (c .before .before .before .before .before .before .before .before .before .before .before .before .args .ends))) (length (now (c .before .before .before .before .before .before .before .before .before .before .before .before .args .marks))) (c .before .before .before .before .before .before .before .before .before .before .before .before .fits .h) (c .before .before .before .rise-test .ensures)) _ (c .before .v .given .1)
+returns c =
+    let at-test = c .before .before .before in
+    let start = at-test .before .before .before .before .before .before .before .before .before in
+    rises-refused (sweepOf start) (start .args .h) (lentOf start) (found at-test) (ap tellVerdict (c .before .v .given .1))
 
 enum-told : tie.Need-enum-told
 enum-told c = search needs
 
 raise-requires : tie.Need-raise-requires
-raise-requires c κs = let p = liftable (now (c .before .before .before .before .before .before .before .before .before .before .before .before .before .before .before .before .args .coords)) (now (c .before .before .before .before .before .before .before .before .before .before .before .before .before .before .before .before .args .corners)) (now (c .before .before .before .before .before .before .before .before .before .before .before .before .before .before .before .before .args .pairing)) (now (c .before .before .before .before .before .before .before .before .before .before .before .before .before .before .before .before .args .order)) (now (c .before .before .before .before .before .before .before .before .before .before .before .before .before .before .before .before .args .ring)) (c .before .before .before .before .before .before .before .before .before .before .before .before .before .before .before .before .args .state .passed) (c .before .before .before .before .before .before .before .before .before .before .before .before .before .before .before .before .args .h) (now (c .before .before .before .before .before .before .before .before .before .before .before .before .before .before .before .before .args .names)) (now (c .before .before .before .before .before .before .before .before .before .before .before .before .before .before .before .before .args .points)) (now (c .before .before .before .before .before .before .before .before .before .before .before .before .before .before .before .before .args .ends)) (now (c .before .before .before .before .before .before .before .before .before .before .before .before .before .before .before .before .args .marks)) (c .before .before .before .before .before .before .before .rise-test .result) (held-tests (now (c .before .before .before .before .before .before .before .before .before .before .before .before .before .before .before .before .args .coords)) (now (c .before .before .before .before .before .before .before .before .before .before .before .before .before .before .before .before .args .corners)) (now (c .before .before .before .before .before .before .before .before .before .before .before .before .before .before .before .before .args .pairing)) (now (c .before .before .before .before .before .before .before .before .before .before .before .before .before .before .before .before .args .order)) (now (c .before .before .before .before .before .before .before .before .before .before .before .before .before .before .before .before .args .ring)) (c .before .before .before .before .before .before .before .before .before .before .before .before .before .before .before .before .args .state .passed) (c .before .before .before .before .before .before .before .before .before .before .before .before .before .before .before .before .args .h) (length (now (c .before .before .before .before .before .before .before .before .before .before .before .before .before .before .before .before .args .names))) (length (now (c .before .before .before .before .before .before .before .before .before .before .before .before .before .before .before .before .args .points))) (length (now (c .before .before .before .before .before .before .before .before .before .before .before .before .before .before .before .before .args .ends))) (length (now (c .before .before .before .before .before .before .before .before .before .before .before .before .before .before .before .before .args .marks))) (c .before .before .before .before .before .before .before .before .before .before .before .before .before .before .before .before .fits .h) (c .before .before .before .before .before .before .before .rise-test .ensures)) (c .before .before .before .before .before .enum-told .given .1) in (held-liftable (c .before .before .before .before .before .before .before .before .before .before .before .before .before .before .before .before .fits .h) (p .0), p .1)
+raise-requires c κs =
+    let at-fine = c .before .before .before .before .before in
+    let at-test = at-fine .before .before in
+    let start = at-test .before .before .before .before .before .before .before .before .before in
+    let p = liftable (sweepOf start) (start .args .h) (lentOf start) (found at-test) (ap tellVerdict (at-fine .enum-told .given .1)) in
+    (held-tested (sweepOf start) (start .fits .h) (p .0), p .1)
 
 same-length-2 : tie.Need-same-length-2
 same-length-2 c = search needs
@@ -40,7 +70,13 @@ same-length-6 : tie.Need-same-length-6
 same-length-6 c = search needs
 
 returns-2 : tie.Need-returns-2
-returns-2 c = rises-lifted (now (c .before .before .before .before .before .before .before .before .before .before .before .before .before .before .before .before .before .before .before .before .before .before .before .before .before .before .args .coords)) (now (c .before .before .before .before .before .before .before .before .before .before .before .before .before .before .before .before .before .before .before .before .before .before .before .before .before .before .args .corners)) (now (c .before .before .before .before .before .before .before .before .before .before .before .before .before .before .before .before .before .before .before .before .before .before .before .before .before .before .args .pairing)) (now (c .before .before .before .before .before .before .before .before .before .before .before .before .before .before .before .before .before .before .before .before .before .before .before .before .before .before .args .order)) (now (c .before .before .before .before .before .before .before .before .before .before .before .before .before .before .before .before .before .before .before .before .before .before .before .before .before .before .args .ring)) (c .before .before .before .before .before .before .before .before .before .before .before .before .before .before .before .before .before .before .before .before .before .before .before .before .before .before .args .state .passed) (c .before .before .before .before .before .before .before .before .before .before .before .before .before .before .before .before .before .before .before .before .before .before .before .before .before .before .args .h) (now (c .before .before .before .before .before .before .before .before .before .before .before .before .before .before .before .before .before .before .before .before .before .before .before .before .before .before .args .names)) (now (c .before .before .before .before .before .before .before .before .before .before .before .before .before .before .before .before .before .before .before .before .before .before .before .before .before .before .args .points)) (now (c .before .before .before .before .before .before .before .before .before .before .before .before .before .before .before .before .before .before .before .before .before .before .before .before .before .before .args .ends)) (now (c .before .before .before .before .before .before .before .before .before .before .before .before .before .before .before .before .before .before .before .before .before .before .before .before .before .before .args .marks)) (c .before .before .before .before .before .before .before .before .before .before .before .before .before .before .before .before .before .rise-test .result) (held-tests (now (c .before .before .before .before .before .before .before .before .before .before .before .before .before .before .before .before .before .before .before .before .before .before .before .before .before .before .args .coords)) (now (c .before .before .before .before .before .before .before .before .before .before .before .before .before .before .before .before .before .before .before .before .before .before .before .before .before .before .args .corners)) (now (c .before .before .before .before .before .before .before .before .before .before .before .before .before .before .before .before .before .before .before .before .before .before .before .before .before .before .args .pairing)) (now (c .before .before .before .before .before .before .before .before .before .before .before .before .before .before .before .before .before .before .before .before .before .before .before .before .before .before .args .order)) (now (c .before .before .before .before .before .before .before .before .before .before .before .before .before .before .before .before .before .before .before .before .before .before .before .before .before .before .args .ring)) (c .before .before .before .before .before .before .before .before .before .before .before .before .before .before .before .before .before .before .before .before .before .before .before .before .before .before .args .state .passed) (c .before .before .before .before .before .before .before .before .before .before .before .before .before .before .before .before .before .before .before .before .before .before .before .before .before .before .args .h) (length (now (c .before .before .before .before .before .before .before .before .before .before .before .before .before .before .before .before .before .before .before .before .before .before .before .before .before .before .args .names))) (length (now (c .before .before .before .before .before .before .before .before .before .before .before .before .before .before .before .before .before .before .before .before .before .before .before .before .before .before .args .points))) (length (now (c .before .before .before .before .before .before .before .before .before .before .before .before .before .before .before .before .before .before .before .before .before .before .before .before .before .before .args .ends))) (length (now (c .before .before .before .before .before .before .before .before .before .before .before .before .before .before .before .before .before .before .before .before .before .before .before .before .before .before .args .marks))) (c .before .before .before .before .before .before .before .before .before .before .before .before .before .before .before .before .before .before .before .before .before .before .before .before .before .before .fits .h) (c .before .before .before .before .before .before .before .before .before .before .before .before .before .before .before .before .before .rise-test .ensures)) (c .before .before .before .before .before .before .before .before .before .before .before .before .before .before .before .enum-told .given .1) (at-height (c .before .before .before .before .before .before .before .before .before .before .before .before .before .before .before .before .before .before .before .before .before .before .before .before .before .before .fits .h) (c .before .before .before .before .before .before .before .before .before .raise .ensures))
+returns-2 c =
+    let at-raise = c .before .before .before .before .before .before .before .before .before in
+    let at-fine = at-raise .before .before .before .before .before .before in
+    let at-test = at-fine .before .before in
+    let start = at-test .before .before .before .before .before .before .before .before .before in
+    rises-lifted (sweepOf start) (start .args .h) (lentOf start) (found at-test) (ap tellVerdict (at-fine .enum-told .given .1))
+    (at-height (sweepOf start) (start .fits .h) (at-raise .raise .ensures))
 
 pub layer-spec : {M : Type 1} → statement M
 layer-spec =

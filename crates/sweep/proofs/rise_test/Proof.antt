@@ -2,14 +2,26 @@
 use denote.Ref.{now}
 use mathlib.Core.Path.{ap, _∙_}
 use lib.IntN.{ℤ}
-use Rattle.mesh.specs.Refusals.{verdict}
-use Rattle.cutter.specs.Cut.{tests}
+use Rattle.mesh.specs.Meshes.{ordered}
+use Rattle.mesh.specs.Operation.{verdict}
+use Rattle.mesh.specs.OperationLaws.{join-stop, join-next}
+use Rattle.mesh.specs.Refusals.{tellVerdict}
+use Rattle.cutter.specs.Cut.{Lengths, lengths, tests}
+use Rattle.sweep.specs.Sweep.{Sweep, sweep}
+use Rattle.sweep.specs.Operations.{sweepTests}
 use Rattle.sweep.proofs.Moves.{back}
-use Rattle.sweep.proofs.Operating.{sweepTests, right-tested}
-use Rattle.mesh.specs.RefusalLaws.{join-stop, join-next}
+use Rattle.sweep.proofs.Operating.{right-tested}
 use borrow.Author.Needs.{needs}
 use Rattle.sweep.proofs.rise_test.Statement.{statement}
 use Rattle.sweep.proofs.rise_test.Tie as tie
+
+abbrev sweepOf : tie.Start → Sweep
+sweepOf start =
+    sweep (ordered (now (start .args .coords)) (now (start .args .corners)) (now (start .args .pairing)) (now (start .args .order)))
+    (now (start .args .ring)) (start .args .n)
+
+abbrev roomOf : tie.Start → Lengths
+roomOf start = lengths (start .args .names) (start .args .points) (start .args .ends) (start .args .marks)
 
 tables-test-requires : tie.Need-tables-test-requires
 tables-test-requires c κs = search needs
@@ -18,19 +30,28 @@ enum-told : tie.Need-enum-told
 enum-told c = search needs
 
 returns : tie.Need-returns
-returns c = join-stop (tests (now (c .before .before .before .before .before .before .before .args .coords)) (now (c .before .before .before .before .before .before .before .args .corners)) (now (c .before .before .before .before .before .before .before .args .pairing)) (c .before .before .before .before .before .before .before .args .names) (c .before .before .before .before .before .before .before .args .points) (c .before .before .before .before .before .before .before .args .ends) (c .before .before .before .before .before .before .before .args .marks)) (sweepTests (now (c .before .before .before .before .before .before .before .args .coords)) (now (c .before .before .before .before .before .before .before .args .corners)) (now (c .before .before .before .before .before .before .before .args .pairing)) (now (c .before .before .before .before .before .before .before .args .order)) (now (c .before .before .before .before .before .before .before .args .ring)) (c .before .before .before .before .before .before .before .args .n) (c .before .before .before .before .before .before .before .args .h)) (c .before .before .tables-test .ensures) (c .enum-told .given .1)
+returns c =
+    let start = c .before .before .before .before .before .before .before in
+    let s = sweepOf start in
+    join-stop (tests (s .ordered .paired) (roomOf start)) (sweepTests s (start .args .h)) (c .before .before .tables-test .ensures)
+    (ap tellVerdict (c .enum-told .given .1))
 
 enum-told-2 : tie.Need-enum-told-2
 enum-told-2 c = search needs
 
 sweep-test-requires : tie.Need-sweep-test-requires
-sweep-test-requires c κs = right-tested (now (c .before .before .before .before .before .before .before .args .coords)) (now (c .before .before .before .before .before .before .before .args .corners)) (now (c .before .before .before .before .before .before .before .args .pairing)) (c .before .before .before .before .before .before .before .args .names) (c .before .before .before .before .before .before .before .args .points) (c .before .before .before .before .before .before .before .args .ends) (c .before .before .before .before .before .before .before .args .marks) (c .before .before .tables-test .result) (c .before .before .tables-test .ensures) (c .enum-told2 .given .1)
+sweep-test-requires c κs =
+    let start = c .before .before .before .before .before .before .before in
+    right-tested (sweepOf start .ordered .paired) (roomOf start) (c .before .before .tables-test .ensures) (ap tellVerdict (c .enum-told2 .given .1))
 
 returns-2 : tie.Need-returns-2
 returns-2 c =
-    let s = c .before .before .before .before .before .before .before .before in
-    join-next (tests (now (c .before .before .before .before .before .before .before .before .args .coords)) (now (c .before .before .before .before .before .before .before .before .args .corners)) (now (c .before .before .before .before .before .before .before .before .args .pairing)) (c .before .before .before .before .before .before .before .before .args .names) (c .before .before .before .before .before .before .before .before .args .points) (c .before .before .before .before .before .before .before .before .args .ends) (c .before .before .before .before .before .before .before .before .args .marks)) (sweepTests (now (c .before .before .before .before .before .before .before .before .args .coords)) (now (c .before .before .before .before .before .before .before .before .args .corners)) (now (c .before .before .before .before .before .before .before .before .args .pairing)) (now (c .before .before .before .before .before .before .before .before .args .order)) (now (c .before .before .before .before .before .before .before .before .args .ring)) (c .before .before .before .before .before .before .before .before .args .n) (c .before .before .before .before .before .before .before .before .args .h)) (c .before .before .before .tables-test .ensures) (c .before .enum-told2 .given .1)
-    (c .sweep-test .ensures ∙ ap (λ (z : ℤ). verdict (sweepTests (now (s .args .coords)) (now (s .args .corners)) (now (s .args .pairing)) (now (s .args .order)) (now (s .args .ring)) (s .args .n) z)) (back (s .fits .h)))
+    let at-tables = c .before .before .before in
+    let start = at-tables .before .before .before .before .before in
+    let s = sweepOf start in
+    join-next (tests (s .ordered .paired) (roomOf start)) (sweepTests s (start .args .h)) (at-tables .tables-test .ensures)
+    (ap tellVerdict (c .before .enum-told2 .given .1))
+    (c .sweep-test .ensures ∙ ap (λ (z : ℤ). verdict (sweepTests s z)) (back (start .fits .h)))
 
 pub rise-test-spec : {M : Type 1} → statement M
 rise-test-spec =

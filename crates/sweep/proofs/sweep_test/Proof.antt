@@ -1,61 +1,112 @@
--- `sweep_test` meets its contract.
+-- `sweep_test` meets its contract: 8, 10, 11 and 12 in turn.
 use denote.Ref.{now}
 use mathlib.Core.Path.{ap, _∙_}
-use mathlib.Core.List.{[], _∷_}
 use lib.IntN.{ℤ}
-use Rattle.mesh.specs.Refusals.{test}
-use Rattle.sweep.specs.Operations.{wrongRing, notAbove}
+use Rattle.mesh.specs.Meshes.{ordered}
+use Rattle.mesh.specs.Operation.{test}
+use Rattle.mesh.specs.OperationLaws.{verdict-stop, verdict-next, verdict-one}
+use Rattle.mesh.specs.Refusals.{tellVerdict}
+use Rattle.sweep.specs.declared.SweepTest.the-variants.{Height}
+use Rattle.sweep.specs.Sweep.{Sweep, sweep}
+use Rattle.sweep.specs.SweepTests.{conditionOf}
+use Rattle.sweep.specs.Places.{Placed}
 use Rattle.sweep.proofs.Moves.{back}
-use Rattle.sweep.proofs.Operating.{stateTests, placed-of}
-use Rattle.mesh.specs.RefusalLaws.{verdict-stop, verdict-next, verdict-one, join-stop, join-next}
+use Rattle.sweep.proofs.Operating.{placed-of}
 use borrow.Author.Needs.{needs}
 use Rattle.sweep.proofs.sweep_test.Statement.{statement}
 use Rattle.sweep.proofs.sweep_test.Tie as tie
 
-state-test-requires : tie.Need-state-test-requires
-state-test-requires c κs = search needs
+abbrev sweepOf : tie.Start → Sweep
+sweepOf start =
+    sweep (ordered (now (start .args .coords)) (now (start .args .corners)) (now (start .args .pairing)) (now (start .args .order)))
+    (now (start .args .ring)) (start .args .n)
+
+-- what 8 and 10 establish
+placed : (c : tie.After-enum-told4)
+    → let at-order = c .before .before .before in
+    let start = at-order .before .before .before .before .before .before .before in
+    Placed (sweepOf start .ordered) (start .args .n)
+placed c =
+    let at-order = c .before .before .before in
+    let start = at-order .before .before .before .before .before .before .before in
+    placed-of (sweepOf start .ordered) (start .args .n) (start .pre) (at-order .before .before .one-test .ensures)
+    (ap tellVerdict (at-order .enum-told2 .given .1)) (c .before .before .one-test2 .ensures) (ap tellVerdict (c .enum-told4 .given .1))
+
+one-test-requires : tie.Need-one-test-requires
+one-test-requires c κs = search needs
 
 enum-told : tie.Need-enum-told
 enum-told c = search needs
 
 returns : tie.Need-returns
-returns c = join-stop (stateTests (now (c .before .before .before .before .before .before .before .args .coords)) (now (c .before .before .before .before .before .before .before .args .order)) (c .before .before .before .before .before .before .before .args .n)) ((wrongRing (now (c .before .before .before .before .before .before .before .args .corners)) (now (c .before .before .before .before .before .before .before .args .pairing)) (now (c .before .before .before .before .before .before .before .args .order)) (now (c .before .before .before .before .before .before .before .args .ring)) (c .before .before .before .before .before .before .before .args .n)) ∷ (notAbove (now (c .before .before .before .before .before .before .before .args .coords)) (now (c .before .before .before .before .before .before .before .args .order)) (c .before .before .before .before .before .before .before .args .n) (c .before .before .before .before .before .before .before .args .h)) ∷ []) (c .before .before .state-test .ensures) (c .enum-told .given .1)
+returns c = verdict-stop _ _ (c .before .before .one-test .ensures) (ap tellVerdict (c .enum-told .given .1))
 
 enum-told-2 : tie.Need-enum-told-2
 enum-told-2 c = search needs
 
-ring-test-requires : tie.Need-ring-test-requires
-ring-test-requires c κs = placed-of (now (c .before .before .before .before .before .before .before .args .coords)) (now (c .before .before .before .before .before .before .before .args .corners)) (now (c .before .before .before .before .before .before .before .args .pairing)) (now (c .before .before .before .before .before .before .before .args .order)) (c .before .before .before .before .before .before .before .args .n) (c .before .before .before .before .before .before .before .pre) (c .before .before .state-test .result) (c .before .before .state-test .ensures) (c .enum-told2 .given .1)
+one-test-requires-2 : tie.Need-one-test-requires-2
+one-test-requires-2 c κs = search needs
 
 enum-told-3 : tie.Need-enum-told-3
 enum-told-3 c = search needs
 
 returns-2 : tie.Need-returns-2
-returns-2 c = join-next (stateTests (now (c .before .before .before .before .before .before .before .before .before .before .args .coords)) (now (c .before .before .before .before .before .before .before .before .before .before .args .order)) (c .before .before .before .before .before .before .before .before .before .before .args .n)) ((wrongRing (now (c .before .before .before .before .before .before .before .before .before .before .args .corners)) (now (c .before .before .before .before .before .before .before .before .before .before .args .pairing)) (now (c .before .before .before .before .before .before .before .before .before .before .args .order)) (now (c .before .before .before .before .before .before .before .before .before .before .args .ring)) (c .before .before .before .before .before .before .before .before .before .before .args .n)) ∷ (notAbove (now (c .before .before .before .before .before .before .before .before .before .before .args .coords)) (now (c .before .before .before .before .before .before .before .before .before .before .args .order)) (c .before .before .before .before .before .before .before .before .before .before .args .n) (c .before .before .before .before .before .before .before .before .before .before .args .h)) ∷ []) (c .before .before .before .before .before .state-test .ensures) (c .before .before .before .enum-told2 .given .1) (verdict-stop (wrongRing (now (c .before .before .before .before .before .before .before .before .before .before .args .corners)) (now (c .before .before .before .before .before .before .before .before .before .before .args .pairing)) (now (c .before .before .before .before .before .before .before .before .before .before .args .order)) (now (c .before .before .before .before .before .before .before .before .before .before .args .ring)) (c .before .before .before .before .before .before .before .before .before .before .args .n)) ((notAbove (now (c .before .before .before .before .before .before .before .before .before .before .args .coords)) (now (c .before .before .before .before .before .before .before .before .before .before .args .order)) (c .before .before .before .before .before .before .before .before .before .before .args .n) (c .before .before .before .before .before .before .before .before .before .before .args .h)) ∷ []) (c .before .before .ring-test .ensures) (c .enum-told3 .given .1))
+returns-2 c =
+    let at-order = c .before .before .before in
+    verdict-next _ _ (at-order .before .before .one-test .ensures) (ap tellVerdict (at-order .enum-told2 .given .1))
+    (verdict-stop _ _ (c .before .before .one-test2 .ensures) (ap tellVerdict (c .enum-told3 .given .1)))
 
 enum-told-4 : tie.Need-enum-told-4
 enum-told-4 c = search needs
 
-height-test-requires : tie.Need-height-test-requires
-height-test-requires c κs = let p = placed-of (now (c .before .before .before .before .before .before .before .before .before .before .args .coords)) (now (c .before .before .before .before .before .before .before .before .before .before .args .corners)) (now (c .before .before .before .before .before .before .before .before .before .before .args .pairing)) (now (c .before .before .before .before .before .before .before .before .before .before .args .order)) (c .before .before .before .before .before .before .before .before .before .before .args .n) (c .before .before .before .before .before .before .before .before .before .before .pre) (c .before .before .before .before .before .state-test .result) (c .before .before .before .before .before .state-test .ensures) (c .before .before .before .enum-told2 .given .1) in (p .few, p .ranked)
+one-test-requires-3 : tie.Need-one-test-requires-3
+one-test-requires-3 c κs = placed c
+
+enum-told-5 : tie.Need-enum-told-5
+enum-told-5 c = search needs
 
 returns-3 : tie.Need-returns-3
 returns-3 c =
-    let s = c .before .before .before .before .before .before .before .before .before .before .before in
-    join-next (stateTests (now (c .before .before .before .before .before .before .before .before .before .before .before .args .coords)) (now (c .before .before .before .before .before .before .before .before .before .before .before .args .order)) (c .before .before .before .before .before .before .before .before .before .before .before .args .n)) ((wrongRing (now (c .before .before .before .before .before .before .before .before .before .before .before .args .corners)) (now (c .before .before .before .before .before .before .before .before .before .before .before .args .pairing)) (now (c .before .before .before .before .before .before .before .before .before .before .before .args .order)) (now (c .before .before .before .before .before .before .before .before .before .before .before .args .ring)) (c .before .before .before .before .before .before .before .before .before .before .before .args .n)) ∷ (notAbove (now (c .before .before .before .before .before .before .before .before .before .before .before .args .coords)) (now (c .before .before .before .before .before .before .before .before .before .before .before .args .order)) (c .before .before .before .before .before .before .before .before .before .before .before .args .n) (c .before .before .before .before .before .before .before .before .before .before .before .args .h)) ∷ []) (c .before .before .before .before .before .before .state-test .ensures) (c .before .before .before .before .enum-told2 .given .1) (verdict-next (wrongRing (now (c .before .before .before .before .before .before .before .before .before .before .before .args .corners)) (now (c .before .before .before .before .before .before .before .before .before .before .before .args .pairing)) (now (c .before .before .before .before .before .before .before .before .before .before .before .args .order)) (now (c .before .before .before .before .before .before .before .before .before .before .before .args .ring)) (c .before .before .before .before .before .before .before .before .before .before .before .args .n)) ((notAbove (now (c .before .before .before .before .before .before .before .before .before .before .before .args .coords)) (now (c .before .before .before .before .before .before .before .before .before .before .before .args .order)) (c .before .before .before .before .before .before .before .before .before .before .before .args .n) (c .before .before .before .before .before .before .before .before .before .before .before .args .h)) ∷ []) (c .before .before .before .ring-test .ensures) (c .before .enum-told4 .given .1)
-    (c .height-test .ensures ∙ ap (λ (z : ℤ). test (notAbove (now (s .args .coords)) (now (s .args .order)) (s .args .n) z)) (back (s .fits .h)) ∙ verdict-one (notAbove (now (c .before .before .before .before .before .before .before .before .before .before .before .args .coords)) (now (c .before .before .before .before .before .before .before .before .before .before .before .args .order)) (c .before .before .before .before .before .before .before .before .before .before .before .args .n) (c .before .before .before .before .before .before .before .before .before .before .before .args .h))))
+    let at-passed = c .before .before .before in
+    let at-order = at-passed .before .before .before in
+    verdict-next _ _ (at-order .before .before .one-test .ensures) (ap tellVerdict (at-order .enum-told2 .given .1))
+    (verdict-next _ _ (at-passed .before .before .one-test2 .ensures) (ap tellVerdict (at-passed .enum-told4 .given .1))
+    (verdict-stop _ _ (c .before .before .one-test3 .ensures) (ap tellVerdict (c .enum-told5 .given .1))))
+
+enum-told-6 : tie.Need-enum-told-6
+enum-told-6 c = search needs
+
+one-test-requires-4 : tie.Need-one-test-requires-4
+one-test-requires-4 c κs =
+    let p = placed (c .before .before .before) in
+    (p .few, p .ranked)
+
+returns-4 : tie.Need-returns-4
+returns-4 c =
+    let at-ring = c .before in
+    let at-passed = at-ring .before .before .before in
+    let at-order = at-passed .before .before .before in
+    let start = at-order .before .before .before .before .before .before .before in
+    verdict-next _ _ (at-order .before .before .one-test .ensures) (ap tellVerdict (at-order .enum-told2 .given .1))
+    (verdict-next _ _ (at-passed .before .before .one-test2 .ensures) (ap tellVerdict (at-passed .enum-told4 .given .1))
+    (verdict-next _ _ (at-ring .before .before .one-test3 .ensures) (ap tellVerdict (at-ring .enum-told6 .given .1))
+    (c .one-test4 .ensures ∙ ap (λ (z : ℤ). test (conditionOf Height (sweepOf start) z)) (back (start .fits .h)) ∙ verdict-one _)))
 
 pub sweep-test-spec : {M : Type 1} → statement M
 sweep-test-spec =
     tie.close
     (tie.spec
-    state-test-requires
+    one-test-requires
     enum-told
     returns
     enum-told-2
-    ring-test-requires
+    one-test-requires-2
     enum-told-3
     returns-2
     enum-told-4
-    height-test-requires
-    returns-3)
+    one-test-requires-3
+    enum-told-5
+    returns-3
+    enum-told-6
+    one-test-requires-4
+    returns-4)

@@ -1,6 +1,7 @@
 -- `wadroles_all_layers` meets its contract.
-use denote.Ref.{now}
-use Rattle.wadroles.proofs.Answers.{layers-filed, layers-refused}
+use mathlib.Core.Path.{refl, ap}
+use Rattle.layers.specs.AllLayers.{tellFiled}
+use Rattle.answers.specs.AnswerLaws.{exports-give, exports-refuse}
 use borrow.Author.Needs.{needs}
 use Rattle.wadroles.proofs.wadroles_all_layers.Statement.{statement}
 use Rattle.wadroles.proofs.wadroles_all_layers.Tie as tie
@@ -39,7 +40,9 @@ same-length-6 : tie.Need-same-length-6
 same-length-6 c = search needs
 
 returns : tie.Need-returns
-returns c = layers-filed (now (c .before .before .before .before .before .before .before .before .before .before .before .before .before .before .before .before .before .before .before .before .before .before .before .before .before .before .before .before .before .args .out)) (c .before .before .before .before .before .before .before .before .before .before .before .before .before .before .all-layers .ensures) (c .before .a .given .1)
+returns c =
+    let at-layers = c .before .before .before .before .before .before .before .before .before .before .before .before .before .before in
+    exports-give (at-layers .all-layers .ensures) (ap tellFiled (c .before .a .given .1)) refl
 
 same-length-7 : tie.Need-same-length-7
 same-length-7 c = search needs
@@ -60,7 +63,10 @@ same-length-12 : tie.Need-same-length-12
 same-length-12 c = search needs
 
 returns-2 : tie.Need-returns-2
-returns-2 c = layers-refused (now (c .before .before .before .before .before .before .before .before .before .before .before .before .before .before .before .before .before .before .before .before .before .before .before .before .before .before .before .before .before .before .before .args .out)) (c .before .before .before .before .before .before .before .before .before .before .before .before .before .before .before .before .all-layers .ensures) (c .before .before .before .a2 .given .1) (c .refuse .ensures .0) (c .refuse .ensures .1)
+returns-2 c =
+    let at-refused = c .before .before .before in
+    let at-layers = at-refused .before .before .before .before .before .before .before .before .before .before .before .before .before in
+    exports-refuse (at-layers .all-layers .ensures) (ap tellFiled (at-refused .a2 .given .1)) (c .refuse .ensures)
 
 pub wadroles-all-layers-spec : {M : Type 1} → statement M
 wadroles-all-layers-spec =

@@ -1,6 +1,10 @@
 -- `wadroles_area` meets its contract.
-use denote.Ref.{now}
-use Rattle.wadroles.proofs.Answers.{area-measured, area-refused}
+use mathlib.Core.Path.{ap, _∙_}
+use lib.ListN.{set}
+use Rattle.contours.specs.Areas.{tellArea}
+use Rattle.answers.specs.Answers.{wordOf}
+use Rattle.answers.specs.AnswerLaws.{exports-give, exports-refuse}
+use Rattle.wadroles.proofs.Numbers.{area-held}
 use borrow.Author.Needs.{needs}
 use Rattle.wadroles.proofs.wadroles_area.Statement.{statement}
 use Rattle.wadroles.proofs.wadroles_area.Tie as tie
@@ -24,10 +28,16 @@ refuse-requires : tie.Need-refuse-requires
 refuse-requires c κs = search needs
 
 returns : tie.Need-returns
-returns c = area-measured (now (c .before .before .before .before .before .args .points)) (now (c .before .before .before .before .before .args .out)) (c .before .before .before .before .area .ensures) (c .before .before .a .given .1) (c .word .ensures)
+returns c =
+    let at-area = c .before .before .before .before in
+    let given = c .before .before .a .given .1 in
+    let sent = c .word .ensures ∙ ap wordOf (area-held (at-area .area .ensures) given) in
+    exports-give (at-area .area .ensures) (ap tellArea given) (ap (set (at-area .before .args .out .now) 0) sent)
 
 returns-2 : tie.Need-returns-2
-returns-2 c = area-refused (now (c .before .before .before .before .before .before .args .points)) (now (c .before .before .before .before .before .before .args .out)) (c .before .before .before .before .before .area .ensures) (c .before .before .before .a2 .given .1) (c .refuse .ensures .0) (c .refuse .ensures .1)
+returns-2 c =
+    let at-refused = c .before .before .before in
+    exports-refuse (at-refused .before .before .area .ensures) (ap tellArea (at-refused .a2 .given .1)) (c .refuse .ensures)
 
 pub wadroles-area-spec : {M : Type 1} → statement M
 wadroles-area-spec =

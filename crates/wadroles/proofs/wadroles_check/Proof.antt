@@ -1,5 +1,7 @@
 -- `wadroles_check` meets its contract.
-use Rattle.wadroles.proofs.Answers.{check-accepted, check-refused}
+use mathlib.Core.Path.{refl, ap}
+use Rattle.checker.specs.Check.{tellCheck}
+use Rattle.answers.specs.AnswerLaws.{exports-give, exports-refuse}
 use borrow.Author.Needs.{needs}
 use Rattle.wadroles.proofs.wadroles_check.Statement.{statement}
 use Rattle.wadroles.proofs.wadroles_check.Tie as tie
@@ -23,7 +25,9 @@ same-length-2 : tie.Need-same-length-2
 same-length-2 c = search needs
 
 returns : tie.Need-returns
-returns c = check-accepted _ (c .before .before .before .before .before .before .check .ensures) (c .enum-told .given .1)
+returns c =
+    let at-check = c .before .before .before .before .before .before in
+    exports-give (at-check .check .ensures) (ap tellCheck (c .enum-told .given .1)) refl
 
 same-length-3 : tie.Need-same-length-3
 same-length-3 c = search needs
@@ -32,7 +36,10 @@ same-length-4 : tie.Need-same-length-4
 same-length-4 c = search needs
 
 returns-2 : tie.Need-returns-2
-returns-2 c = check-refused _ (c .before .before .before .before .before .before .before .before .before .check .ensures) (c .before .before .before .a .given .1) (c .refuse .ensures .0) (c .refuse .ensures .1)
+returns-2 c =
+    let at-refused = c .before .before .before in
+    let at-check = at-refused .before .before .before .before .before .before in
+    exports-refuse (at-check .check .ensures) (ap tellCheck (at-refused .a .given .1)) (c .refuse .ensures)
 
 pub wadroles-check-spec : {M : Type 1} → statement M
 wadroles-check-spec =

@@ -1,6 +1,6 @@
 -- `wadroles_contour` meets its contract.
-use denote.Ref.{now}
-use Rattle.wadroles.proofs.Answers.{contour-part}
+use mathlib.Core.Path.{refl}
+use lib.ListN.{set}
 use borrow.Author.Needs.{needs}
 use Rattle.wadroles.proofs.wadroles_contour.Statement.{statement}
 use Rattle.wadroles.proofs.wadroles_contour.Tie as tie
@@ -15,7 +15,9 @@ element-write-out-2 : tie.Need-element-write-out-2
 element-write-out-2 c = search needs
 
 returns : tie.Need-returns
-returns c = contour-part (now (c .before .before .args .points)) (now (c .before .before .args .ends)) (c .before .before .args .j) (now (c .before .before .args .out)) (c .part-of .ensures .0) (c .part-of .ensures .1)
+returns c =
+    let out = c .before .before .args .out .now in
+    record { returns = refl; writes = λ i. set (set out 0 (c .part-of .ensures .0 i)) 1 (c .part-of .ensures .1 i) }
 
 pub wadroles-contour-spec : {M : Type 1} → statement M
 wadroles-contour-spec =

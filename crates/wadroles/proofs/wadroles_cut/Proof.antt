@@ -1,6 +1,8 @@
 -- `wadroles_cut` meets its contract.
-use denote.Ref.{now}
-use Rattle.wadroles.proofs.Answers.{at-height, cut-layer, cut-refused}
+use mathlib.Core.Path.{refl, ap}
+use Rattle.cutter.specs.Cut.{tellCut}
+use Rattle.cutter.specs.CutLaws.{at-height}
+use Rattle.answers.specs.AnswerLaws.{exports-give, exports-refuse}
 use borrow.Author.Needs.{needs}
 use Rattle.wadroles.proofs.wadroles_cut.Statement.{statement}
 use Rattle.wadroles.proofs.wadroles_cut.Tie as tie
@@ -36,7 +38,10 @@ same-length-4 : tie.Need-same-length-4
 same-length-4 c = search needs
 
 returns : tie.Need-returns
-returns c = cut-layer (now (c .before .before .before .before .before .before .before .before .before .before .before .before .before .before .before .before .before .before .before .before .args .out)) (at-height (c .before .before .before .before .before .before .before .before .before .before .before .before .before .before .before .before .before .before .before .before .fits .h) (c .before .before .before .before .before .before .before .before .before .before .cut .ensures)) (c .before .a .given .1)
+returns c =
+    let at-cut = c .before .before .before .before .before .before .before .before .before .before in
+    let start = at-cut .before .before .before .before .before .before .before .before .before .before in
+    exports-give (at-height (start .fits .h) (at-cut .cut .ensures)) (ap tellCut (c .before .a .given .1)) refl
 
 same-length-5 : tie.Need-same-length-5
 same-length-5 c = search needs
@@ -51,7 +56,11 @@ same-length-8 : tie.Need-same-length-8
 same-length-8 c = search needs
 
 returns-2 : tie.Need-returns-2
-returns-2 c = cut-refused (now (c .before .before .before .before .before .before .before .before .before .before .before .before .before .before .before .before .before .before .before .before .before .before .args .out)) (at-height (c .before .before .before .before .before .before .before .before .before .before .before .before .before .before .before .before .before .before .before .before .before .before .fits .h) (c .before .before .before .before .before .before .before .before .before .before .before .before .cut .ensures)) (c .before .before .before .a2 .given .1) (c .refuse .ensures .0) (c .refuse .ensures .1)
+returns-2 c =
+    let at-refused = c .before .before .before in
+    let at-cut = at-refused .before .before .before .before .before .before .before .before .before in
+    let start = at-cut .before .before .before .before .before .before .before .before .before .before in
+    exports-refuse (at-height (start .fits .h) (at-cut .cut .ensures)) (ap tellCut (at-refused .a2 .given .1)) (c .refuse .ensures)
 
 pub wadroles-cut-spec : {M : Type 1} → statement M
 wadroles-cut-spec =

@@ -1,6 +1,8 @@
 -- `wadroles_layer` meets its contract.
-use denote.Ref.{now}
-use Rattle.wadroles.proofs.Answers.{rise-at-height, layer-risen, layer-refused}
+use mathlib.Core.Path.{refl, ap}
+use Rattle.sweep.specs.Operations.{tellRise}
+use Rattle.answers.specs.AnswerLaws.{exports-give, exports-refuse}
+use Rattle.wadroles.proofs.Numbers.{rises-at-height}
 use borrow.Author.Needs.{needs}
 use Rattle.wadroles.proofs.wadroles_layer.Statement.{statement}
 use Rattle.wadroles.proofs.wadroles_layer.Tie as tie
@@ -42,7 +44,10 @@ same-length-5 : tie.Need-same-length-5
 same-length-5 c = search needs
 
 returns : tie.Need-returns
-returns c = layer-risen (now (c .before .before .before .before .before .before .before .before .before .before .before .before .before .before .before .before .before .before .before .before .before .before .before .before .before .args .out)) (rise-at-height (c .before .before .before .before .before .before .before .before .before .before .before .before .before .before .before .before .before .before .before .before .before .before .before .before .before .fits .h) (c .before .before .before .before .before .before .before .before .before .before .before .before .layer .ensures)) (c .before .a .given .1)
+returns c =
+    let at-layer = c .before .before .before .before .before .before .before .before .before .before .before .before in
+    let start = at-layer .before .before .before .before .before .before .before .before .before .before .before .before .before in
+    exports-give (rises-at-height (start .fits .h) (at-layer .layer .ensures)) (ap tellRise (c .before .a .given .1)) refl
 
 same-length-6 : tie.Need-same-length-6
 same-length-6 c = search needs
@@ -60,7 +65,11 @@ same-length-10 : tie.Need-same-length-10
 same-length-10 c = search needs
 
 returns-2 : tie.Need-returns-2
-returns-2 c = layer-refused (now (c .before .before .before .before .before .before .before .before .before .before .before .before .before .before .before .before .before .before .before .before .before .before .before .before .before .before .before .args .out)) (rise-at-height (c .before .before .before .before .before .before .before .before .before .before .before .before .before .before .before .before .before .before .before .before .before .before .before .before .before .before .before .fits .h) (c .before .before .before .before .before .before .before .before .before .before .before .before .before .before .layer .ensures)) (c .before .before .before .a2 .given .1) (c .refuse .ensures .0) (c .refuse .ensures .1)
+returns-2 c =
+    let at-refused = c .before .before .before in
+    let at-layer = at-refused .before .before .before .before .before .before .before .before .before .before .before in
+    let start = at-layer .before .before .before .before .before .before .before .before .before .before .before .before .before in
+    exports-refuse (rises-at-height (start .fits .h) (at-layer .layer .ensures)) (ap tellRise (at-refused .a2 .given .1)) (c .refuse .ensures)
 
 pub wadroles-layer-spec : {M : Type 1} → statement M
 wadroles-layer-spec =

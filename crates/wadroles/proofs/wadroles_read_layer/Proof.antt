@@ -1,8 +1,9 @@
 -- `wadroles_read_layer` meets its contract.
-use denote.Ref.{now}
 use mathlib.Core.Path.{ap, _∙_}
+use Rattle.reader.specs.Reading.{tellReading}
 use Rattle.answers.specs.Answers.{wordOf}
-use Rattle.wadroles.proofs.Answers.{told-wide, told-same, read-layer, read-refused}
+use Rattle.answers.specs.AnswerLaws.{exports-refuse}
+use Rattle.wadroles.proofs.Numbers.{wide-fits, wide-held, layer-given}
 use borrow.Author.Needs.{needs}
 use Rattle.wadroles.proofs.wadroles_read_layer.Statement.{statement}
 use Rattle.wadroles.proofs.wadroles_read_layer.Tie as tie
@@ -17,7 +18,7 @@ element-write-out : tie.Need-element-write-out
 element-write-out c = search needs
 
 cast-word : tie.Need-cast-word
-cast-word c = told-wide (c .before .a .given .0 .1 .0) (c .known-told .given .1 .0 .1)
+cast-word c = wide-fits (c .before .a .given .0 .1 .0) (c .known-told .given .1 .0 .1)
 
 word-requires : tie.Need-word-requires
 word-requires c κs = search needs
@@ -44,7 +45,11 @@ same-length-2 : tie.Need-same-length-2
 same-length-2 c = search needs
 
 returns : tie.Need-returns
-returns c = let z = c .before .before .a .given .0 .1 .0 in read-layer (now (c .before .before .before .before .before .before .before .before .before .before .before .before .args .out)) (c .before .before .before .before .before .before .before .read-layer .ensures) (c .before .before .a .given .1) (c .word .ensures ∙ ap wordOf (told-same z (c .before .known-told .given .1 .0 .1)))
+returns c =
+    let at-read = c .before .before .before .before .before .before .before in
+    let found = c .before .before .a .given in
+    let sent = c .word .ensures ∙ ap wordOf (wide-held (found .0 .1 .0) (c .before .known-told .given .1 .0 .1)) in
+    layer-given _ (at-read .read-layer .ensures) (found .1) sent
 
 same-length-3 : tie.Need-same-length-3
 same-length-3 c = search needs
@@ -53,7 +58,10 @@ same-length-4 : tie.Need-same-length-4
 same-length-4 c = search needs
 
 returns-2 : tie.Need-returns-2
-returns-2 c = read-refused (now (c .before .before .before .before .before .before .before .before .before .before .before .before .before .args .out)) (c .before .before .before .before .before .before .before .before .read-layer .ensures) (c .before .before .before .a2 .given .1) (c .refuse .ensures .0) (c .refuse .ensures .1)
+returns-2 c =
+    let at-refused = c .before .before .before in
+    let at-read = at-refused .before .before .before .before .before in
+    exports-refuse (at-read .read-layer .ensures) (ap tellReading (at-refused .a2 .given .1)) (c .refuse .ensures)
 
 pub wadroles-read-layer-spec : {M : Type 1} → statement M
 wadroles-read-layer-spec =

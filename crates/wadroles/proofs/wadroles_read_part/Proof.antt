@@ -1,6 +1,7 @@
 -- `wadroles_read_part` meets its contract.
-use denote.Ref.{now}
-use Rattle.wadroles.proofs.Answers.{part-read, part-refused}
+use mathlib.Core.Path.{refl, ap}
+use Rattle.parts.specs.Parts.{tellParted}
+use Rattle.answers.specs.AnswerLaws.{exports-give, exports-refuse}
 use borrow.Author.Needs.{needs}
 use Rattle.wadroles.proofs.wadroles_read_part.Statement.{statement}
 use Rattle.wadroles.proofs.wadroles_read_part.Tie as tie
@@ -36,7 +37,9 @@ same-length-3 : tie.Need-same-length-3
 same-length-3 c = search needs
 
 returns : tie.Need-returns
-returns c = part-read (now (c .before .before .before .before .before .before .before .before .before .before .before .before .before .args .out)) (c .before .before .before .before .before .before .before .read-part .ensures) (c .before .a .given .1)
+returns c =
+    let at-read = c .before .before .before .before .before .before .before in
+    exports-give (at-read .read-part .ensures) (ap tellParted (c .before .a .given .1)) refl
 
 same-length-4 : tie.Need-same-length-4
 same-length-4 c = search needs
@@ -48,7 +51,10 @@ same-length-6 : tie.Need-same-length-6
 same-length-6 c = search needs
 
 returns-2 : tie.Need-returns-2
-returns-2 c = part-refused (now (c .before .before .before .before .before .before .before .before .before .before .before .before .before .before .before .args .out)) (c .before .before .before .before .before .before .before .before .before .read-part .ensures) (c .before .before .before .a2 .given .1) (c .refuse .ensures .0) (c .refuse .ensures .1)
+returns-2 c =
+    let at-refused = c .before .before .before in
+    let at-read = at-refused .before .before .before .before .before .before in
+    exports-refuse (at-read .read-part .ensures) (ap tellParted (at-refused .a2 .given .1)) (c .refuse .ensures)
 
 pub wadroles-read-part-spec : {M : Type 1} → statement M
 wadroles-read-part-spec =

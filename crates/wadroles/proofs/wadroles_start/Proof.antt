@@ -1,6 +1,7 @@
 -- `wadroles_start` meets its contract.
-use denote.Ref.{now}
-use Rattle.wadroles.proofs.Answers.{start-fresh, start-refused}
+use mathlib.Core.Path.{refl, ap}
+use Rattle.sweep.specs.Operations.{tellStart}
+use Rattle.answers.specs.AnswerLaws.{exports-give, exports-refuse}
 use borrow.Author.Needs.{needs}
 use Rattle.wadroles.proofs.wadroles_start.Statement.{statement}
 use Rattle.wadroles.proofs.wadroles_start.Tie as tie
@@ -24,13 +25,18 @@ same-length : tie.Need-same-length
 same-length c = search needs
 
 returns : tie.Need-returns
-returns c = start-fresh (now (c .before .before .before .before .before .before .before .before .before .args .out)) (c .before .before .before .before .before .start .ensures) (c .before .a .given .1)
+returns c =
+    let at-start = c .before .before .before .before .before in
+    exports-give (at-start .start .ensures) (ap tellStart (c .before .a .given .1)) refl
 
 same-length-2 : tie.Need-same-length-2
 same-length-2 c = search needs
 
 returns-2 : tie.Need-returns-2
-returns-2 c = start-refused (now (c .before .before .before .before .before .before .before .before .before .before .before .args .out)) (c .before .before .before .before .before .before .before .start .ensures) (c .before .before .before .a2 .given .1) (c .refuse .ensures .0) (c .refuse .ensures .1)
+returns-2 c =
+    let at-refused = c .before .before .before in
+    let at-start = at-refused .before .before .before .before in
+    exports-refuse (at-start .start .ensures) (ap tellStart (at-refused .a2 .given .1)) (c .refuse .ensures)
 
 pub wadroles-start-spec : {M : Type 1} → statement M
 wadroles-start-spec =

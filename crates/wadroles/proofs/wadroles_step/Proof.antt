@@ -1,6 +1,7 @@
 -- `wadroles_step` meets its contract.
-use denote.Ref.{now}
-use Rattle.wadroles.proofs.Answers.{step-taken, step-top, step-refused}
+use mathlib.Core.Path.{refl, ap}
+use Rattle.sweep.specs.Operations.{tellStep}
+use Rattle.answers.specs.AnswerLaws.{exports-give, exports-refuse}
 use borrow.Author.Needs.{needs}
 use Rattle.wadroles.proofs.wadroles_step.Statement.{statement}
 use Rattle.wadroles.proofs.wadroles_step.Tie as tie
@@ -36,19 +37,25 @@ same-length : tie.Need-same-length
 same-length c = search needs
 
 returns : tie.Need-returns
-returns c = step-taken (now (c .before .before .before .before .before .before .before .before .before .before .before .args .out)) (c .before .before .before .before .before .step .ensures) (c .before .a .given .1)
+returns c =
+    let at-step = c .before .before .before .before .before in
+    exports-give (at-step .step .ensures) (ap tellStep (c .before .a .given .1)) refl
 
 same-length-2 : tie.Need-same-length-2
 same-length-2 c = search needs
 
 returns-2 : tie.Need-returns-2
-returns-2 c = step-top (now (c .before .before .before .before .before .before .before .before .before .before .args .out)) (c .before .before .before .before .step .ensures) (c .enum-told .given .1)
+returns-2 c =
+    exports-give (c .before .before .before .before .step .ensures) (ap tellStep (c .enum-told .given .1)) refl
 
 same-length-3 : tie.Need-same-length-3
 same-length-3 c = search needs
 
 returns-3 : tie.Need-returns-3
-returns-3 c = step-refused (now (c .before .before .before .before .before .before .before .before .before .before .before .before .before .args .out)) (c .before .before .before .before .before .before .before .step .ensures) (c .before .before .before .a2 .given .1) (c .refuse .ensures .0) (c .refuse .ensures .1)
+returns-3 c =
+    let at-refused = c .before .before .before in
+    let at-step = at-refused .before .before .before .before in
+    exports-refuse (at-step .step .ensures) (ap tellStep (at-refused .a2 .given .1)) (c .refuse .ensures)
 
 pub wadroles-step-spec : {M : Type 1} → statement M
 wadroles-step-spec =

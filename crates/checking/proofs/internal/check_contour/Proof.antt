@@ -22,29 +22,46 @@ returns : tie.Need-returns
 returns c = no-count _ _ _ (c .before .before .before .before .pre) (sym (c .before .before .read-number .ensures) ∙ c .enum-told .given .1)
 
 -- the count read
-count : (c : tie.After-known-told) → numberAt (c .before .before .before .before .before .args .room) (c .before .before .before .before .before .args .file .now) (c .before .before .before .before .before .args .at) ≡ Value (c .before .n .given .0 .0) (c .before .n .given .0 .1 .0)
+count : (c : tie.After-known-told)
+    → let start = c .before .before .before .before .before in
+    numberAt (start .args .room) (start .args .file .now) (start .args .at)
+    ≡ Value (c .before .n .given .0 .0) (c .before .n .given .0 .1 .0)
 count c = sym (c .before .before .before .read-number .ensures) ∙ c .before .n .given .1
 
 returns-2 : tie.Need-returns-2
-returns-2 c = few-points _ _ _ (c .before .before .before .before .before .before .pre) _ _ (count (c .before)) (omega (arith, c .if1 .taken))
+returns-2 c =
+    let start = c .before .before .before .before .before .before in
+    few-points _ _ _ (start .pre) (count (c .before)) (omega (arith, c .if1 .taken))
 
 check-points-requires : tie.Need-check-points-requires
-check-points-requires c κs = took _ _ _ _ _ (count (c .before)) .inside
+check-points-requires c κs = took (count (c .before)) .inside
 
 enum-known-p : tie.Need-enum-known-p
 enum-known-p c = search needs
 
 sub-t12 : tie.Need-sub-t12
-sub-t12 c = took _ _ _ _ _ (count (c .before .before .before .before .before)) .low
+sub-t12 c =
+    let at-told = c .before .before .before .before .before in
+    took (count at-told) .low
 
 enum-known-p-2 : tie.Need-enum-known-p-2
 enum-known-p-2 c = search needs
 
 returns-3 : tie.Need-returns-3
-returns-3 c = points-pass _ _ _ (c .before .before .before .before .before .before .before .before .before .before .pre) _ _ (count (c .before .before .before .before .before)) (c .before .before .before .before .if1 .left) _ (sym (c .before .before .before .check-points .ensures) ∙ c .before .p .given .1)
+returns-3 c =
+    let at-check-points = c .before .before .before in
+    let at-if1 = at-check-points .before in
+    let at-told = at-if1 .before in
+    let start = at-told .before .before .before .before .before in
+    points-pass _ _ _ (start .pre) (count at-told) (at-if1 .if1 .left) (sym (at-check-points .check-points .ensures) ∙ c .before .p .given .1)
 
 returns-4 : tie.Need-returns-4
-returns-4 c = points-stop _ _ _ (c .before .before .before .before .before .before .before .before .before .before .pre) _ _ (count (c .before .before .before .before .before)) (c .before .before .before .before .if1 .left) _ (sym (c .before .before .before .check-points .ensures) ∙ c .before .p2 .given .1)
+returns-4 c =
+    let at-check-points = c .before .before .before in
+    let at-if1 = at-check-points .before in
+    let at-told = at-if1 .before in
+    let start = at-told .before .before .before .before .before in
+    points-stop _ _ _ (start .pre) (count at-told) (at-if1 .if1 .left) (sym (at-check-points .check-points .ensures) ∙ c .before .p2 .given .1)
 
 pub check-contour-spec : {M : Type 1} → statement M
 check-contour-spec =

@@ -28,7 +28,11 @@ enum-known-c-2 : tie.Need-enum-known-c-2 Inv-loop μ-loop
 enum-known-c-2 c = search needs
 
 returns : tie.Need-returns Inv-loop μ-loop
-returns c = contour-stops (c .before .before .before .before .before .loop .inv) (c .before .before .before .before .loop-test .taken) _ (sym (c .before .before .before .check-contour .ensures) ∙ c .before .c2 .given .1)
+returns c =
+    let at-check-contour = c .before .before .before in
+    let at-test = at-check-contour .before in
+    let at-loop = at-test .before in
+    contour-stops (at-loop .loop .inv) (at-test .loop-test .taken) (sym (at-check-contour .check-contour .ensures) ∙ c .before .c2 .given .1)
 
 sub-left : tie.Need-sub-left Inv-loop μ-loop
 sub-left c = search needs
@@ -37,7 +41,11 @@ loop-less : tie.Need-loop-less Inv-loop μ-loop
 loop-less c = search needs
 
 loop-again : tie.Need-loop-again Inv-loop μ-loop
-loop-again c = contour-passes (c .before .before .before .before .before .loop .inv) (c .before .before .before .before .loop-test .taken) _ _ (sym (c .before .before .before .check-contour .ensures) ∙ c .before .c .given .1)
+loop-again c =
+    let at-check-contour = c .before .before .before in
+    let at-test = at-check-contour .before in
+    let at-loop = at-test .before in
+    contour-passes (at-loop .loop .inv) (at-test .loop-test .taken) (sym (at-check-contour .check-contour .ensures) ∙ c .before .c .given .1)
 
 returns-2 : tie.Need-returns-2 Inv-loop μ-loop
 returns-2 c = run-end contour roomAfter (λ room next. End next room) Refused _ _ (c .before .loop .inv) (c .loop-test .left)

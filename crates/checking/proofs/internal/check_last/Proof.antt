@@ -10,8 +10,13 @@ use Rattle.checking.proofs.internal.check_last.Statement.{statement}
 use Rattle.checking.proofs.internal.check_last.Tie as tie
 
 -- what `check_layers` answered, of `low` as it was given
-answer : (c : tie.After-check-layers) → levelsAt (c .before .before .args .count) (c .before .before .args .low) (c .before .before .args .file .now) (c .before .before .args .at) ≡ c .check-layers .result
-answer c = sym (c .check-layers .ensures ∙ ap (λ (z : ℤ). levelsAt (c .before .before .args .count) z (c .before .before .args .file .now) (c .before .before .args .at)) (toZ-ofZ w64 (c .before .before .args .low) (c .before .before .fits .low)))
+answer : (c : tie.After-check-layers)
+    → levelsAt (c .before .before .args .count) (c .before .before .args .low) (c .before .before .args .file .now) (c .before .before .args .at)
+    ≡ c .check-layers .result
+answer c =
+    sym (c .check-layers .ensures ∙ ap
+    (λ (z : ℤ). levelsAt (c .before .before .args .count) z (c .before .before .args .file .now) (c .before .before .args .at))
+    (toZ-ofZ w64 (c .before .before .args .low) (c .before .before .fits .low)))
 
 check-layers-requires : tie.Need-check-layers-requires
 check-layers-requires c κs = search needs
@@ -20,16 +25,27 @@ enum-known-c : tie.Need-enum-known-c
 enum-known-c c = search needs
 
 returns : tie.Need-returns
-returns c = left-over (c .before .before .before .before .before .before .args .count) (c .before .before .before .before .before .before .args .low) _ _ (c .before .before .before .before .before .before .pre) _ _ (answer (c .before .before .before .before) ∙ c .before .before .c .given .1) (c .if1 .taken)
+returns c =
+    let at-c = c .before .before in
+    let at-check-layers = at-c .before .before in
+    let start = at-check-layers .before .before in
+    left-over (start .args .count) (start .args .low) _ _ (start .pre) (answer at-check-layers ∙ at-c .c .given .1) (c .if1 .taken)
 
 enum-known-c-2 : tie.Need-enum-known-c-2
 enum-known-c-2 c = search needs
 
 returns-2 : tie.Need-returns-2
-returns-2 c = all-passed (c .before .before .before .before .before .before .args .count) (c .before .before .before .before .before .before .args .low) _ _ (c .before .before .before .before .before .before .pre) _ _ (answer (c .before .before .before .before) ∙ c .before .before .c .given .1) (c .if1 .left)
+returns-2 c =
+    let at-c = c .before .before in
+    let at-check-layers = at-c .before .before in
+    let start = at-check-layers .before .before in
+    all-passed (start .args .count) (start .args .low) _ _ (start .pre) (answer at-check-layers ∙ at-c .c .given .1) (c .if1 .left)
 
 returns-3 : tie.Need-returns-3
-returns-3 c = layers-stop (c .before .before .before .before .before .args .count) (c .before .before .before .before .before .args .low) _ _ _ (answer (c .before .before .before) ∙ c .before .c2 .given .1)
+returns-3 c =
+    let at-check-layers = c .before .before .before in
+    let start = at-check-layers .before .before in
+    layers-stop (start .args .count) (start .args .low) _ _ (answer at-check-layers ∙ c .before .c2 .given .1)
 
 pub check-last-spec : {M : Type 1} → statement M
 check-last-spec =

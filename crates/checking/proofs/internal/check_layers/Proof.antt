@@ -12,13 +12,13 @@ use Rattle.checking.specs.declared.Height.the-variants.{Above}
 use Rattle.checking.specs.declared.Levels.{Levels}
 use Rattle.checking.specs.declared.Levels.the-variants.{End, Refused}
 use Rattle.checking.proofs.Runs.{running, run-end}
-use Rattle.checking.proofs.LayerSteps.{Rise, height-stops, height-in, contours-stop, layer-passes}
+use Rattle.checking.proofs.LayerSteps.{Climbing, height-stops, height-in, contours-stop, layer-passes}
 use borrow.Author.Needs.{needs}
 use Rattle.checking.proofs.internal.check_layers.Statement.{statement}
 use Rattle.checking.proofs.internal.check_layers.Tie as tie
 
 abbrev Inv-loop : tie.InvT-loop
-Inv-loop file at count low last₀ i₀ left₀ last i left = Rise file (levelsAt count (toZ w64 low) file at) (toZ w64 last) i left
+Inv-loop file at count low last₀ i₀ left₀ last i left = Climbing file (levelsAt count (toZ w64 low) file at) (toZ w64 last) i left
 
 abbrev μ-loop : tie.MeasureT-loop
 μ-loop file at count low last₀ i₀ left₀ last i left = left
@@ -27,7 +27,8 @@ loop-holds : tie.Need-loop-holds Inv-loop μ-loop
 loop-holds c = running layer heightOf (λ z next. End next z) Refused _ _ _ _ (c .before .pre)
 
 -- `low` is what it was
-as-given : (c : tie.Start Inv-loop μ-loop) {t : Levels} → t ≡ levelsAt (c .args .count) (toZ w64 (ofZ w64 (c .args .low))) (c .args .file .now) (c .args .at) → t ≡ levelsAt (c .args .count) (c .args .low) (c .args .file .now) (c .args .at)
+as-given : (c : tie.Start Inv-loop μ-loop) {t : Levels} → t ≡ levelsAt (c .args .count) (toZ w64 (ofZ w64 (c .args .low))) (c .args .file .now) (c .args .at)
+    → t ≡ levelsAt (c .args .count) (c .args .low) (c .args .file .now) (c .args .at)
 as-given c e = e ∙ ap (λ (z : ℤ). levelsAt (c .args .count) z (c .args .file .now) (c .args .at)) (toZ-ofZ w64 (c .args .low) (c .fits .low))
 
 read-height-requires : tie.Need-read-height-requires Inv-loop μ-loop
@@ -40,14 +41,26 @@ enum-told : tie.Need-enum-told Inv-loop μ-loop
 enum-told c = search needs
 
 returns : tie.Need-returns Inv-loop μ-loop
-returns c = as-given (c .before .before .before .before .before .before) (height-stops (c .before .before .before .before .loop .inv) (c .before .before .before .loop-test .taken) (sym (c .before .before .read-height .ensures) ∙ c .enum-told .given .1))
+returns c =
+    let at-read-height = c .before .before in
+    let at-test = at-read-height .before in
+    let at-loop = at-test .before in
+    let start = at-loop .before .before in
+    as-given start (height-stops (at-loop .loop .inv) (at-test .loop-test .taken) (sym (at-read-height .read-height .ensures) ∙ c .enum-told .given .1))
 
 -- the height read
-height : (c : tie.After-known-told Inv-loop μ-loop) → heightAt (toZ w64 (c .before .before .before .before .before .loop .last)) (c .before .before .before .before .before .before .before .args .file .now) (c .before .before .before .before .before .loop .i) ≡ Above (c .before .h .given .0 .0) (c .before .h .given .0 .1 .0)
+height : (c : tie.After-known-told Inv-loop μ-loop)
+    → let at-loop = c .before .before .before .before .before in
+    let start = at-loop .before .before in
+    heightAt (toZ w64 (at-loop .loop .last)) (start .args .file .now) (at-loop .loop .i)
+    ≡ Above (c .before .h .given .0 .0) (c .before .h .given .0 .1 .0)
 height c = sym (c .before .before .before .read-height .ensures) ∙ c .before .h .given .1
 
 check-counted-requires : tie.Need-check-counted-requires Inv-loop μ-loop
-check-counted-requires c κs = height-in (c .before .before .before .before .before .loop .inv) (c .before .before .before .before .loop-test .taken) _ _ (height c)
+check-counted-requires c κs =
+    let at-test = c .before .before .before .before in
+    let at-loop = at-test .before in
+    height-in (at-loop .loop .inv) (at-test .loop-test .taken) (height c)
 
 enum-known-c : tie.Need-enum-known-c Inv-loop μ-loop
 enum-known-c c = search needs
@@ -56,7 +69,15 @@ enum-known-c-2 : tie.Need-enum-known-c-2 Inv-loop μ-loop
 enum-known-c-2 c = search needs
 
 returns-2 : tie.Need-returns-2 Inv-loop μ-loop
-returns-2 c = as-given (c .before .before .before .before .before .before .before .before .before .before .before) (contours-stop (c .before .before .before .before .before .before .before .before .before .loop .inv) (c .before .before .before .before .before .before .before .before .loop-test .taken) _ _ (height (c .before .before .before .before)) _ (sym (c .before .before .before .check-counted .ensures) ∙ c .before .c2 .given .1))
+returns-2 c =
+    let at-check-counted = c .before .before .before in
+    let at-told = at-check-counted .before in
+    let at-test = at-told .before .before .before .before in
+    let at-loop = at-test .before in
+    let start = at-loop .before .before in
+    as-given start
+    (contours-stop (at-loop .loop .inv) (at-test .loop-test .taken) (height at-told)
+    (sym (at-check-counted .check-counted .ensures) ∙ c .before .c2 .given .1))
 
 sub-left : tie.Need-sub-left Inv-loop μ-loop
 sub-left c = search needs
@@ -66,8 +87,14 @@ loop-less c = search needs
 
 loop-again : tie.Need-loop-again Inv-loop μ-loop
 loop-again c =
-    rw (same w64 (c .before .before .before .before .before .h .given .0 .0) (omega arith))
-    (layer-passes (c .before .before .before .before .before .before .before .before .before .loop .inv) (c .before .before .before .before .before .before .before .before .loop-test .taken) _ _ (height (c .before .before .before .before)) _ _ _ (sym (c .before .before .before .check-counted .ensures) ∙ c .before .c .given .1))
+    let at-check-counted = c .before .before .before in
+    let at-told = at-check-counted .before in
+    let at-h = at-told .before in
+    let at-test = at-h .before .before .before in
+    let at-loop = at-test .before in
+    rw (same w64 (at-h .h .given .0 .0) (omega arith))
+    (layer-passes (at-loop .loop .inv) (at-test .loop-test .taken) (height at-told)
+    (sym (at-check-counted .check-counted .ensures) ∙ c .before .c .given .1))
 
 returns-3 : tie.Need-returns-3 Inv-loop μ-loop
 returns-3 c = as-given (c .before .before .before) (run-end layer heightOf (λ z next. End next z) Refused _ _ (c .before .loop .inv) (c .loop-test .left))

@@ -31,14 +31,24 @@ enum-told : tie.Need-enum-told Inv-loop μ-loop
 enum-told c = search needs
 
 returns : tie.Need-returns Inv-loop μ-loop
-returns c = no-x (c .before .before .before .before .loop .inv) (c .before .before .before .loop-test .taken) (sym (c .before .before .read-coordinate .ensures) ∙ c .enum-told .given .1)
+returns c =
+    let at-read-coordinate = c .before .before in
+    let at-test = at-read-coordinate .before in
+    let at-loop = at-test .before in
+    no-x (at-loop .loop .inv) (at-test .loop-test .taken) (sym (at-read-coordinate .read-coordinate .ensures) ∙ c .enum-told .given .1)
 
 -- the first coordinate read
-first : (c : tie.After-known-told Inv-loop μ-loop) → coordinateAt (toZ w32 (c .before .before .before .before .before .loop .x)) (c .before .before .before .before .before .before .before .args .file .now) (c .before .before .before .before .before .loop .i) ≡ At (c .before .a .given .0 .0) (c .before .a .given .0 .1 .0)
+first : (c : tie.After-known-told Inv-loop μ-loop)
+    → let at-loop = c .before .before .before .before .before in
+    let start = at-loop .before .before in
+    coordinateAt (toZ w32 (at-loop .loop .x)) (start .args .file .now) (at-loop .loop .i)
+    ≡ At (c .before .a .given .0 .0) (c .before .a .given .0 .1 .0)
 first c = sym (c .before .before .before .read-coordinate .ensures) ∙ c .before .a .given .1
 
 read-coordinate-requires-2 : tie.Need-read-coordinate-requires-2 Inv-loop μ-loop
-read-coordinate-requires-2 c κs = c .before .before .before .before .before .loop .inv .y-in
+read-coordinate-requires-2 c κs =
+    let at-loop = c .before .before .before .before .before in
+    at-loop .loop .inv .y-in
 
 enum-known-b : tie.Need-enum-known-b Inv-loop μ-loop
 enum-known-b c = search needs
@@ -47,7 +57,13 @@ enum-told-2 : tie.Need-enum-told-2 Inv-loop μ-loop
 enum-told-2 c = search needs
 
 returns-2 : tie.Need-returns-2 Inv-loop μ-loop
-returns-2 c = no-y (c .before .before .before .before .before .before .before .before .loop .inv) (c .before .before .before .before .before .before .before .loop-test .taken) _ _ (first (c .before .before .before)) (sym (c .before .before .read-coordinate2 .ensures) ∙ c .enum-told2 .given .1)
+returns-2 c =
+    let at-read-coordinate2 = c .before .before in
+    let at-told = at-read-coordinate2 .before in
+    let at-test = at-told .before .before .before .before in
+    let at-loop = at-test .before in
+    no-y (at-loop .loop .inv) (at-test .loop-test .taken) (first at-told)
+    (sym (at-read-coordinate2 .read-coordinate2 .ensures) ∙ c .enum-told2 .given .1)
 
 sub-left : tie.Need-sub-left Inv-loop μ-loop
 sub-left c = search needs
@@ -56,16 +72,25 @@ loop-less : tie.Need-loop-less Inv-loop μ-loop
 loop-less c = search needs
 
 -- the second coordinate read
-second : (c : tie.After-known-told2 Inv-loop μ-loop) → coordinateAt (toZ w32 (c .before .before .before .before .before .before .before .before .before .loop .y)) (c .before .before .before .before .before .before .before .before .before .before .before .args .file .now) (c .before .before .before .before .before .a .given .0 .1 .0) ≡ At (c .before .b .given .0 .0) (c .before .b .given .0 .1 .0)
+second : (c : tie.After-known-told2 Inv-loop μ-loop)
+    → let at-a = c .before .before .before .before .before in
+    let at-loop = at-a .before .before .before .before in
+    let start = at-loop .before .before in
+    coordinateAt (toZ w32 (at-loop .loop .y)) (start .args .file .now) (at-a .a .given .0 .1 .0)
+    ≡ At (c .before .b .given .0 .0) (c .before .b .given .0 .1 .0)
 second c = sym (c .before .before .before .read-coordinate2 .ensures) ∙ c .before .b .given .1
 
 loop-again : tie.Need-loop-again Inv-loop μ-loop
 loop-again c =
+    let at-told = c .before .before .before .before in
+    let at-a = at-told .before in
+    let at-test = at-a .before .before .before in
+    let at-loop = at-test .before in
     simp (
-      same-in w32 (c .before .before .before .before .before .a .given .0 .0) largest (x-near (c .before .before .before .before .before .before .before .before .before .loop .inv) (c .before .before .before .before .before .before .before .before .loop-test .taken) _ _ (first (c .before .before .before .before))) tt,
-      same-in w32 (c .before .b .given .0 .0) largest (y-near (c .before .before .before .before .before .before .before .before .before .loop .inv) (c .before .before .before .before .before .before .before .before .loop-test .taken) _ _ (first (c .before .before .before .before)) _ _ (second c)) tt,
+      same-in w32 (at-a .a .given .0 .0) largest (x-near (at-loop .loop .inv) (at-test .loop-test .taken) (first at-told)) tt,
+      same-in w32 (c .before .b .given .0 .0) largest (y-near (at-loop .loop .inv) (at-test .loop-test .taken) (first at-told) (second c)) tt,
     )
-    (next-point (c .before .before .before .before .before .before .before .before .before .loop .inv) (c .before .before .before .before .before .before .before .before .loop-test .taken) _ _ (first (c .before .before .before .before)) _ _ (second c))
+    (next-point (at-loop .loop .inv) (at-test .loop-test .taken) (first at-told) (second c))
 
 returns-3 : tie.Need-returns-3 Inv-loop μ-loop
 returns-3 c = check-end _ (c .before .loop .inv .check) (c .loop-test .left)

@@ -30,48 +30,62 @@ returns : tie.Need-returns
 returns c = no-number _ _ _ (sym (c .before .before .read-number .ensures) ∙ c .enum-told .given .1)
 
 cast-z : tie.Need-cast-z
-cast-z c = cast-ok (arg {w = w32} (c .before .before .before .before .before .fits .before) (c .before .before .before .before .before .pre)) tt
+cast-z c =
+    let start = c .before .before .before .before .before in
+    cast-ok (arg {w = w32} (start .fits .before) (start .pre)) tt
 
 signed-of-requires : tie.Need-signed-of-requires
 signed-of-requires c κs = search needs
 
 -- the number read, and the coordinate that it makes
 module _ (c : tie.After-signed-of) where
+  abbrev start : tie.Start
+  start = c .before .before .before .before .before .before
+
   abbrev m : ℕ
   m = c .before .before .n .given .0 .0
 
   abbrev next : ℕ
   next = c .before .before .n .given .0 .1 .0
 
-  read : numberAt word (c .before .before .before .before .before .before .args .file .now) (c .before .before .before .before .before .before .args .at) ≡ Value m next
+  read : numberAt word (start .args .file .now) (start .args .at) ≡ Value m next
   read = sym (c .before .before .before .before .read-number .ensures) ∙ c .before .before .n .given .1
 
-  abbrev before : Rd w64 (c .before .before .before .before .before .before .args .before) largest
-  before = cast (arg {w = w32} (c .before .before .before .before .before .before .fits .before) (c .before .before .before .before .before .before .pre)) tt
+  abbrev before : Rd w64 (start .args .before) largest
+  before = cast (arg {w = w32} (start .fits .before) (start .pre)) tt
 
   abbrev moved : Rd w64 (unzigzag m) 2147483648
-  moved = got (c .signed-of .ok) (c .signed-of .ensures) (unzigzag-abs m 2147483648 (omega (arith, took _ _ _ _ _ read .low)))
+  moved = got (c .signed-of .ok) (c .signed-of .ensures) (unzigzag-abs m 2147483648 (omega (arith, took read .low)))
 
-  abbrev z : Rd w64 (c .before .before .before .before .before .before .args .before +ℤ unzigzag m) 2148532224
+  abbrev z : Rd w64 (start .args .before +ℤ unzigzag m) 2148532224
   z = add before moved tt
 
 add-z : tie.Need-add-z
 add-z c = add-ok (before c) (moved c) tt
 
 returns-2 : tie.Need-returns-2
-returns-2 c = far _ _ _ _ _ (read (c .before)) (too-low _ (lt-true (z (c .before)) (lit (negsuc 1048575) tt) (c .if1 .taken)))
+returns-2 c = far _ _ _ (read (c .before)) (too-low _ (lt-true (z (c .before)) (lit (negsuc 1048575) tt) (c .if1 .taken)))
 
 returns-3 : tie.Need-returns-3
-returns-3 c = far _ _ _ _ _ (read (c .before .before)) (too-high _ (lt-true (lit (pos 1048576) tt) (z (c .before .before)) (c .if2 .taken)))
+returns-3 c = far _ _ _ (read (c .before .before)) (too-high _ (lt-true (lit (pos 1048576) tt) (z (c .before .before)) (c .if2 .taken)))
 
-within : (c : tie.Else2) → natAbs (c .before .before .before .before .before .before .before .before .args .before +ℤ unzigzag (m (c .before .before))) ≤ largest
-within c = in-range _ (lt-false (z (c .before .before)) (lit (negsuc 1048575) tt) (c .before .if1 .left)) (lt-false (lit (pos 1048576) tt) (z (c .before .before)) (c .if2 .left))
+-- the coordinate is in the range
+within : (c : tie.Else2)
+    → let at-signed-of = c .before .before in
+    natAbs (start at-signed-of .args .before +ℤ unzigzag (m at-signed-of)) ≤ largest
+within c =
+    in-range _
+    (lt-false (z (c .before .before)) (lit (negsuc 1048575) tt) (c .before .if1 .left))
+    (lt-false (lit (pos 1048576) tt) (z (c .before .before)) (c .if2 .left))
 
 cast-t11 : tie.Need-cast-t11
 cast-t11 c = cast-ok (bounded (z (c .before .before)) (within c)) tt
 
 returns-4 : tie.Need-returns-4
-returns-4 c = ap (λ (y : ℤ). At y (next (c .before .before))) ((cast {w′ = w32} (bounded (z (c .before .before)) (within c)) tt) .is) ∙ near _ _ _ _ _ (read (c .before .before)) (within c)
+returns-4 c =
+    let at-signed-of = c .before .before in
+    ap (λ (y : ℤ). At y (next at-signed-of)) ((cast {w′ = w32} (bounded (z at-signed-of) (within c)) tt) .is)
+    ∙ near _ _ _ (read at-signed-of) (within c)
 
 pub read-coordinate-spec : {M : Type 1} → statement M
 read-coordinate-spec =

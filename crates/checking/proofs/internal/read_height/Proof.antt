@@ -33,20 +33,26 @@ signed-of-requires c κs = search needs
 
 -- the number read, and the height that it stands for
 module _ (c : tie.After-signed-of) where
+  abbrev start : tie.Start
+  start = c .before .before .before .before .before .before
+
   abbrev m : ℕ
   m = c .before .before .n .given .0 .0
 
-  read : numberAt word (c .before .before .before .before .before .before .args .file .now) (c .before .before .before .before .before .before .args .at) ≡ Value m (c .before .before .n .given .0 .1 .0)
+  read : numberAt word (start .args .file .now) (start .args .at) ≡ Value m (c .before .before .n .given .0 .1 .0)
   read = sym (c .before .before .before .before .read-number .ensures) ∙ c .before .before .n .given .1
 
   abbrev height : Rd w64 (unzigzag m) 2147483648
-  height = got (c .signed-of .ok) (c .signed-of .ensures) (unzigzag-abs m 2147483648 (omega (arith, took _ _ _ _ _ read .low)))
+  height = got (c .signed-of .ok) (c .signed-of .ensures) (unzigzag-abs m 2147483648 (omega (arith, took read .low)))
 
 returns-2 : tie.Need-returns-2
-returns-2 c = ap (λ (z : ℤ). Above z (c .before .before .before .n .given .0 .1 .0)) (height (c .before) .is) ∙ above _ _ _ _ _ (read (c .before)) (lt-is (fit (c .before .before .before .before .before .before .before .fits .low)) (height (c .before)) (c .if1 .taken))
+returns-2 c =
+    let at-n = c .before .before .before in
+    ap (λ (z : ℤ). Above z (at-n .n .given .0 .1 .0)) (height (c .before) .is)
+    ∙ above _ _ _ (read (c .before)) (lt-is (fit (start (c .before) .fits .low)) (height (c .before)) (c .if1 .taken))
 
 returns-3 : tie.Need-returns-3
-returns-3 c = not-above _ _ _ _ _ (read (c .before)) (lt-is (fit (c .before .before .before .before .before .before .before .fits .low)) (height (c .before)) (c .if1 .left))
+returns-3 c = not-above _ _ _ (read (c .before)) (lt-is (fit (start (c .before) .fits .low)) (height (c .before)) (c .if1 .left))
 
 pub read-height-spec : {M : Type 1} → statement M
 read-height-spec =

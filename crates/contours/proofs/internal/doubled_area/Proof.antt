@@ -50,36 +50,51 @@ shared-slice-copy-out-v c = omega arith
 
 cross-requires : tie.Need-cross-requires Inv-loop μ-loop
 cross-requires c κs =
-    let r = c .before .before .before .before .before .before .before .pre in
-    let s = c .before .before .before .loop .inv .held in
-    let t = loaded r (c .before .before .before .loop .k + 1) in
+    let at-loop = c .before .before .before in
+    let start = at-loop .before .before .before .before in
+    let r = start .pre in
+    let s = at-loop .loop .inv .held in
+    let t = loaded r (at-loop .loop .k + 1) in
     search (needs, held-x r s, held-y r s, held-x r t, held-y r t)
 
 add-sum : tie.Need-add-sum Inv-loop μ-loop
-add-sum c = sum-ok (c .before .before .before .before .before .before .before .before .pre) (c .before .before .before .before .loop .inv) (c .cross .result) (c .cross .ok) (c .cross .ensures .1)
+add-sum c =
+    let at-loop = c .before .before .before .before in
+    let start = at-loop .before .before .before .before in
+    sum-ok (start .pre) (at-loop .loop .inv) (c .cross .result) (c .cross .ok) (c .cross .ensures .1)
 
 loop-less : tie.Need-loop-less Inv-loop μ-loop
 loop-less c = omega arith
 
 loop-again : tie.Need-loop-again Inv-loop μ-loop
 loop-again c =
-    let r = c .before .before .before .before .before .before .before .before .pre in
-    again r (c .before .before .before .before .loop .inv) (c .cross .result) (c .cross .ok) (c .cross .ensures .1) (loaded r (c .before .before .before .before .loop .k + 1)) (c .cross .ensures .0) (c .before .before .before .loop-test .taken)
+    let at-test = c .before .before .before in
+    let at-loop = at-test .before in
+    let start = at-loop .before .before .before .before in
+    let r = start .pre in
+    again r (at-loop .loop .inv) (c .cross .result) (c .cross .ok) (c .cross .ensures .1) (loaded r (at-loop .loop .k + 1)) (c .cross .ensures .0)
+    (at-test .loop-test .taken)
 
 cross-requires-2 : tie.Need-cross-requires-2 Inv-loop μ-loop
 cross-requires-2 c κs =
-    let r = c .before .before .before .before .before .pre in
+    let start = c .before .before .before .before .before in
+    let r = start .pre in
     let s = c .before .loop .inv .held in
     let t = loaded r 0 in
     search (needs, held-x r s, held-y r s, held-x r t, held-y r t)
 
 add-result : tie.Need-add-result Inv-loop μ-loop
-add-result c = sum-ok (c .before .before .before .before .before .before .pre) (c .before .before .loop .inv) (c .cross2 .result) (c .cross2 .ok) (c .cross2 .ensures .1)
+add-result c =
+    let at-loop = c .before .before in
+    let start = at-loop .before .before .before .before in
+    sum-ok (start .pre) (at-loop .loop .inv) (c .cross2 .result) (c .cross2 .ok) (c .cross2 .ensures .1)
 
 returns-2 : tie.Need-returns-2 Inv-loop μ-loop
 returns-2 c =
-    let r = c .before .before .before .before .before .before .pre in
-    closed r (c .before .before .loop .inv) (c .cross2 .result) (c .cross2 .ok) (c .cross2 .ensures .1) (loaded r 0) (c .cross2 .ensures .0) (c .before .loop-test .left)
+    let at-loop = c .before .before in
+    let start = at-loop .before .before .before .before in
+    let r = start .pre in
+    closed r (at-loop .loop .inv) (c .cross2 .result) (c .cross2 .ok) (c .cross2 .ensures .1) (loaded r 0) (c .cross2 .ensures .0) (c .before .loop-test .left)
 
 pub doubled-area-spec : {M : Type 1} → statement M
 doubled-area-spec =

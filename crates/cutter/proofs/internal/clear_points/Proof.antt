@@ -42,9 +42,10 @@ same-length c = let v = c .before .loop .inv in ap length (v .2) ∙ length-refi
 
 returns : tie.Need-returns Inv-loop μ-loop
 returns c =
+    let start = c .before .before in
     let v = c .before .loop .inv in
-    let e : c .before .loop .i ≡ c .before .before .args .n = omega arith in
-    v .2 ∙ ap (λ (k : ℕ). refill k (λ i. pos 0) (c .before .before .args .t .now)) e ∙ ap (λ (l : List ℤ). overwrite l (c .before .before .args .t .now)) (tabulate-const _ _)
+    let e : c .before .loop .i ≡ start .args .n = omega arith in
+    v .2 ∙ ap (λ (k : ℕ). refill k (λ i. pos 0) (start .args .t .now)) e ∙ ap (λ (l : List ℤ). overwrite l (start .args .t .now)) (tabulate-const _ _)
 
 pub clear-points-spec : {M : Type 1} → statement M
 clear-points-spec =

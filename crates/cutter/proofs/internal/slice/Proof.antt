@@ -4,7 +4,8 @@ use mathlib.Core.Path.{subst}
 use lib.IntN.{ℤ}
 use mir.Syntax.{w32}
 use mir.ValLaws.{toZ-ofZ}
-use Rattle.cutter.specs.Cut.{section}
+use Rattle.mesh.specs.Meshes.{paired}
+use Rattle.cutter.specs.Cut.{lent, section}
 use Rattle.cutter.specs.Outlines.{Traces}
 use Rattle.cutter.specs.OutlineLaws.{outlined, long-links, sliced}
 use Rattle.cutter.proofs.Slicing.{held}
@@ -16,7 +17,11 @@ link-at-requires : tie.Need-link-at-requires
 link-at-requires c κs = search needs
 
 outline-requires : tie.Need-outline-requires
-outline-requires c κs = (outlined (now (c .before .before .before .before .before .before .before .before .before .before .before .before .before .args .coords)) (now (c .before .before .before .before .before .before .before .before .before .before .before .before .before .args .corners)) (now (c .before .before .before .before .before .before .before .before .before .before .before .before .before .args .pairing)) (held (c .before .before .before .before .before .before .before .before .before .before .before .before .before .args .h)) (c .before .before .before .before .before .before .before .before .before .before .before .before .before .pre .0) _ _ (c .before .before .before .before .before .before .link-at .ensures), long-links (c .before .before .before .before .before .before .before .before .before .before .before .before .before .pre .1) (c .before .before .before .before .before .before .link-at .kept .1 .1 .1 .1 .0))
+outline-requires c κs =
+    let at-link = c .before .before .before .before .before .before in
+    let start = at-link .before .before .before .before .before .before .before in
+    let m = paired (now (start .args .coords)) (now (start .args .corners)) (now (start .args .pairing)) in
+    (outlined m (held (start .args .h)) (start .pre .0) _ _ (at-link .link-at .ensures), long-links (start .pre .1) (at-link .link-at .kept .1 .1 .1 .1 .0))
 
 same-length : tie.Need-same-length
 same-length c = search needs
@@ -32,9 +37,15 @@ same-length-4 c = search needs
 
 returns : tie.Need-returns
 returns c =
-    let a = c .before .before .before .before .before .before .before .before .before .before .before .before .before .before .before .before .before .before .before .before .before .args in
-    subst (λ (z : ℤ). Traces (section (now (a .coords)) (now (a .corners)) (now (a .pairing)) z) (now (a .coords)) (now (a .corners)) z (now (a .names)) (now (a .points)) (now (a .ends)) (now (a .marks)) (c .before .before .before .before .before .before .before .outline .result) (c .before .before .before .before .before .before .before .outline .last .1 .1 .1 .0) (c .before .before .before .before .before .before .before .outline .last .1 .1 .1 .1 .0) (c .before .before .before .before .before .before .before .outline .last .1 .1 .1 .1 .1 .0) (c .before .before .before .before .before .before .before .outline .last .1 .1 .1 .1 .1 .1 .0))
-    (toZ-ofZ w32 (a .h) (c .before .before .before .before .before .before .before .before .before .before .before .before .before .before .before .before .before .before .before .before .before .fits .h)) (sliced (now (c .before .before .before .before .before .before .before .before .before .before .before .before .before .before .before .before .before .before .before .before .before .args .coords)) (now (c .before .before .before .before .before .before .before .before .before .before .before .before .before .before .before .before .before .before .before .before .before .args .corners)) (now (c .before .before .before .before .before .before .before .before .before .before .before .before .before .before .before .before .before .before .before .before .before .args .pairing)) (held (c .before .before .before .before .before .before .before .before .before .before .before .before .before .before .before .before .before .before .before .before .before .args .h)) (c .before .before .before .before .before .before .before .before .before .before .before .before .before .before .before .before .before .before .before .before .before .pre .0) _ _ (c .before .before .before .before .before .before .before .before .before .before .before .before .before .before .link-at .ensures) (c .before .before .before .before .before .before .before .outline .ensures))
+    let at-outline = c .before .before .before .before .before .before .before in
+    let at-link = at-outline .before .before .before .before .before .before .before in
+    let start = at-link .before .before .before .before .before .before .before in
+    let m = paired (now (start .args .coords)) (now (start .args .corners)) (now (start .args .pairing)) in
+    let t = lent (now (start .args .names)) (now (start .args .points)) (now (start .args .ends)) (now (start .args .marks)) in
+    let left = at-outline .outline .last .1 .1 .1 in
+    subst (λ (z : ℤ). Traces (section m z) (m .mesh) z t (at-outline .outline .result) (lent (left .0) (left .1 .0) (left .1 .1 .0) (left .1 .1 .1 .0)))
+    (toZ-ofZ w32 (start .args .h) (start .fits .h))
+    (sliced m (held (start .args .h)) (start .pre .0) _ _ (at-link .link-at .ensures) (at-outline .outline .ensures))
 
 pub slice-spec : {M : Type 1} → statement M
 slice-spec =

@@ -1,11 +1,11 @@
 -- `internal::write_decimal` meets its contract.
-use native.Mathlib.Omega.{arith}
-use borrow.Author.Needs.{needs}
 use mathlib.Core.Path.{_∙_}
+use native.Mathlib.Omega.{arith}
 use lib.ListN.{length-set}
 use Rattle.decimals.specs.Decimals.{digit}
 use Rattle.decimals.specs.DecimalLaws.{decimal-pos}
 use Rattle.decimals.proofs.Spelling.{Spelling, spelling, spelling-size, spelling-room, spelling-back, spelling-next, spelling-last}
+use borrow.Author.Needs.{needs}
 use Rattle.decimals.proofs.internal.write_decimal.Statement.{statement}
 use Rattle.decimals.proofs.internal.write_decimal.Tie as tie
 
@@ -58,7 +58,9 @@ same-length : tie.Need-same-length Inv-loop μ-loop
 same-length c = length-set (c .before .loop .output) (c .before .loop .i) (digit (c .before .loop .rest)) ∙ spelling-size (c .before .loop .inv)
 
 returns : tie.Need-returns Inv-loop μ-loop
-returns c = spelling-last (c .before .loop .inv) (c .before .before .before .before .pre) (c .loop-test .left) (omega (arith, c .before .before .digit-count .ensures))
+returns c =
+    let start = c .before .before .before .before in
+    spelling-last (c .before .loop .inv) (start .pre) (c .loop-test .left) (omega (arith, c .before .before .digit-count .ensures))
 
 pub write-decimal-spec : {M : Type 1} → statement M
 write-decimal-spec =

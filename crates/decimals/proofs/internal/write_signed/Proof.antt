@@ -1,18 +1,13 @@
 -- `internal::write_signed` meets its contract.
 use mathlib.Core.Path.{refl, ap, _∙_}
 use native.Mathlib.Omega.{arith}
-use borrow.Author.Needs.{needs}
 use lib.ListN.{length-set}
-use Rattle.decimals.specs.Decimals.{minus}
-use Rattle.decimals.specs.TextLaws.{put-length}
 use lib.IntN.{pos, natAbs}
 use Rattle.laws.specs.Machine.{fit, lit, lt-true, lt-false}
 use Rattle.laws.specs.SignLaws.{Below, below, below-fits, below-is, Above, above, plain-ok}
+use Rattle.decimals.specs.TextLaws.{put-length}
 use Rattle.decimals.proofs.Spelling.{sign-room, below-room, below-put, above-room, above-put}
 use borrow.Author.Needs.{needs}
-use lib.ListN.{length-set}
-use Rattle.decimals.specs.Decimals.{minus}
-use Rattle.decimals.specs.TextLaws.{put-length}
 use Rattle.decimals.proofs.internal.write_signed.Statement.{statement}
 use Rattle.decimals.proofs.internal.write_signed.Tie as tie
 
@@ -38,13 +33,17 @@ add-write-decimal-2 : tie.Need-add-write-decimal-2
 add-write-decimal-2 c = omega (arith, neg (c .before) .small, ap natAbs (below-is (neg (c .before))))
 
 write-decimal-requires : tie.Need-write-decimal-requires
-write-decimal-requires c κs = below-room (neg (c .before)) (ap natAbs (below-is (neg (c .before)))) (c .before .before .before .pre)
+write-decimal-requires c κs = below-room (neg (c .before)) (ap natAbs (below-is (neg (c .before)))) (c .before .before .before .pre) _
 
 same-length : tie.Need-same-length
-same-length c = put-length (c .before .before .write-decimal .ensures) ∙ length-set (c .before .before .before .before .before .before .args .output .now) (c .before .before .before .before .before .before .args .at) minus
+same-length c =
+    let start = c .before .before .before .before .before .before in
+    put-length (c .before .before .write-decimal .ensures) ∙ length-set (start .args .output .now) (start .args .at) _
 
 returns : tie.Need-returns
-returns c = below-put (neg (c .before .before .before .before)) (ap natAbs (below-is (neg (c .before .before .before .before)))) (c .before .before .write-decimal .ensures)
+returns c =
+    let n = neg (c .before .before .before .before) in
+    below-put n (ap natAbs (below-is n)) (c .before .before .write-decimal .ensures)
 
 cast-write-decimal-2 : tie.Need-cast-write-decimal-2
 cast-write-decimal-2 c = plain-ok (not-neg (c .before) .is) (not-neg (c .before) .small)
@@ -56,7 +55,9 @@ same-length-2 : tie.Need-same-length-2
 same-length-2 c = search needs
 
 returns-2 : tie.Need-returns-2
-returns-2 c = above-put (not-neg (c .before .before .before .before)) (ap natAbs (not-neg (c .before .before .before .before) .is)) (c .before .before .write-decimal2 .ensures)
+returns-2 c =
+    let n = not-neg (c .before .before .before .before) in
+    above-put n (ap natAbs (n .is)) (c .before .before .write-decimal2 .ensures)
 
 pub write-signed-spec : {M : Type 1} → statement M
 write-signed-spec =

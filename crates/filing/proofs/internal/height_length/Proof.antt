@@ -18,7 +18,10 @@ number-length-requires : tie.Need-number-length-requires
 number-length-requires c κs = search needs
 
 returns : tie.Need-returns
-returns c = let s = c .before .before in height-measured (s .args .h) (s .fits .h .sfits) (c .before .unsigned-of .ensures ∙ ap zigzag (cast {w′ = w64} (fit (s .fits .h)) tt .is)) (c .number-length .ensures)
+returns c =
+    let s = c .before .before in
+    height-measured (s .args .h) (s .fits .h .sfits) (c .before .unsigned-of .ensures ∙ ap zigzag (cast {w′ = w64} (fit (s .fits .h)) tt .is))
+    (c .number-length .ensures)
 
 pub height-length-spec : {M : Type 1} → statement M
 height-length-spec =

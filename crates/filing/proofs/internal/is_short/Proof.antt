@@ -1,23 +1,26 @@
 -- `internal::is_short` meets its contract.
 use mathlib.Core.Path.{refl, sym}
-use native.Mathlib.Omega.{arith}
-use denote.Ref.{now}
 use mir.Syntax.{w32}
 use mir.ValLaws.{toZ-ofZ}
 use Rattle.laws.specs.Booleans.{clash}
 use Rattle.layers.specs.SweepLaws.{climbing}
-use Rattle.layers.specs.PassLaws.{works-none, works-begun, works-more, held-listed}
+use Rattle.layers.specs.PassLaws.{works-none, works-begun, works-more}
+use Rattle.layers.specs.StepLaws.{right-ranged, tested-held, tested-more, sweeping-held}
 use Rattle.filing.proofs.Bounding.{room-bound, room-short, room-left}
-use Rattle.layers.specs.StepLaws.{right-ranged, ready-held, sweeping-held}
 use borrow.Author.Needs.{needs}
 use Rattle.filing.proofs.internal.is_short.Statement.{statement}
 use Rattle.filing.proofs.internal.is_short.Tie as tie
 
 returns : tie.Need-returns
-returns c = let s = c .before .before .before .before .before .before .before .before in ((room-bound (s .pre .1 .1) (c .if1 .taken), works-none), (λ e. s .pre .1 .0))
+returns c =
+    let start = c .before .before .before .before .before .before .before .before in
+    (room-bound (start .pre .1 .1) (c .if1 .taken), (works-none, (λ e. start .pre .1 .0)))
 
 layers-length-requires : tie.Need-layers-length-requires
-layers-length-requires c κs = let s = c .before .before .before .before .before .before .before .before .before .before .before .before .before .before in let e = toZ-ofZ w32 (s .args .low) (s .fits .low) in (ready-held e (s .pre .0), sweeping-held (now (s .args .heights)) e (s .pre .1 .0))
+layers-length-requires c κs =
+    let start = c .before .before .before .before .before .before .before .before .before .before .before .before .before .before in
+    let e = toZ-ofZ w32 (start .args .low) (start .fits .low) in
+    (tested-held e (start .pre .0), sweeping-held e (start .pre .1 .0))
 
 same-length : tie.Need-same-length
 same-length c = search needs
@@ -38,10 +41,17 @@ same-length-6 : tie.Need-same-length-6
 same-length-6 c = search needs
 
 returns-2 : tie.Need-returns-2
-returns-2 c = ((room-short (c .before .before .before .before .before .before .before .before .before .before .layers-length .ensures .0) (c .if2 .taken), c .before .before .before .before .before .before .before .before .before .before .layers-length .ensures .1), (λ e. absurd (clash refl e)))
+returns-2 c =
+    let at-length = c .before .before .before .before .before .before .before .before .before .before in
+    (room-short (at-length .layers-length .ensures .0) (c .if2 .taken), (at-length .layers-length .ensures .1, (λ e. absurd (clash refl e))))
 
 begin-requires : tie.Need-begin-requires
-begin-requires c κs = let s = c .before .before .before .before .before .before .before .before .before .before .before .before .before .before .before .before .before .before .before .before .before .before .before .before .before .before .before .before in let w = c .before .before .before .before .before .before .before .before .before .before .before .before .before .layers-length .ensures .1 in (right-ranged (s .pre .0 .right), (climbing (held-listed (s .pre .0 .listed) (toZ-ofZ w32 (s .args .low) (s .fits .low))), (omega (arith, s .pre .0 .long .marks-long, w .marks-spent .same-length), omega (arith, s .pre .0 .ring-long, w .ring-spent .same-length), s .pre .1 .0 .heads-room)))
+begin-requires c κs =
+    let at-length = c .before .before .before .before .before .before .before .before .before .before .before .before .before in
+    let start = at-length .before .before .before .before .before .before .before .before .before .before .before .before .before .before .before in
+    let spent = at-length .layers-length .ensures .1 in
+    let t = tested-more (tested-held (toZ-ofZ w32 (start .args .low) (start .fits .low)) (start .pre .0)) spent in
+    (right-ranged (t .right), (climbing (t .listed), (t .long .marks-long, t .ring-long, start .pre .1 .0 .heads-room)))
 
 same-length-7 : tie.Need-same-length-7
 same-length-7 c = search needs
@@ -62,7 +72,16 @@ same-length-12 : tie.Need-same-length-12
 same-length-12 c = search needs
 
 returns-3 : tie.Need-returns-3
-returns-3 c = let s = c .before .before .before .before .before .before .before .before .before .before .before .before .before .before .before .before .before .before .before .before .before .before .before .before .before .before .before .before .before .before .before .before .before .before .before in ((room-left (c .before .before .before .before .before .before .before .before .before .before .before .before .before .before .before .before .before .before .before .before .layers-length .ensures .0) (c .before .before .before .before .before .before .before .before .before .before .if2 .left), works-more (c .before .before .before .before .before .before .before .before .before .before .before .before .before .before .before .before .before .before .before .before .layers-length .ensures .1) (works-begun (c .before .before .before .before .before .before .begin .ensures .1 .0))), (λ e. sweeping-held (now (s .args .heights)) (sym (toZ-ofZ w32 (s .args .low) (s .fits .low))) (c .before .before .before .before .before .before .begin .ensures .0)))
+returns-3 c =
+    let at-begin = c .before .before .before .before .before .before in
+    let at-test = at-begin .before .before .before .before in
+    let at-length = at-test .before .before .before .before .before .before .before .before .before .before in
+    let start = at-length .before .before .before .before .before .before .before .before .before .before .before .before .before .before .before in
+    let e = toZ-ofZ w32 (start .args .low) (start .fits .low) in
+    let measured = at-length .layers-length .ensures in (
+      room-left (measured .0) (at-test .if2 .left),
+      (works-more (measured .1) (works-begun (at-begin .begin .ensures .1 .0)), (λ q. sweeping-held (sym e) (at-begin .begin .ensures .0))),
+    )
 
 pub is-short-spec : {M : Type 1} → statement M
 is-short-spec =

@@ -1,20 +1,19 @@
 -- `internal::longest` meets its contract.
 use Prim.Native.Nat.{_-_}
 use native.Mathlib.Omega.{arith}
-use denote.Ref.{now}
 use mir.Syntax.{w32}
 use mir.Val.{toZ}
 use mir.ValLaws.{toZ-ofZ}
-use Rattle.heights.specs.Taking.{heightAt}
 use Rattle.active.specs.LevelLaws.{climbing-held}
 use Rattle.formats.specs.NumberLaws.{number-bytes}
+use Rattle.layers.specs.Works.{takenHeights}
 use Rattle.layers.specs.PassLaws.{held-is}
 use Rattle.filing.proofs.Bounding.{Bounding, bounding-start, bounding-next, bounding-end}
 use Rattle.filing.proofs.internal.longest.Statement.{statement}
 use Rattle.filing.proofs.internal.longest.Tie as tie
 
 abbrev Inv-loop : tie.InvT-loop
-Inv-loop low heights count crossings total₀ k₀ total k = Bounding (heightAt (toZ w32 low) heights) count crossings k total
+Inv-loop low heights count crossings total₀ k₀ total k = Bounding (takenHeights (toZ w32 low) heights count) crossings k total
 
 abbrev μ-loop : tie.MeasureT-loop
 μ-loop low heights count crossings total₀ k₀ total k = count - k
@@ -32,7 +31,9 @@ loop-holds : tie.Need-loop-holds Inv-loop μ-loop
 loop-holds c = let s = c .before in bounding-start (s .fits .count .fits) (c .number-length .ensures)
 
 taken-height-requires : tie.Need-taken-height-requires Inv-loop μ-loop
-taken-height-requires c κs = let s = c .before .before .before in climbing-held (toZ-ofZ w32 (s .args .low) (s .fits .low)) (s .pre .0) .each _ (c .loop-test .taken)
+taken-height-requires c κs =
+    let start = c .before .before .before in
+    climbing-held (toZ-ofZ w32 (start .args .low) (start .fits .low)) (start .pre .0) .each _ (c .loop-test .taken)
 
 height-length-requires : tie.Need-height-length-requires Inv-loop μ-loop
 height-length-requires c κs = tt
@@ -41,19 +42,35 @@ add-total-2 : tie.Need-add-total-2 Inv-loop μ-loop
 add-total-2 c = record { fits = omega (arith, c .height-length .ensures .1) }
 
 add-total-3 : tie.Need-add-total-3 Inv-loop μ-loop
-add-total-3 c = let s = c .before .before .before .before .before in record { fits = omega (arith, c .height-length .ensures .1, c .before .before .before .loop .inv .few, c .before .before .loop-test .taken, s .pre .0 .few, s .pre .1) }
+add-total-3 c =
+    let start = c .before .before .before .before .before in
+    record {
+      fits = omega (
+        arith,
+        c .height-length .ensures .1,
+        c .before .before .before .loop .inv .few,
+        c .before .before .loop-test .taken,
+        start .pre .0 .few,
+        start .pre .1,
+      );
+    }
 
 add-k : tie.Need-add-k Inv-loop μ-loop
-add-k c = record { fits = omega (arith, c .before .before .loop-test .taken, c .before .before .before .before .before .pre .0 .few) }
+add-k c =
+    let start = c .before .before .before .before .before in
+    record { fits = omega (arith, c .before .before .loop-test .taken, start .pre .0 .few) }
 
 loop-less : tie.Need-loop-less Inv-loop μ-loop
 loop-less c = omega (arith, c .before .before .loop-test .taken)
 
 loop-again : tie.Need-loop-again Inv-loop μ-loop
-loop-again c = bounding-next (c .before .before .before .loop .inv) (c .before .before .loop-test .taken) (held-is (c .before .taken-height .ok) (c .before .taken-height .ensures)) (c .height-length .ensures .0) (c .height-length .ensures .1)
+loop-again c =
+    let at-height = c .before in
+    bounding-next (at-height .before .before .loop .inv) (at-height .before .loop-test .taken)
+    (held-is (at-height .taken-height .ok) (at-height .taken-height .ensures)) (c .height-length .ensures .0) (c .height-length .ensures .1)
 
 returns : tie.Need-returns Inv-loop μ-loop
-returns c = let s = c .before .before .before in bounding-end (now (s .args .heights)) (toZ-ofZ w32 (s .args .low) (s .fits .low)) (c .before .loop .inv) (c .loop-test .left)
+returns c = let s = c .before .before .before in bounding-end (toZ-ofZ w32 (s .args .low) (s .fits .low)) (c .before .loop .inv) (c .loop-test .left)
 
 pub longest-spec : {M : Type 1} → statement M
 longest-spec =

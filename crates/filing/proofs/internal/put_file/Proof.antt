@@ -1,7 +1,7 @@
 -- `internal::put_file` meets its contract.
 use mir.Syntax.{w32}
 use mir.ValLaws.{toZ-ofZ}
-use Rattle.layers.specs.StepLaws.{ready-held}
+use Rattle.layers.specs.StepLaws.{tested-held}
 use borrow.Author.Needs.{needs}
 use Rattle.filing.proofs.internal.put_file.Statement.{statement}
 use Rattle.filing.proofs.internal.put_file.Tie as tie
@@ -10,7 +10,9 @@ slice-aggregate-put-layers : tie.Need-slice-aggregate-put-layers
 slice-aggregate-put-layers c = search needs
 
 put-layers-requires : tie.Need-put-layers-requires
-put-layers-requires c κs = let s = c .before .before .before .before .before .before .before .before .before .before .before .before .before .before in (ready-held (toZ-ofZ w32 (s .args .low) (s .fits .low)) (s .pre), s .pre .listed .few)
+put-layers-requires c κs =
+    let start = c .before .before .before .before .before .before .before .before .before .before .before .before .before .before in
+    (tested-held (toZ-ofZ w32 (start .args .low) (start .fits .low)) (start .pre), start .pre .listed .few)
 
 same-length : tie.Need-same-length
 same-length c = search needs

@@ -23,41 +23,90 @@ wide-requires : tie.Need-wide-requires Inv-loop μ-loop
 wide-requires c κs = tt
 
 returns : tie.Need-returns Inv-loop μ-loop
-returns c = needless (c .before .before .before .before .before .loop .inv) (c .before .before .before .before .loop-test .taken) (c .before .before .wide .ensures) (c .before .if1 .taken) (c .if2 .taken)
+returns c =
+    let at-wide = c .before .before in
+    let at-test = at-wide .before .before in
+    let at-loop = at-test .before in
+    needless (at-loop .loop .inv) (at-test .loop-test .taken) (at-wide .wide .ensures) (c .before .if1 .taken) (c .if2 .taken)
 
 returns-2 : tie.Need-returns-2 Inv-loop μ-loop
-returns-2 c = too-large (c .before .before .before .before .before .before .loop .inv) (c .before .before .before .before .before .loop-test .taken) (c .before .before .before .wide .ensures) (c .before .before .if1 .taken) (c .if3 .taken)
+returns-2 c =
+    let at-if1 = c .before .before in
+    let at-wide = at-if1 .before in
+    let at-test = at-wide .before .before in
+    let at-loop = at-test .before in
+    too-large (at-loop .loop .inv) (at-test .loop-test .taken) (at-wide .wide .ensures) (at-if1 .if1 .taken) (c .if3 .taken)
 
 mul-t16 : tie.Need-mul-t16 Inv-loop μ-loop
-mul-t16 c = omega (arith, group-fits (c .before .before .before .before .before .before .loop .inv) (c .before .before .before .wide .result) (c .if3 .left), c .before .before .before .before .before .before .before .before .fits .top .fits)
+mul-t16 c =
+    let at-wide = c .before .before .before in
+    let at-loop = at-wide .before .before .before in
+    let start = at-loop .before .before in
+    omega (arith, group-fits (at-loop .loop .inv) (at-wide .wide .result) (c .if3 .left), start .fits .top .fits)
 
 add-t17 : tie.Need-add-t17 Inv-loop μ-loop
-add-t17 c = omega (arith, group-fits (c .before .before .before .before .before .before .loop .inv) (c .before .before .before .wide .result) (c .if3 .left), c .before .before .before .before .before .before .before .before .fits .top .fits)
+add-t17 c =
+    let at-wide = c .before .before .before in
+    let at-loop = at-wide .before .before .before in
+    let start = at-loop .before .before in
+    omega (arith, group-fits (at-loop .loop .inv) (at-wide .wide .result) (c .if3 .left), start .fits .top .fits)
 
 add-t18 : tie.Need-add-t18 Inv-loop μ-loop
 add-t18 c = search needs
 
 returns-3 : tie.Need-returns-3 Inv-loop μ-loop
-returns-3 c = last (c .before .before .before .before .before .before .loop .inv) (c .before .before .before .before .before .loop-test .taken) (c .before .before .before .wide .ensures) (c .before .before .if1 .taken) (c .before .if2 .left) (c .if3 .left)
+returns-3 c =
+    let at-if1 = c .before .before in
+    let at-wide = at-if1 .before in
+    let at-test = at-wide .before .before in
+    let at-loop = at-test .before in
+    last (at-loop .loop .inv) (at-test .loop-test .taken) (at-wide .wide .ensures) (at-if1 .if1 .taken) (c .before .if2 .left) (c .if3 .left)
 
 returns-4 : tie.Need-returns-4 Inv-loop μ-loop
-returns-4 c = too-many (c .before .before .before .before .before .loop .inv) (c .before .before .before .before .loop-test .taken) (c .before .before .wide .ensures) (c .before .if1 .left) (c .if4 .taken)
+returns-4 c =
+    let at-wide = c .before .before in
+    let at-test = at-wide .before .before in
+    let at-loop = at-test .before in
+    too-many (at-loop .loop .inv) (at-test .loop-test .taken) (at-wide .wide .ensures) (c .before .if1 .left) (c .if4 .taken)
 
 -- a byte, and its group, which is below what is left
 byte : (c : tie.Else4 Inv-loop μ-loop) → c .before .before .wide .result < 256
-byte c = omega (arith, c .before .before .wide .ensures, c .before .before .before .shared-slice-known2 .given (c .before .before .before .before .before .loop .i) .fits)
+byte c =
+    let at-wide = c .before .before in
+    let at-known2 = at-wide .before in
+    let at-loop = at-known2 .before .before in
+    omega (
+      arith,
+      at-wide .wide .ensures,
+      at-known2 .shared-slice-known2 .given (at-loop .loop .i)
+          .fits,
+    )
 
-low : (c : tie.Else4 Inv-loop μ-loop) → c .before .before .wide .result - 128 ≤ c .before .before .before .before .before .loop .rest
+low : (c : tie.Else4 Inv-loop μ-loop)
+    → let at-wide = c .before .before in
+    let at-loop = at-wide .before .before .before in
+    at-wide .wide .result - 128 ≤ at-loop .loop .rest
 low c = omega (arith, byte c, c .if4 .left)
 
 mul-value : tie.Need-mul-value Inv-loop μ-loop
-mul-value c = omega (arith, group-fits (c .before .before .before .before .before .loop .inv) (c .before .before .wide .result - 128) (low c), c .before .before .before .before .before .before .before .fits .top .fits)
+mul-value c =
+    let at-wide = c .before .before in
+    let at-loop = at-wide .before .before .before in
+    let start = at-loop .before .before in
+    omega (arith, group-fits (at-loop .loop .inv) (at-wide .wide .result - 128) (low c), start .fits .top .fits)
 
 add-value : tie.Need-add-value Inv-loop μ-loop
-add-value c = omega (arith, group-fits (c .before .before .before .before .before .loop .inv) (c .before .before .wide .result - 128) (low c), c .before .before .before .before .before .before .before .fits .top .fits)
+add-value c =
+    let at-wide = c .before .before in
+    let at-loop = at-wide .before .before .before in
+    let start = at-loop .before .before in
+    omega (arith, group-fits (at-loop .loop .inv) (at-wide .wide .result - 128) (low c), start .fits .top .fits)
 
 mul-unit : tie.Need-mul-unit Inv-loop μ-loop
-mul-unit c = omega (arith, group-fits (c .before .before .before .before .before .loop .inv) 128 (c .if4 .left), c .before .before .before .before .before .before .before .fits .top .fits)
+mul-unit c =
+    let at-loop = c .before .before .before .before .before in
+    let start = at-loop .before .before in
+    omega (arith, group-fits (at-loop .loop .inv) 128 (c .if4 .left), start .fits .top .fits)
 
 sub-rest : tie.Need-sub-rest Inv-loop μ-loop
 sub-rest c = low c
@@ -69,7 +118,11 @@ loop-less : tie.Need-loop-less Inv-loop μ-loop
 loop-less c = search needs
 
 loop-again : tie.Need-loop-again Inv-loop μ-loop
-loop-again c = next (c .before .before .before .before .before .loop .inv) (c .before .before .before .before .loop-test .taken) (c .before .before .wide .ensures) (c .before .if1 .left) (byte c) (c .if4 .left)
+loop-again c =
+    let at-wide = c .before .before in
+    let at-test = at-wide .before .before in
+    let at-loop = at-test .before in
+    next (at-loop .loop .inv) (at-test .loop-test .taken) (at-wide .wide .ensures) (c .before .if1 .left) (byte c) (c .if4 .left)
 
 returns-5 : tie.Need-returns-5 Inv-loop μ-loop
 returns-5 c = ends (c .before .loop .inv) (c .loop-test .left)

@@ -9,7 +9,10 @@ use Rattle.layers.proofs.internal.begin.Statement.{statement}
 use Rattle.layers.proofs.internal.begin.Tie as tie
 
 deal-requires : tie.Need-deal-requires
-deal-requires c κs = let s = c .before .before .before .before .before .before .before in (s .pre .0 .named, (climbing-held (toZ-ofZ w32 (s .args .low) (s .fits .low)) (s .pre .1 .0), (s .pre .1 .1 .1, s .pre .1 .1 .2, s .pre .1 .1 .0)))
+deal-requires c κs =
+    let start = c .before .before .before .before .before .before .before in
+    let rooms = start .pre .1 .1 in
+    (start .pre .0 .named, (climbing-held (toZ-ofZ w32 (start .args .low) (start .fits .low)) (start .pre .1 .0), (rooms .1, rooms .2, rooms .0)))
 
 same-length : tie.Need-same-length
 same-length c = search needs
@@ -21,7 +24,25 @@ same-length-3 : tie.Need-same-length-3
 same-length-3 c = search needs
 
 returns : tie.Need-returns
-returns c = let s = c .before .before .before .before .before .before .before .before .before .before .before .before .before .before in let e = toZ-ofZ w32 (s .args .low) (s .fits .low) in let d = c .before .before .before .before .before .before .deal .ensures .0 in let z = c .before .before .before .before .before .before .deal .kept .1 .1 .1 .1 .1 .1 .0 in (begun-sweep (s .pre .0) (now (s .args .heights)) e (now (s .args .heads)) (s .pre .1 .1 .1) (s .pre .1 .1 .2) d z, (begun-spent (s .pre .0) (now (s .args .heights)) e (now (s .args .heads)) (s .pre .1 .1 .1) (s .pre .1 .1 .2) d z, crossings-held (now (s .args .heights)) e (c .before .before .before .before .before .before .deal .ensures .1)))
+returns c =
+    let at-deal = c .before .before .before .before .before .before in
+    let start = at-deal .before .before .before .before .before .before .before .before in
+    let e = toZ-ofZ w32 (start .args .low) (start .fits .low) in
+    let heights = now (start .args .heights) in
+    let heads = now (start .args .heads) in
+    let rooms = start .pre .1 .1 in
+    let dealt = at-deal .deal .ensures .0 in
+    let size = at-deal .deal .kept .1 .1 .1 .1 .1 .1 .0 in (
+      begun-sweep (start .pre .0) heights e heads (rooms .1) (rooms .2) dealt size,
+      (begun-spent (start .pre .0) heights e heads (rooms .1) (rooms .2) dealt size, crossings-held e heights (at-deal .deal .ensures .1)),
+    )
 
 pub begin-spec : {M : Type 1} → statement M
-begin-spec = tie.close (tie.spec deal-requires same-length same-length-2 same-length-3 returns)
+begin-spec =
+    tie.close
+    (tie.spec
+    deal-requires
+    same-length
+    same-length-2
+    same-length-3
+    returns)

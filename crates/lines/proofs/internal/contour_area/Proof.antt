@@ -1,10 +1,8 @@
 -- `internal::contour_area` meets its contract.
-use mathlib.Core.Path.{ap, _∙_}
+use mathlib.Core.Path.{_∙_}
 use mir.Syntax.{w64}
 use Rattle.laws.specs.Machine.{same}
-use Rattle.contours.specs.Areas.{measureOf}
 use Rattle.lines.proofs.Sums.{measured-area, never-refused}
-use borrow.Author.Needs.{needs}
 use borrow.Author.Needs.{needs}
 use Rattle.lines.proofs.internal.contour_area.Statement.{statement}
 use Rattle.lines.proofs.internal.contour_area.Tie as tie
@@ -22,10 +20,15 @@ enum-told : tie.Need-enum-told
 enum-told c = search needs
 
 returns : tie.Need-returns
-returns c = same w64 _ (c .known-told .given .0 .1) ∙ measured-area _ (c .before .before .before .area .ensures ∙ ap measureOf (c .before .before .before .before .contour .ensures)) (c .before .a .given .1)
+returns c =
+    let at-area = c .before .before .before in
+    same w64 _ (c .known-told .given .0 .1) ∙ measured-area (at-area .area .ensures) (at-area .before .contour .ensures) (c .before .a .given .1)
 
 returns-2 : tie.Need-returns-2
-returns-2 c = absurd (never-refused (c .before .before .before .before .before .pre) (c .before .before .area .ensures ∙ ap measureOf (c .before .before .before .contour .ensures)) (c .enum-told .given .1))
+returns-2 c =
+    let at-area = c .before .before in
+    let start = at-area .before .before .before in
+    absurd (never-refused (at-area .area .ensures) (at-area .before .contour .ensures) (start .pre) (c .enum-told .given .1))
 
 pub contour-area-spec : {M : Type 1} → statement M
 contour-area-spec =

@@ -1,8 +1,6 @@
 -- `internal::list_layers` meets its contract.
 use native.Mathlib.Omega.{arith}
-use borrow.Author.Needs.{needs}
-use denote.Ref.{now}
-use Rattle.lines.proofs.Layers.{first-room, begun, listing-put}
+use Rattle.lines.proofs.Layers.{first-room, first-put, listing-put}
 use borrow.Author.Needs.{needs}
 use Rattle.lines.proofs.internal.list_layers.Statement.{statement}
 use Rattle.lines.proofs.internal.list_layers.Tie as tie
@@ -11,10 +9,15 @@ taken-count-requires : tie.Need-taken-count-requires
 taken-count-requires c κs = search needs
 
 write-layers-line-requires : tie.Need-write-layers-line-requires
-write-layers-line-requires c κs = first-room (c .before .taken-count .result) (omega arith) (c .before .before .before .before .before .before .before .before .pre .1 .1)
+write-layers-line-requires c κs =
+    let start = c .before .before .before .before .before .before .before .before in
+    first-room _ (omega arith) (start .pre .1 .1)
 
 list-lines-requires : tie.Need-list-lines-requires
-list-lines-requires c κs = (c .before .before .before .before .before .before .before .before .before .before .before .before .before .before .before .before .pre .0, (c .before .before .before .before .before .before .before .before .before .before .before .before .before .before .before .before .pre .1 .0, begun (c .before .before .before .before .before .before .before .before .before .taken-count .result) (c .before .before .before .before .before .before .before .write-layers-line .ensures) (omega arith) (c .before .before .before .before .before .before .before .before .before .before .before .before .before .before .before .before .pre .1 .1)))
+list-lines-requires c κs =
+    let at-first = c .before .before .before .before .before .before .before in
+    let start = at-first .before .before .before .before .before .before .before .before .before in
+    (start .pre .0, (start .pre .1 .0, first-put _ (at-first .write-layers-line .ensures) (omega arith) (start .pre .1 .1)))
 
 same-length : tie.Need-same-length
 same-length c = search needs
@@ -32,7 +35,11 @@ same-length-5 : tie.Need-same-length-5
 same-length-5 c = search needs
 
 returns : tie.Need-returns
-returns c = listing-put (c .before .before .before .before .before .before .before .before .before .before .before .before .before .before .before .before .before .before .before .taken-count .result) (c .before .before .before .before .before .before .before .before .before .before .before .before .before .before .before .before .before .write-layers-line .ensures) (now (c .before .before .before .before .before .before .before .before .before .before .before .before .before .before .before .before .before .before .before .before .before .before .before .before .before .before .args .coords)) (now (c .before .before .before .before .before .before .before .before .before .before .before .before .before .before .before .before .before .before .before .before .before .before .before .before .before .before .args .corners)) (now (c .before .before .before .before .before .before .before .before .before .before .before .before .before .before .before .before .before .before .before .before .before .before .before .before .before .before .args .heights)) (c .before .before .before .before .before .before .before .before .before .before .before .before .before .before .before .before .before .before .before .taken-count .ensures) (c .before .before .before .before .before .before .before .before .before .list-lines .ensures)
+returns c =
+    let at-lines = c .before .before .before .before .before .before .before .before .before in
+    let at-first = at-lines .before .before .before .before .before .before .before .before in
+    let at-count = at-first .before .before in
+    listing-put _ (at-first .write-layers-line .ensures) _ _ (at-count .taken-count .ensures) (at-lines .list-lines .ensures)
 
 pub list-layers-spec : {M : Type 1} → statement M
 list-layers-spec =

@@ -18,7 +18,9 @@ contour-area-requires : tie.Need-contour-area-requires Inv-loop μ-loop
 contour-area-requires c κs = c .before .before .before .pre .each _ (c .loop-test .taken)
 
 add-sum : tie.Need-add-sum Inv-loop μ-loop
-add-sum c = sum-fits (c .before .before .before .before .pre) (c .before .before .loop .inv) (c .before .loop-test .taken) (c .contour-area .result) (c .contour-area .ok) (c .contour-area .ensures)
+add-sum c =
+    let start = c .before .before .before .before in
+    sum-fits (start .pre) (c .before .before .loop .inv) (c .before .loop-test .taken) _ (c .contour-area .ok) (c .contour-area .ensures)
 
 add-i : tie.Need-add-i Inv-loop μ-loop
 add-i c = omega arith
@@ -27,7 +29,9 @@ loop-less : tie.Need-loop-less Inv-loop μ-loop
 loop-less c = omega arith
 
 loop-again : tie.Need-loop-again Inv-loop μ-loop
-loop-again c = summed-next (c .before .before .before .before .pre) (c .before .before .loop .inv) (c .before .loop-test .taken) (c .contour-area .result) (c .contour-area .ok) (c .contour-area .ensures)
+loop-again c =
+    let start = c .before .before .before .before in
+    summed-next (start .pre) (c .before .before .loop .inv) (c .before .loop-test .taken) _ (c .contour-area .ok) (c .contour-area .ensures)
 
 returns : tie.Need-returns Inv-loop μ-loop
 returns c = summed-end (c .before .before .before .pre) (c .before .loop .inv) (c .loop-test .left)

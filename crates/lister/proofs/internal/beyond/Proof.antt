@@ -1,23 +1,21 @@
 -- `internal::beyond` meets its contract.
 use native.Mathlib.Omega.{arith}
-use denote.Ref.{now}
-use borrow.Author.Needs.{needs}
 use Rattle.lister.proofs.Parts.{many-vertices, many-triangles, by-heights}
 use borrow.Author.Needs.{needs}
 use Rattle.lister.proofs.internal.beyond.Statement.{statement}
 use Rattle.lister.proofs.internal.beyond.Tie as tie
 
 returns : tie.Need-returns
-returns c = many-vertices (now (c .before .before .args .coords)) (now (c .before .before .args .corners)) (now (c .before .before .args .heights)) (c .if1 .taken)
+returns c = many-vertices _ (c .if1 .taken)
 
 returns-2 : tie.Need-returns-2
-returns-2 c = many-triangles (now (c .before .before .before .args .coords)) (now (c .before .before .before .args .corners)) (now (c .before .before .before .args .heights)) (c .if2 .taken)
+returns-2 c = many-triangles _ (c .if2 .taken)
 
 taken-count-requires : tie.Need-taken-count-requires
 taken-count-requires c κs = search needs
 
 returns-3 : tie.Need-returns-3
-returns-3 c = by-heights (now (c .before .before .before .before .args .coords)) (now (c .before .before .before .before .args .corners)) (now (c .before .before .before .before .args .heights)) (omega arith) (omega arith) (c .taken-count .ensures)
+returns-3 c = by-heights _ (omega arith) (omega arith) (c .taken-count .ensures)
 
 pub beyond-spec : {M : Type 1} → statement M
 beyond-spec = tie.close (tie.spec returns returns-2 taken-count-requires returns-3)

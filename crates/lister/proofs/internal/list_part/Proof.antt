@@ -1,10 +1,23 @@
 -- `internal::list_part` meets its contract.
+use Prim.Native.Nat.{_≤_}
+use mathlib.Core.Path.{ap}
+use lib.ListN.{length}
 use denote.Ref.{now}
-use borrow.Author.Needs.{needs}
-use Rattle.lister.proofs.Parts.{front-length, lists, pairing-room, workable, put-listing, put-refusal}
+use Rattle.mesh.specs.Refusals.{tellVerdict}
+use Rattle.lister.proofs.Parts.{front-length, listable-part, pairing-room, workable, put-listing, put-refusal}
 use borrow.Author.Needs.{needs}
 use Rattle.lister.proofs.internal.list_part.Statement.{statement}
 use Rattle.lister.proofs.internal.list_part.Tie as tie
+
+-- the pairing has room for the corners, where the tests refuse nothing
+room : (c : tie.After-enum-told)
+    → let at-test = c .before .before .before .before .before .before in
+    let start = at-test .before .before .before .before .before .before .before .before .before .before in
+    length (now (start .args .corners)) ≤ length (at-test .part-test .last .1 .1 .1 .0)
+room c =
+    let at-test = c .before .before .before .before .before .before in
+    let start = at-test .before .before .before .before .before .before .before .before .before .before in
+    pairing-room _ (at-test .part-test .ensures) (ap tellVerdict (c .enum-told .given .1)) (at-test .part-test .kept .1 .1 .1 .0) (start .pre .0 .pairing-size)
 
 part-test-requires : tie.Need-part-test-requires
 part-test-requires c κs = search needs
@@ -13,13 +26,19 @@ enum-told : tie.Need-enum-told
 enum-told c = search needs
 
 slice-reshare-prefix-list-layers : tie.Need-slice-reshare-prefix-list-layers
-slice-reshare-prefix-list-layers c = pairing-room (now (c .before .before .before .before .before .before .before .before .before .before .before .before .before .before .before .before .args .coords)) (now (c .before .before .before .before .before .before .before .before .before .before .before .before .before .before .before .before .args .corners)) (now (c .before .before .before .before .before .before .before .before .before .before .before .before .before .before .before .before .args .heights)) (c .before .before .before .before .before .before .part-test .ensures) (c .enum-told .given .1) (c .before .before .before .before .before .before .part-test .kept .1 .1 .1 .0) (c .before .before .before .before .before .before .before .before .before .before .before .before .before .before .before .before .pre .0 .pairing-size)
+slice-reshare-prefix-list-layers c = room c
 
 slice-aggregate-list-layers : tie.Need-slice-aggregate-list-layers
-slice-aggregate-list-layers c = front-length _ _ (pairing-room (now (c .before .before .before .before .before .before .before .before .before .before .before .before .before .before .before .before .before .args .coords)) (now (c .before .before .before .before .before .before .before .before .before .before .before .before .before .before .before .before .before .args .corners)) (now (c .before .before .before .before .before .before .before .before .before .before .before .before .before .before .before .before .before .args .heights)) (c .before .before .before .before .before .before .before .part-test .ensures) (c .before .enum-told .given .1) (c .before .before .before .before .before .before .before .part-test .kept .1 .1 .1 .0) (c .before .before .before .before .before .before .before .before .before .before .before .before .before .before .before .before .before .pre .0 .pairing-size))
+slice-aggregate-list-layers c = front-length _ _ (room (c .before))
 
 list-layers-requires : tie.Need-list-layers-requires
-list-layers-requires c κs = (lists (now (c .before .before .before .before .before .before .before .before .before .before .before .before .before .before .before .before .before .before .before .before .before .before .args .coords)) (now (c .before .before .before .before .before .before .before .before .before .before .before .before .before .before .before .before .before .before .before .before .before .before .args .corners)) (now (c .before .before .before .before .before .before .before .before .before .before .before .before .before .before .before .before .before .before .before .before .before .before .args .heights)) (c .before .before .before .before .before .before .before .before .before .before .before .before .part-test .ensures) (c .before .before .before .before .before .before .enum-told .given .1) .listable, (workable (now (c .before .before .before .before .before .before .before .before .before .before .before .before .before .before .before .before .before .before .before .before .before .before .args .coords)) (now (c .before .before .before .before .before .before .before .before .before .before .before .before .before .before .before .before .before .before .before .before .before .before .args .corners)) (now (c .before .before .before .before .before .before .before .before .before .before .before .before .before .before .before .before .before .before .before .before .before .before .args .heights)) (c .before .before .before .before .before .before .before .before .before .before .before .before .part-test .ensures) (c .before .before .before .before .before .before .enum-told .given .1) (c .before .before .before .before .before .before .before .before .before .before .before .before .before .before .before .before .before .before .before .before .before .before .pre .0), c .before .before .before .before .before .before .before .before .before .before .before .before .before .before .before .before .before .before .before .before .before .before .pre .1))
+list-layers-requires c κs =
+    let at-fine = c .before .before .before .before .before .before in
+    let at-test = at-fine .before .before .before .before .before .before in
+    let start = at-test .before .before .before .before .before .before .before .before .before .before in
+    let tested = at-test .part-test .ensures in
+    let nothing = ap tellVerdict (at-fine .enum-told .given .1) in
+    (listable-part _ tested nothing .listable, (workable _ tested nothing (start .pre .0), start .pre .1))
 
 enum-known-v : tie.Need-enum-known-v
 enum-known-v c = search needs
@@ -49,7 +68,11 @@ same-length-7 : tie.Need-same-length-7
 same-length-7 c = search needs
 
 returns : tie.Need-returns
-returns c = put-listing (now (c .before .before .before .before .before .before .before .before .before .before .before .before .before .before .before .before .before .before .before .before .before .before .before .before .before .before .before .before .before .before .before .before .args .coords)) (now (c .before .before .before .before .before .before .before .before .before .before .before .before .before .before .before .before .before .before .before .before .before .before .before .before .before .before .before .before .before .before .before .before .args .corners)) (now (c .before .before .before .before .before .before .before .before .before .before .before .before .before .before .before .before .before .before .before .before .before .before .before .before .before .before .before .before .before .before .before .before .args .heights)) (c .before .before .before .before .before .before .before .before .before .before .before .before .before .before .before .before .before .before .before .before .before .before .part-test .ensures) (c .before .before .before .before .before .before .before .before .before .before .before .before .before .before .before .before .enum-told .given .1) (c .before .before .before .before .before .before .before .before .before .list-layers .ensures)
+returns c =
+    let at-list = c .before .before .before .before .before .before .before .before .before in
+    let at-fine = at-list .before .before .before .before .before .before .before in
+    let at-test = at-fine .before .before .before .before .before .before in
+    put-listing _ (at-test .part-test .ensures) (ap tellVerdict (at-fine .enum-told .given .1)) (at-list .list-layers .ensures)
 
 same-length-8 : tie.Need-same-length-8
 same-length-8 c = search needs
@@ -61,7 +84,10 @@ same-length-10 : tie.Need-same-length-10
 same-length-10 c = search needs
 
 returns-2 : tie.Need-returns-2
-returns-2 c = put-refusal (now (c .before .before .before .before .before .before .before .before .before .before .before .before .before .before .before .before .before .before .before .before .before .args .coords)) (now (c .before .before .before .before .before .before .before .before .before .before .before .before .before .before .before .before .before .before .before .before .before .args .corners)) (now (c .before .before .before .before .before .before .before .before .before .before .before .before .before .before .before .before .before .before .before .before .before .args .heights)) (c .before .before .before .before .before .before .before .before .before .before .before .part-test .ensures) (c .before .before .before .before .before .v .given .1) (c .before .before .write-refusal .ensures)
+returns-2 c =
+    let at-refused = c .before .before .before .before .before in
+    let at-test = at-refused .before .before .before .before .before .before in
+    put-refusal _ (at-test .part-test .ensures) (ap tellVerdict (at-refused .v .given .1)) (c .before .before .write-refusal .ensures)
 
 pub list-part-spec : {M : Type 1} → statement M
 list-part-spec =

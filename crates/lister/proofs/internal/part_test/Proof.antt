@@ -1,7 +1,6 @@
 -- `internal::part_test` meets its contract.
-use mathlib.Core.Path.{sym, _∙_}
-use denote.Ref.{now}
-use borrow.Author.Needs.{needs}
+use mathlib.Core.Path.{sym, ap, _∙_}
+use Rattle.checker.specs.Check.{tellCheck}
 use Rattle.lister.proofs.Parts.{limit-stop, check-stop, heights-next}
 use borrow.Author.Needs.{needs}
 use Rattle.lister.proofs.internal.part_test.Statement.{statement}
@@ -11,7 +10,7 @@ beyond-requires : tie.Need-beyond-requires
 beyond-requires c κs = search needs
 
 returns : tie.Need-returns
-returns c = limit-stop (now (c .before .before .before .before .before .args .coords)) (now (c .before .before .before .before .before .args .corners)) (now (c .before .before .before .before .before .args .heights)) (sym (c .before .beyond .ensures) ∙ c .if1 .taken)
+returns c = limit-stop _ (sym (c .before .beyond .ensures) ∙ c .if1 .taken)
 
 check-requires : tie.Need-check-requires
 check-requires c κs = search needs
@@ -32,7 +31,12 @@ same-length-2 : tie.Need-same-length-2
 same-length-2 c = search needs
 
 returns-2 : tie.Need-returns-2
-returns-2 c = heights-next (now (c .before .before .before .before .before .before .before .before .before .before .before .before .before .before .before .args .coords)) (now (c .before .before .before .before .before .before .before .before .before .before .before .before .before .before .before .args .corners)) (now (c .before .before .before .before .before .before .before .before .before .before .before .before .before .before .before .args .heights)) (sym (c .before .before .before .before .before .before .before .before .before .before .before .beyond .ensures) ∙ c .before .before .before .before .before .before .before .before .before .before .if1 .left) (c .before .before .before .before .before .before .before .check .ensures) (c .before .before .before .before .before .before .before .before .before .before .before .before .before .before .before .pre .0) (c .before .before .before .before .before .before .before .before .before .before .before .before .before .before .before .pre .1) (c .before .enum-told .given .1) (c .heights-test .ensures)
+returns-2 c =
+    let at-check = c .before .before .before .before .before .before .before in
+    let at-if = at-check .before .before .before in
+    let start = at-if .before .before .before .before .before in
+    heights-next _ (sym (at-if .before .beyond .ensures) ∙ at-if .if1 .left) (at-check .check .ensures) (start .pre .0) (start .pre .1)
+    (ap tellCheck (c .before .enum-told .given .1)) (c .heights-test .ensures)
 
 same-length-3 : tie.Need-same-length-3
 same-length-3 c = search needs
@@ -41,7 +45,12 @@ same-length-4 : tie.Need-same-length-4
 same-length-4 c = search needs
 
 returns-3 : tie.Need-returns-3
-returns-3 c = check-stop (now (c .before .before .before .before .before .before .before .before .before .before .before .before .before .before .before .args .coords)) (now (c .before .before .before .before .before .before .before .before .before .before .before .before .before .before .before .args .corners)) (now (c .before .before .before .before .before .before .before .before .before .before .before .before .before .before .before .args .heights)) (sym (c .before .before .before .before .before .before .before .before .before .before .before .beyond .ensures) ∙ c .before .before .before .before .before .before .before .before .before .before .if1 .left) (c .before .before .before .before .before .before .before .check .ensures) (c .before .before .before .before .before .before .before .before .before .before .before .before .before .before .before .pre .0) (c .before .before .before .before .before .before .before .before .before .before .before .before .before .before .before .pre .1) (c .before .a .given .1)
+returns-3 c =
+    let at-check = c .before .before .before .before .before .before .before in
+    let at-if = at-check .before .before .before in
+    let start = at-if .before .before .before .before .before in
+    check-stop _ (sym (at-if .before .beyond .ensures) ∙ at-if .if1 .left) (at-check .check .ensures) (start .pre .0) (start .pre .1)
+    (ap tellCheck (c .before .a .given .1))
 
 pub part-test-spec : {M : Type 1} → statement M
 part-test-spec =

@@ -1,14 +1,14 @@
 -- `internal::take_part` meets its contract.
+use mathlib.Core.Path.{ap}
 use native.Mathlib.Omega.{arith}
-use denote.Ref.{now}
-use borrow.Author.Needs.{needs}
+use Rattle.parts.specs.Parts.{tellParted}
 use Rattle.lister.proofs.Reading.{long-stop, read-counts, read-stop}
 use borrow.Author.Needs.{needs}
 use Rattle.lister.proofs.internal.take_part.Statement.{statement}
 use Rattle.lister.proofs.internal.take_part.Tie as tie
 
 returns : tie.Need-returns
-returns c = long-stop (now (c .before .before .before .args .input)) _ _ _ (c .if1 .taken)
+returns c = long-stop _ _ (c .if1 .taken)
 
 read-part-requires : tie.Need-read-part-requires
 read-part-requires c κs = search needs
@@ -32,7 +32,11 @@ same-length-3 : tie.Need-same-length-3
 same-length-3 c = search needs
 
 returns-2 : tie.Need-returns-2
-returns-2 c = read-counts (c .before .before .before .before .before .before .before .read-part .ensures) (λ i h. c .before .before .before .before .before .before .before .before .before .before .before .before .before .shared-slice-known .given i .fits) (omega (arith, c .before .before .before .before .before .before .before .before .before .before .before .if1 .left)) (c .before .a .given .1)
+returns-2 c =
+    let at-read = c .before .before .before .before .before .before .before in
+    let at-if = at-read .before .before .before .before in
+    read-counts (at-read .read-part .ensures) (λ i h. at-if .before .before .shared-slice-known .given i .fits) (omega (arith, at-if .if1 .left))
+    (ap tellParted (c .before .a .given .1))
 
 same-length-4 : tie.Need-same-length-4
 same-length-4 c = search needs
@@ -44,7 +48,12 @@ same-length-6 : tie.Need-same-length-6
 same-length-6 c = search needs
 
 returns-3 : tie.Need-returns-3
-returns-3 c = read-stop (c .before .before .before .before .before .before .before .before .read-part .ensures) (λ i h. c .before .before .before .before .before .before .before .before .before .before .before .before .before .before .shared-slice-known .given i .fits) (omega (arith, c .before .before .before .before .before .before .before .before .before .before .before .before .if1 .left)) (c .before .before .before .before .before .before .before .before .before .before .before .before .before .before .before .pre .0) (c .before .before .before .before .before .before .before .before .before .before .before .before .before .before .before .pre .1) (c .before .before .before .before .before .before .before .before .before .before .before .before .before .before .before .pre .2) (c .before .before .a2 .given .1) (c .limited .ensures)
+returns-3 c =
+    let at-read = c .before .before .before .before .before .before .before .before in
+    let at-if = at-read .before .before .before .before in
+    let start = at-if .before .before .before in
+    read-stop (at-read .read-part .ensures) (λ i h. at-if .before .before .shared-slice-known .given i .fits) (omega (arith, at-if .if1 .left))
+    (c .limited .result) (start .pre) (ap tellParted (c .before .before .a2 .given .1)) (c .limited .ensures)
 
 pub take-part-spec : {M : Type 1} → statement M
 take-part-spec =

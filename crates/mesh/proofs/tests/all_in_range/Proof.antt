@@ -31,7 +31,11 @@ loop-less c = omega arith
 
 loop-again : tie.Need-loop-again Inv-loop μ-loop
 loop-again c =
-    (omega arith, λ e. let p = and-parts _ _ e in scan-miss (c .before .before .loop .inv .1 (p .0)) (c .before .loop-test .taken) (sym (c .out-of-range .ensures) ∙ not-true _ (p .1)))
+    let at-loop = c .before .before in (
+      omega arith,
+      λ e. let p = and-parts _ _ e in scan-miss (at-loop .loop .inv .1 (p .0)) (c .before .loop-test .taken)
+          (sym (c .out-of-range .ensures) ∙ not-true _ (p .1)),
+    )
 
 returns : tie.Need-returns Inv-loop μ-loop
 returns c = λ e i l. c .before .loop .inv .1 e .clear i (omega arith)

@@ -42,7 +42,11 @@ loop-less c = omega arith
 
 loop-again : tie.Need-loop-again Inv-loop μ-loop
 loop-again c =
-    (omega arith, λ e. let p = and-parts _ _ e in scan-miss (c .before .before .loop .inv .1 (p .0)) (c .before .loop-test .taken) (names-one _ _ _ (ltb-true _ _ (p .1))))
+    let at-loop = c .before .before in (
+      omega arith,
+      λ e. let p = and-parts _ _ e in scan-miss (at-loop .loop .inv .1 (p .0)) (c .before .loop-test .taken)
+          (names-one _ _ _ (ltb-true _ _ (p .1))),
+    )
 
 returns-2 : tie.Need-returns-2 Inv-loop μ-loop
 returns-2 c = λ e i l. c .before .loop .inv .1 e .clear i (omega arith)

@@ -31,7 +31,9 @@ loop-less : tie.Need-loop-less Inv-loop μ-loop
 loop-less c = omega arith
 
 loop-again : tie.Need-loop-again Inv-loop μ-loop
-loop-again c = (scan-miss (c .before .before .before .loop .inv .0) (omega arith) (sym (c .before .names-twice .ensures) ∙ c .if1 .left), c .before .before .before .loop .inv .1)
+loop-again c =
+    let at-loop = c .before .before .before in
+    (scan-miss (at-loop .loop .inv .0) (omega arith) (sym (c .before .names-twice .ensures) ∙ c .if1 .left), at-loop .loop .inv .1)
 
 returns-2 : tie.Need-returns-2 Inv-loop μ-loop
 returns-2 c = scan-end (c .before .loop .inv .0) (omega arith)

@@ -1,6 +1,7 @@
 -- `tests::mesh_test` meets its contract.
-use mathlib.Core.Path.{_∙_}
-use Rattle.mesh.specs.RefusalLaws.{verdict-stop, verdict-next, verdict-one}
+use mathlib.Core.Path.{ap, _∙_}
+use Rattle.mesh.specs.OperationLaws.{verdict-stop, verdict-next, verdict-one}
+use Rattle.mesh.specs.Refusals.{tellVerdict}
 use borrow.Author.Needs.{needs}
 use Rattle.mesh.proofs.tests.mesh_test.Statement.{statement}
 use Rattle.mesh.proofs.tests.mesh_test.Tie as tie
@@ -12,7 +13,7 @@ enum-told : tie.Need-enum-told
 enum-told c = search needs
 
 returns : tie.Need-returns
-returns c = verdict-stop _ _ (c .before .before .range-test .ensures) (c .enum-told .given .1)
+returns c = verdict-stop _ _ (c .before .before .range-test .ensures) (ap tellVerdict (c .enum-told .given .1))
 
 enum-told-2 : tie.Need-enum-told-2
 enum-told-2 c = search needs
@@ -24,7 +25,10 @@ enum-told-3 : tie.Need-enum-told-3
 enum-told-3 c = search needs
 
 returns-2 : tie.Need-returns-2
-returns-2 c = verdict-next _ _ (c .before .before .before .before .before .range-test .ensures) (c .before .before .before .enum-told2 .given .1) (verdict-stop _ _ (c .before .before .vertex-test .ensures) (c .enum-told3 .given .1))
+returns-2 c =
+    let at-told = c .before .before .before in
+    verdict-next _ _ (at-told .before .before .range-test .ensures) (ap tellVerdict (at-told .enum-told2 .given .1))
+    (verdict-stop _ _ (c .before .before .vertex-test .ensures) (ap tellVerdict (c .enum-told3 .given .1)))
 
 enum-told-4 : tie.Need-enum-told-4
 enum-told-4 c = search needs
@@ -33,7 +37,10 @@ triangle-test-requires : tie.Need-triangle-test-requires
 triangle-test-requires c κs = search needs
 
 returns-3 : tie.Need-returns-3
-returns-3 c = verdict-next _ _ (c .before .before .before .before .before .before .range-test .ensures) (c .before .before .before .before .enum-told2 .given .1) (verdict-next _ _ (c .before .before .before .vertex-test .ensures) (c .before .enum-told4 .given .1) (c .triangle-test .ensures ∙ verdict-one _))
+returns-3 c =
+    let at-vertex = c .before .before .before in
+    verdict-next _ _ (at-vertex .before .before .before .range-test .ensures) (ap tellVerdict (at-vertex .before .enum-told2 .given .1))
+    (verdict-next _ _ (at-vertex .vertex-test .ensures) (ap tellVerdict (c .before .enum-told4 .given .1)) (c .triangle-test .ensures ∙ verdict-one _))
 
 pub mesh-test-spec : {M : Type 1} → statement M
 mesh-test-spec =

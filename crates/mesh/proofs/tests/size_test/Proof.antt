@@ -1,7 +1,7 @@
 -- `tests::size_test` meets its contract.
 use mathlib.Core.Path.{sym, ap, _∙_}
 use mathlib.Core.Bool.{not}
-use Rattle.mesh.specs.RefusalLaws.{whole-refused, whole-fine}
+use Rattle.mesh.specs.OperationLaws.{whole-refused, whole-fine}
 use borrow.Author.Needs.{needs}
 use Rattle.mesh.proofs.tests.size_test.Statement.{statement}
 use Rattle.mesh.proofs.tests.size_test.Tie as tie

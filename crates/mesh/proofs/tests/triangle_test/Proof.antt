@@ -1,5 +1,5 @@
 -- `tests::triangle_test` meets its contract.
-use Rattle.mesh.specs.RefusalLaws.{test-refused, test-fine}
+use Rattle.mesh.specs.OperationLaws.{test-refused, test-fine}
 use borrow.Author.Needs.{needs}
 use Rattle.mesh.proofs.tests.triangle_test.Statement.{statement}
 use Rattle.mesh.proofs.tests.triangle_test.Tie as tie

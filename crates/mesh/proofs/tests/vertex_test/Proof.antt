@@ -1,5 +1,5 @@
 -- `tests::vertex_test` meets its contract.
-use Rattle.mesh.specs.RefusalLaws.{test-refused, test-fine, nowhere-fine}
+use Rattle.mesh.specs.OperationLaws.{test-refused, test-fine, nowhere-fine}
 use borrow.Author.Needs.{needs}
 use Rattle.mesh.proofs.tests.vertex_test.Statement.{statement}
 use Rattle.mesh.proofs.tests.vertex_test.Tie as tie

@@ -27,7 +27,11 @@ enum-told : tie.Need-enum-told Inv-loop μ-loop
 enum-told c = search needs
 
 returns : tie.Need-returns Inv-loop μ-loop
-returns c = check-refused _ (c .before .before .before .before .loop .inv) (c .before .before .before .loop-test .taken) (sym (c .before .before .read-number .ensures) ∙ c .enum-told .given .1)
+returns c =
+    let at-read-number = c .before .before in
+    let at-test = at-read-number .before in
+    let at-loop = at-test .before in
+    check-refused (at-loop .loop .inv) (at-test .loop-test .taken) (sym (at-read-number .read-number .ensures) ∙ c .enum-told .given .1)
 
 sub-left : tie.Need-sub-left Inv-loop μ-loop
 sub-left c = search needs
@@ -36,7 +40,11 @@ loop-less : tie.Need-loop-less Inv-loop μ-loop
 loop-less c = search needs
 
 loop-again : tie.Need-loop-again Inv-loop μ-loop
-loop-again c = check-passed _ (c .before .before .before .before .before .loop .inv) (c .before .before .before .before .loop-test .taken) _ _ (sym (c .before .before .before .read-number .ensures) ∙ c .before .n .given .1)
+loop-again c =
+    let at-read-number = c .before .before .before in
+    let at-test = at-read-number .before in
+    let at-loop = at-test .before in
+    check-passed (at-loop .loop .inv) (at-test .loop-test .taken) (sym (at-read-number .read-number .ensures) ∙ c .before .n .given .1)
 
 returns-2 : tie.Need-returns-2 Inv-loop μ-loop
 returns-2 c = check-end _ (c .before .loop .inv) (c .loop-test .left)

@@ -12,7 +12,8 @@ use Rattle.parts.proofs.internal.fill_corners.Statement.{statement}
 use Rattle.parts.proofs.internal.fill_corners.Tie as tie
 
 abbrev Inv-loop : tie.InvT-loop
-Inv-loop file corners₀ i₀ c₀ unread₀ corners i c unread = Filling (number word) file (valuesOf plainRun file (record { at = i₀; count = unread₀ })) corners₀ corners i c unread
+Inv-loop file corners₀ i₀ c₀ unread₀ corners i c unread =
+    Filling (number word) file (valuesOf plainRun file (record { at = i₀; count = unread₀ })) corners₀ corners i c unread
 
 abbrev μ-loop : tie.MeasureT-loop
 μ-loop file corners₀ i₀ c₀ unread₀ corners i c unread = unread
@@ -36,19 +37,32 @@ same-length : tie.Need-same-length Inv-loop μ-loop
 same-length c = c .before .before .before .before .loop .inv .table .size
 
 returns : tie.Need-returns Inv-loop μ-loop
-returns c = absurd (plain-there (c .before .before .before .before .loop .inv) (more (c .before .before .before)) (sym (c .before .before .read-number .ensures) ∙ c .enum-told .given .1))
+returns c =
+    let at-read-number = c .before .before in
+    let at-test = at-read-number .before in
+    let at-loop = at-test .before in
+    absurd (plain-there (at-loop .loop .inv) (more at-test) (sym (at-read-number .read-number .ensures) ∙ c .enum-told .given .1))
 
 cast-corners : tie.Need-cast-corners Inv-loop μ-loop
-cast-corners c = omega (arith, took _ _ _ _ _ (sym (c .before .before .before .read-number .ensures) ∙ c .before .n .given .1) .low)
+cast-corners c = omega (arith, took (sym (c .before .before .before .read-number .ensures) ∙ c .before .n .given .1) .low)
 
 mul-corners : tie.Need-mul-corners Inv-loop μ-loop
-mul-corners c = omega (arith, fill-room (c .before .before .before .before .before .loop .inv) (more (c .before .before .before .before)), c .before .before .before .before .before .loop .inv .table .size)
+mul-corners c =
+    let at-test = c .before .before .before .before in
+    let at-loop = at-test .before in
+    omega (arith, fill-room (at-loop .loop .inv) (more at-test), at-loop .loop .inv .table .size)
 
 slice-write-corners : tie.Need-slice-write-corners Inv-loop μ-loop
-slice-write-corners c = fill-room (c .before .before .before .before .before .loop .inv) (more (c .before .before .before .before))
+slice-write-corners c =
+    let at-test = c .before .before .before .before in
+    let at-loop = at-test .before in
+    fill-room (at-loop .loop .inv) (more at-test)
 
 add-c : tie.Need-add-c Inv-loop μ-loop
-add-c c = omega (arith, fill-room (c .before .before .before .before .before .loop .inv) (more (c .before .before .before .before)), c .before .before .before .before .before .loop .inv .table .size)
+add-c c =
+    let at-test = c .before .before .before .before in
+    let at-loop = at-test .before in
+    omega (arith, fill-room (at-loop .loop .inv) (more at-test), at-loop .loop .inv .table .size)
 
 sub-unread : tie.Need-sub-unread Inv-loop μ-loop
 sub-unread c = search needs
@@ -57,7 +71,11 @@ loop-less : tie.Need-loop-less Inv-loop μ-loop
 loop-less c = search needs
 
 loop-again : tie.Need-loop-again Inv-loop μ-loop
-loop-again c = plain-next (c .before .before .before .before .before .loop .inv) (more (c .before .before .before .before)) _ _ (sym (c .before .before .before .read-number .ensures) ∙ c .before .n .given .1)
+loop-again c =
+    let at-read-number = c .before .before .before in
+    let at-test = at-read-number .before in
+    let at-loop = at-test .before in
+    plain-next (at-loop .loop .inv) (more at-test) (sym (at-read-number .read-number .ensures) ∙ c .before .n .given .1)
 
 same-length-2 : tie.Need-same-length-2 Inv-loop μ-loop
 same-length-2 c = c .before .loop .inv .table .size

@@ -13,7 +13,8 @@ use Rattle.parts.proofs.internal.fill_signed.Statement.{statement}
 use Rattle.parts.proofs.internal.fill_signed.Tie as tie
 
 abbrev Inv-loop : tie.InvT-loop
-Inv-loop file table₀ i₀ k₀ left₀ table i k left = Filling (signed word) file (valuesOf signedRun file (record { at = i₀; count = left₀ })) table₀ table i k left
+Inv-loop file table₀ i₀ k₀ left₀ table i k left =
+    Filling (signed word) file (valuesOf signedRun file (record { at = i₀; count = left₀ })) table₀ table i k left
 
 abbrev μ-loop : tie.MeasureT-loop
 μ-loop file table₀ i₀ k₀ left₀ table i k left = left
@@ -34,19 +35,32 @@ same-length : tie.Need-same-length Inv-loop μ-loop
 same-length c = c .before .before .before .before .loop .inv .table .size
 
 returns : tie.Need-returns Inv-loop μ-loop
-returns c = absurd (signed-there (c .before .before .before .before .loop .inv) (c .before .before .before .loop-test .taken) (sym (c .before .before .read-number .ensures) ∙ c .enum-told .given .1))
+returns c =
+    let at-read-number = c .before .before in
+    let at-test = at-read-number .before in
+    let at-loop = at-test .before in
+    absurd (signed-there (at-loop .loop .inv) (at-test .loop-test .taken) (sym (at-read-number .read-number .ensures) ∙ c .enum-told .given .1))
 
 signed-word-requires : tie.Need-signed-word-requires Inv-loop μ-loop
-signed-word-requires c κs = took _ _ _ _ _ (sym (c .before .before .before .read-number .ensures) ∙ c .before .n .given .1) .low
+signed-word-requires c κs = took (sym (c .before .before .before .read-number .ensures) ∙ c .before .n .given .1) .low
 
 mul-z : tie.Need-mul-z Inv-loop μ-loop
-mul-z c = omega (arith, fill-room (c .before .before .before .before .before .before .loop .inv) (c .before .before .before .before .before .loop-test .taken), c .before .before .before .before .before .before .loop .inv .table .size)
+mul-z c =
+    let at-test = c .before .before .before .before .before in
+    let at-loop = at-test .before in
+    omega (arith, fill-room (at-loop .loop .inv) (at-test .loop-test .taken), at-loop .loop .inv .table .size)
 
 slice-set-from-z : tie.Need-slice-set-from-z Inv-loop μ-loop
-slice-set-from-z c = fill-room (c .before .before .before .before .before .before .loop .inv) (c .before .before .before .before .before .loop-test .taken)
+slice-set-from-z c =
+    let at-test = c .before .before .before .before .before in
+    let at-loop = at-test .before in
+    fill-room (at-loop .loop .inv) (at-test .loop-test .taken)
 
 add-k : tie.Need-add-k Inv-loop μ-loop
-add-k c = omega (arith, fill-room (c .before .before .before .before .before .before .loop .inv) (c .before .before .before .before .before .loop-test .taken), c .before .before .before .before .before .before .loop .inv .table .size)
+add-k c =
+    let at-test = c .before .before .before .before .before in
+    let at-loop = at-test .before in
+    omega (arith, fill-room (at-loop .loop .inv) (at-test .loop-test .taken), at-loop .loop .inv .table .size)
 
 sub-left : tie.Need-sub-left Inv-loop μ-loop
 sub-left c = search needs
@@ -55,7 +69,13 @@ loop-less : tie.Need-loop-less Inv-loop μ-loop
 loop-less c = search needs
 
 loop-again : tie.Need-loop-again Inv-loop μ-loop
-loop-again c = signed-next (c .before .before .before .before .before .before .loop .inv) (c .before .before .before .before .before .loop-test .taken) _ _ (sym (c .before .before .before .before .read-number .ensures) ∙ c .before .before .n .given .1) (same w32 _ (c .signed-word .ok) ∙ c .signed-word .ensures)
+loop-again c =
+    let at-n = c .before .before in
+    let at-read-number = at-n .before .before in
+    let at-test = at-read-number .before in
+    let at-loop = at-test .before in
+    signed-next (at-loop .loop .inv) (at-test .loop-test .taken) (sym (at-read-number .read-number .ensures) ∙ at-n .n .given .1)
+    (same w32 _ (c .signed-word .ok) ∙ c .signed-word .ensures)
 
 same-length-2 : tie.Need-same-length-2 Inv-loop μ-loop
 same-length-2 c = c .before .loop .inv .table .size

@@ -32,16 +32,28 @@ enum-told-2 c = search needs
 
 returns-2 : tie.Need-returns-2
 unfolding Finds
-returns-2 c = no-triangle-count _ _ _ (sym (c .before .before .before .before .before .before .read-number .ensures) ∙ c .before .before .before .before .n .given .1) (sym (c .before .before .read-number2 .ensures) ∙ c .enum-told2 .given .1)
+returns-2 c =
+    let at-read-number2 = c .before .before in
+    let at-n = at-read-number2 .before .before in
+    let at-read-number = at-n .before .before in
+    no-triangle-count _ (sym (at-read-number .read-number .ensures) ∙ at-n .n .given .1)
+    (sym (at-read-number2 .read-number2 .ensures) ∙ c .enum-told2 .given .1)
 
 mul-find-tables : tie.Need-mul-find-tables
-mul-find-tables c = omega (arith, took _ _ _ _ _ (sym (c .before .before .before .before .before .before .before .read-number .ensures) ∙ c .before .before .before .before .before .n .given .1) .low)
+mul-find-tables c =
+    let at-n = c .before .before .before .before .before in
+    let at-read-number = at-n .before .before in
+    omega (arith, took (sym (at-read-number .read-number .ensures) ∙ at-n .n .given .1) .low)
 
 mul-find-tables-2 : tie.Need-mul-find-tables-2
-mul-find-tables-2 c = omega (arith, took _ _ _ _ _ (sym (c .before .before .before .read-number2 .ensures) ∙ c .before .m .given .1) .low)
+mul-find-tables-2 c = omega (arith, took (sym (c .before .before .before .read-number2 .ensures) ∙ c .before .m .given .1) .low)
 
 find-tables-requires : tie.Need-find-tables-requires
-find-tables-requires c κs = counted _ _ _ (sym (c .before .before .before .before .before .before .before .read-number .ensures) ∙ c .before .before .before .before .before .n .given .1) _ _ (sym (c .before .before .before .read-number2 .ensures) ∙ c .before .m .given .1)
+find-tables-requires c κs =
+    let at-read-number2 = c .before .before .before in
+    let at-n = at-read-number2 .before .before in
+    let at-read-number = at-n .before .before in
+    counted _ (sym (at-read-number .read-number .ensures) ∙ at-n .n .given .1) (sym (at-read-number2 .read-number2 .ensures) ∙ c .before .m .given .1)
 
 returns-3 : tie.Need-returns-3
 returns-3 c = search needs

@@ -13,13 +13,21 @@ enum-known-e : tie.Need-enum-known-e
 enum-known-e c = search needs
 
 check-run-requires-2 : tie.Need-check-run-requires-2
-check-run-requires-2 c κs = coords-run _ (c .before .before .before .before .before .pre) _ (sym (c .before .before .before .check-run .ensures) ∙ c .before .e .given .1) .inside
+check-run-requires-2 c κs =
+    let at-check-run = c .before .before .before in
+    let start = at-check-run .before .before in
+    coords-run _ (start .pre) (sym (at-check-run .check-run .ensures) ∙ c .before .e .given .1) .inside
 
 enum-known-f : tie.Need-enum-known-f
 enum-known-f c = search needs
 
 find-heights-requires : tie.Need-find-heights-requires
-find-heights-requires c κs = tabled _ (c .before .before .before .before .before .before .before .before .before .pre) _ (sym (c .before .before .before .before .before .before .before .check-run .ensures) ∙ c .before .before .before .before .before .e .given .1) _ (sym (c .before .before .before .check-run2 .ensures) ∙ c .before .f .given .1)
+find-heights-requires c κs =
+    let at-check-run2 = c .before .before .before in
+    let at-e = at-check-run2 .before .before in
+    let at-check-run = at-e .before .before in
+    let start = at-check-run .before .before in
+    tabled _ (start .pre) (sym (at-check-run .check-run .ensures) ∙ at-e .e .given .1) (sym (at-check-run2 .check-run2 .ensures) ∙ c .before .f .given .1)
 
 enum-known-f-2 : tie.Need-enum-known-f-2
 enum-known-f-2 c = search needs
@@ -32,11 +40,20 @@ returns c = search needs
 
 returns-2 : tie.Need-returns-2
 unfolding Finds
-returns-2 c = corners-broken _ (c .before .before .before .before .before .before .before .before .before .pre) _ (sym (c .before .before .before .before .before .before .before .check-run .ensures) ∙ c .before .before .before .before .before .e .given .1) _ (sym (c .before .before .before .check-run2 .ensures) ∙ c .before .f2 .given .1)
+returns-2 c =
+    let at-check-run2 = c .before .before .before in
+    let at-e = at-check-run2 .before .before in
+    let at-check-run = at-e .before .before in
+    let start = at-check-run .before .before in
+    corners-broken _ (start .pre) (sym (at-check-run .check-run .ensures) ∙ at-e .e .given .1)
+    (sym (at-check-run2 .check-run2 .ensures) ∙ c .before .f2 .given .1)
 
 returns-3 : tie.Need-returns-3
 unfolding Finds
-returns-3 c = coords-broken _ (c .before .before .before .before .before .pre) _ (sym (c .before .before .before .check-run .ensures) ∙ c .before .e2 .given .1)
+returns-3 c =
+    let at-check-run = c .before .before .before in
+    let start = at-check-run .before .before in
+    coords-broken _ (start .pre) (sym (at-check-run .check-run .ensures) ∙ c .before .e2 .given .1)
 
 pub find-tables-spec : {M : Type 1} → statement M
 find-tables-spec =

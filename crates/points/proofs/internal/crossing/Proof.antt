@@ -7,14 +7,20 @@ use mir.Syntax.{w32}
 use mir.Val.{toZ, ofZ}
 use mir.ValLaws.{toZ-ofZ}
 use Rattle.mesh.specs.Corners.{endOf}
+use Rattle.mesh.specs.Meshes.{mesh}
 use Rattle.points.proofs.Reading.{held-is, Read, read-of, read-edge, read-point}
 use borrow.Author.Needs.{needs}
 use Rattle.points.proofs.internal.crossing.Statement.{statement}
 use Rattle.points.proofs.internal.crossing.Tie as tie
 
 -- the end that was read
-end-is : (c : tie.After-wide2) → let s = c .before .before .before .before .before .before .args in c .wide2 .result ≡ endOf (now (s .corners)) (s .c)
-end-is c = c .wide2 .ensures ∙ ap (λ k. getD (now (c .before .before .before .before .before .before .args .corners)) k 0) (c .before .before .before .before .next-corner .ensures)
+end-is : (c : tie.After-wide2)
+    → let start = c .before .before .before .before .before .before in
+    c .wide2 .result ≡ endOf (now (start .args .corners)) (start .args .c)
+end-is c =
+    let at-next = c .before .before .before .before in
+    let start = at-next .before .before in
+    c .wide2 .ensures ∙ ap (λ k. getD (now (start .args .corners)) k 0) (at-next .next-corner .ensures)
 
 next-corner-requires : tie.Need-next-corner-requires
 next-corner-requires c κs = search needs
@@ -51,21 +57,28 @@ coordinate-requires-4 c κs = omega (arith, end-is (c .before .before .before))
 
 -- the five numbers that were read
 held : (c : tie.After-coordinate4)
-    → let s = c .before .before .before .before .before .before .before .before .before .before .args in
-    Read (now (s .coords)) (now (s .corners)) (s .h) (s .axis) (s .c) (toZ w32 (ofZ w32 (c .before .before .before .coordinate .result))) (toZ w32 (ofZ w32 (c .before .before .coordinate2 .result)))
+    → let at-first = c .before .before .before in
+    let start = at-first .before .before .before .before .before .before .before in
+    let s = start .args in
+    Read (mesh (now (s .coords)) (now (s .corners))) (s .h) (s .axis) (s .c)
+    (toZ w32 (ofZ w32 (at-first .coordinate .result))) (toZ w32 (ofZ w32 (c .before .before .coordinate2 .result)))
     (toZ w32 (ofZ w32 (c .before .coordinate3 .result))) (toZ w32 (ofZ w32 (c .coordinate4 .result))) (toZ w32 (ofZ w32 (s .h)))
 held c =
-    let b = c .before .before .before in
-    let w = b .before in
-    read-of (w .before .before .wide .result) (w .wide2 .result) (w .before .before .wide .ensures) (end-is w)
-    (held-is (b .coordinate .ok) (b .coordinate .ensures)) (held-is (c .before .before .coordinate2 .ok) (c .before .before .coordinate2 .ensures))
-    (held-is (c .before .coordinate3 .ok) (c .before .coordinate3 .ensures)) (held-is (c .coordinate4 .ok) (c .coordinate4 .ensures))
-    (toZ-ofZ w32 _ (w .before .before .before .before .before .before .fits .h))
+    let at-first = c .before .before .before in
+    let at-end = at-first .before in
+    let at-start = at-end .before .before in
+    let start = at-start .before .before .before .before in
+    read-of (at-start .wide .result) (at-end .wide2 .result) (at-start .wide .ensures) (end-is at-end)
+    (held-is (at-first .coordinate .ok) (at-first .coordinate .ensures))
+    (held-is (c .before .before .coordinate2 .ok) (c .before .before .coordinate2 .ensures))
+    (held-is (c .before .coordinate3 .ok) (c .before .coordinate3 .ensures))
+    (held-is (c .coordinate4 .ok) (c .coordinate4 .ensures))
+    (toZ-ofZ w32 _ (start .fits .h))
 
 meet-requires : tie.Need-meet-requires
 meet-requires c κs =
-    let s = c .before .before .before .before .before .before .before .before .before .before in
-    read-edge (held c) (s .pre .1) (s .pre .0)
+    let start = c .before .before .before .before .before .before .before .before .before .before in
+    read-edge (held c) (start .pre .1) (start .pre .0)
 
 returns : tie.Need-returns
 returns c = held-is (c .meet .ok) (c .meet .ensures) ∙ read-point (held (c .before))

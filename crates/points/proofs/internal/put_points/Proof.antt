@@ -7,13 +7,14 @@ use mir.Syntax.{w32}
 use mir.Val.{toZ, ofZ}
 use mir.ValLaws.{toZ-ofZ}
 use borrow.Author.Needs.{needs}
+use Rattle.mesh.specs.Meshes.{mesh}
 use Rattle.points.specs.Climbs.{Climbs}
 use Rattle.points.proofs.Writing.{Written, written-none, written-more, written-all}
 use Rattle.points.proofs.internal.put_points.Statement.{statement}
 use Rattle.points.proofs.internal.put_points.Tie as tie
 
 abbrev Inv-loop : tie.InvT-loop
-Inv-loop coords corners h names points₀ k i₀ points i = Written coords corners (toZ w32 h) names points₀ k points i
+Inv-loop coords corners h names points₀ k i₀ points i = Written (mesh coords corners) (toZ w32 h) names points₀ k points i
 
 abbrev μ-loop : tie.MeasureT-loop
 μ-loop coords corners h names points₀ k i₀ points i = k - i
@@ -31,7 +32,10 @@ wide-requires : tie.Need-wide-requires Inv-loop μ-loop
 wide-requires c κs = search needs
 
 -- the name that was read, at the height as it is held
-climbs : (c : tie.After-wide Inv-loop μ-loop) → let s = c .before .before .before .before .before .before .args in Climbs (now (s .coords)) (now (s .corners)) (toZ w32 (ofZ w32 (s .h))) (c .wide .result)
+climbs : (c : tie.After-wide Inv-loop μ-loop)
+    → let start = c .before .before .before .before .before .before in
+    let s = start .args in Climbs (mesh (now (s .coords)) (now (s .corners))) (toZ w32 (ofZ w32 (s .h)))
+    (c .wide .result)
 climbs c =
     let l = c .before .before .before in
     let s = l .before .before .before in

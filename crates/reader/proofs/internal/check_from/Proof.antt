@@ -24,18 +24,29 @@ enum-told : tie.Need-enum-told
 enum-told c = search needs
 
 -- what `read_height` answered, of `low` as it was given
-answer : (c : tie.After-read-height) → heightAt (c .before .before .args .low) (c .before .before .args .file .now) (c .before .before .args .at) ≡ c .read-height .result
-answer c = sym (c .read-height .ensures ∙ ap (λ (z : ℤ). heightAt z (c .before .before .args .file .now) (c .before .before .args .at)) (toZ-ofZ w64 (c .before .before .args .low) (c .before .before .fits .low)))
+answer : (c : tie.After-read-height)
+    → heightAt (c .before .before .args .low) (c .before .before .args .file .now) (c .before .before .args .at) ≡ c .read-height .result
+answer c =
+    sym (c .read-height .ensures ∙ ap (λ (z : ℤ). heightAt z (c .before .before .args .file .now) (c .before .before .args .at))
+    (toZ-ofZ w64 (c .before .before .args .low) (c .before .before .fits .low)))
 
 returns : tie.Need-returns
-returns c = first-stops (c .before .before .before .before .args .more) (c .before .before .before .before .args .low) _ _ _ (layer-no-height _ _ _ (c .before .before .before .before .pre) (answer (c .before .before) ∙ c .enum-told .given .1))
+returns c =
+    let at-read-height = c .before .before in
+    let start = at-read-height .before .before in
+    first-stops (start .args .more) (start .args .low) _ _ (layer-no-height _ _ _ (start .pre) (answer at-read-height ∙ c .enum-told .given .1))
 
 -- the height read
-height : (c : tie.After-known-told) → heightAt (c .before .before .before .before .before .args .low) (c .before .before .before .before .before .args .file .now) (c .before .before .before .before .before .args .at) ≡ Above (c .before .h .given .0 .0) (c .before .h .given .0 .1 .0)
+height : (c : tie.After-known-told)
+    → let start = c .before .before .before .before .before in
+    heightAt (start .args .low) (start .args .file .now) (start .args .at)
+    ≡ Above (c .before .h .given .0 .0) (c .before .h .given .0 .1 .0)
 height c = answer (c .before .before .before) ∙ c .before .h .given .1
 
 check-counted-requires : tie.Need-check-counted-requires
-check-counted-requires c κs = height-inside _ _ _ (c .before .before .before .before .before .pre) _ _ (height c)
+check-counted-requires c κs =
+    let start = c .before .before .before .before .before in
+    height-inside _ _ _ (start .pre) _ _ (height c)
 
 enum-known-c : tie.Need-enum-known-c
 enum-known-c c = search needs
@@ -44,11 +55,18 @@ enum-known-c-2 : tie.Need-enum-known-c-2
 enum-known-c-2 c = search needs
 
 -- the counts of contours and points
-counts : (c : tie.After-known-told3) → countsAt (c .before .before .before .before .before .before .before .before .before .args .file .now) (c .before .before .before .before .before .h .given .0 .1 .0) ≡ End (c .before .c2 .given .0 .0) (c .before .c2 .given .0 .1 .0) (c .before .c2 .given .0 .1 .1 .0)
+counts : (c : tie.After-known-told3)
+    → let at-h = c .before .before .before .before .before in
+    let start = at-h .before .before .before .before in
+    countsAt (start .args .file .now) (at-h .h .given .0 .1 .0)
+    ≡ End (c .before .c2 .given .0 .0) (c .before .c2 .given .0 .1 .0) (c .before .c2 .given .0 .1 .1 .0)
 counts c = sym (c .before .before .before .check-counted .ensures) ∙ c .before .c2 .given .1
 
 check-last-requires : tie.Need-check-last-requires
-check-last-requires c κs = next-inside (c .before .before .before .before .before .before .before .before .before .args .more) _ _ _ (c .before .before .before .before .before .before .before .before .before .pre) _ _ (height (c .before .before .before .before)) _ _ _ (counts c)
+check-last-requires c κs =
+    let at-told = c .before .before .before .before in
+    let start = at-told .before .before .before .before .before in
+    next-inside (start .args .more) _ _ _ (start .pre) (height at-told) (counts c)
 
 enum-known-rest : tie.Need-enum-known-rest
 enum-known-rest c = search needs
@@ -57,13 +75,32 @@ enum-told-2 : tie.Need-enum-told-2
 enum-told-2 c = search needs
 
 returns-2 : tie.Need-returns-2
-returns-2 c = first-stops (c .before .before .before .before .before .before .before .before .before .args .more) (c .before .before .before .before .before .before .before .before .before .args .low) _ _ _ (layer-no-contours _ _ _ (c .before .before .before .before .before .before .before .before .before .pre) _ _ (height (c .before .before .before .before)) _ (sym (c .before .before .before .check-counted .ensures) ∙ c .before .c .given .1))
+returns-2 c =
+    let at-check-counted = c .before .before .before in
+    let at-told = at-check-counted .before in
+    let start = at-told .before .before .before .before .before in
+    first-stops (start .args .more) (start .args .low) _ _
+    (layer-no-contours _ _ _ (start .pre) _ _ (height at-told) _ (sym (at-check-counted .check-counted .ensures) ∙ c .before .c .given .1))
 
 returns-3 : tie.Need-returns-3
-returns-3 c = last-stops (c .before .before .before .before .before .before .before .before .before .before .before .before .before .args .more) _ _ _ (c .before .before .before .before .before .before .before .before .before .before .before .before .before .pre) _ _ (height (c .before .before .before .before .before .before .before .before)) _ _ _ (counts (c .before .before .before .before)) _ (same w64 (c .before .before .before .before .before .before .before .before .before .h .given .0 .0) (omega arith)) _ (sym (c .before .before .before .check-last .ensures) ∙ c .before .rest .given .1)
+returns-3 c =
+    let at-check-last = c .before .before .before in
+    let at-told3 = at-check-last .before in
+    let at-told = at-told3 .before .before .before .before in
+    let at-h = at-told .before in
+    let start = at-h .before .before .before .before in
+    last-stops (start .args .more) _ _ _ (start .pre) (height at-told) (counts at-told3)
+    (same w64 (at-h .h .given .0 .0) (omega arith)) (sym (at-check-last .check-last .ensures) ∙ c .before .rest .given .1)
 
 returns-4 : tie.Need-returns-4
-returns-4 c = last-passes (c .before .before .before .before .before .before .before .before .before .before .before .before .args .more) _ _ _ (c .before .before .before .before .before .before .before .before .before .before .before .before .pre) _ _ (height (c .before .before .before .before .before .before .before)) _ _ _ (counts (c .before .before .before)) _ (same w64 (c .before .before .before .before .before .before .before .before .h .given .0 .0) (omega arith)) _ (sym (c .before .before .check-last .ensures) ∙ c .enum-told2 .given .1)
+returns-4 c =
+    let at-check-last = c .before .before in
+    let at-told3 = at-check-last .before in
+    let at-told = at-told3 .before .before .before .before in
+    let at-h = at-told .before in
+    let start = at-h .before .before .before .before in
+    last-passes (start .args .more) _ _ _ (start .pre) (height at-told) (counts at-told3)
+    (same w64 (at-h .h .given .0 .0) (omega arith)) (sym (at-check-last .check-last .ensures) ∙ c .enum-told2 .given .1)
 
 pub check-from-spec : {M : Type 1} → statement M
 check-from-spec =

@@ -2,6 +2,7 @@
 use mathlib.Core.Path.{_≡_, sym, _∙_}
 use Prim.Native.Nat.{_-_}
 use native.Mathlib.Omega.{arith}
+use Rattle.polygons.specs.Flat.{flat}
 use Rattle.formats.specs.LayerFile.{mostPoints}
 use Rattle.formats.specs.Positions.{numberAt}
 use Rattle.formats.specs.declared.Number.the-variants.{Value}
@@ -11,7 +12,7 @@ use Rattle.reader.proofs.internal.fill_layer.Statement.{statement}
 use Rattle.reader.proofs.internal.fill_layer.Tie as tie
 
 abbrev Inv-loop : tie.InvT-loop
-Inv-loop file at points₀ ends₀ count start i₀ done₀ c₀ points ends i done c = Filling file at points₀ ends₀ count points ends i done c
+Inv-loop file at points₀ ends₀ count start i₀ done₀ c₀ points ends i done c = Filling file at (flat points₀ ends₀) count (flat points ends) i done c
 
 abbrev μ-loop : tie.MeasureT-loop
 μ-loop file at points₀ ends₀ count start i₀ done₀ c₀ points ends i done c = count - c
@@ -26,10 +27,16 @@ enum-told : tie.Need-enum-told Inv-loop μ-loop
 enum-told c = search needs
 
 returns : tie.Need-returns Inv-loop μ-loop
-returns c = absurd (count-there (c .before .before .before .before .before .pre) (sym (c .before .before .read-number .ensures) ∙ c .enum-told .given .1))
+returns c =
+    let at-read-number = c .before .before in
+    let start = at-read-number .before .before .before in
+    absurd (count-there (start .pre) (sym (at-read-number .read-number .ensures) ∙ c .enum-told .given .1))
 
 loop-holds : tie.Need-loop-holds Inv-loop μ-loop
-loop-holds c = filling (c .before .before .before .before .before .before .pre) _ _ (sym (c .before .before .before .read-number .ensures) ∙ c .before .n .given .1)
+loop-holds c =
+    let at-read-number = c .before .before .before in
+    let start = at-read-number .before .before .before in
+    filling (start .pre) (sym (at-read-number .read-number .ensures) ∙ c .before .n .given .1)
 
 sub-read-number : tie.Need-sub-read-number Inv-loop μ-loop
 sub-read-number c = c .before .loop .inv .low
@@ -50,29 +57,53 @@ same-length-2 : tie.Need-same-length-2 Inv-loop μ-loop
 same-length-2 c = c .before .before .before .before .loop .inv .ends-go .size
 
 returns-2 : tie.Need-returns-2 Inv-loop μ-loop
-returns-2 c = absurd (points-there (c .before .before .before .before .loop .inv) (c .before .before .before .loop-test .taken) (sym (c .before .before .read-number2 .ensures) ∙ c .enum-told2 .given .1))
+returns-2 c =
+    let at-read-number2 = c .before .before in
+    let at-test = at-read-number2 .before in
+    let at-loop = at-test .before in
+    absurd (points-there (at-loop .loop .inv) (at-test .loop-test .taken) (sym (at-read-number2 .read-number2 .ensures) ∙ c .enum-told2 .given .1))
 
 -- the contour's count of points
-count : (c : tie.After-known-told2 Inv-loop μ-loop) → numberAt (mostPoints - c .before .before .before .before .before .loop .done) (c .before .before .before .before .before .before .before .before .before .before .before .before .args .file .now) (c .before .before .before .before .before .loop .i) ≡ Value (c .before .m .given .0 .0) (c .before .m .given .0 .1 .0)
+count : (c : tie.After-known-told2 Inv-loop μ-loop)
+    → let at-loop = c .before .before .before .before .before in
+    let start = at-loop .before .before .before .before .before .before .before in
+    numberAt (mostPoints - at-loop .loop .done) (start .args .file .now) (at-loop .loop .i)
+    ≡ Value (c .before .m .given .0 .0) (c .before .m .given .0 .1 .0)
 count c = sym (c .before .before .before .read-number2 .ensures) ∙ c .before .m .given .1
 
 mul-fill-points : tie.Need-mul-fill-points Inv-loop μ-loop
-mul-fill-points c = omega (arith, c .before .before .before .before .before .before .loop .inv .low)
+mul-fill-points c =
+    let at-loop = c .before .before .before .before .before .before in
+    omega (arith, at-loop .loop .inv .low)
 
 fill-points-requires : tie.Need-fill-points-requires Inv-loop μ-loop
-fill-points-requires c κs = fill-ready (c .before .before .before .before .before .before .loop .inv) (c .before .before .before .before .before .loop-test .taken) _ _ (count (c .before))
+fill-points-requires c κs =
+    let at-test = c .before .before .before .before .before in
+    let at-loop = at-test .before in
+    fill-ready (at-loop .loop .inv) (at-test .loop-test .taken) (count (c .before))
 
 add-done : tie.Need-add-done Inv-loop μ-loop
-add-done c = omega (arith, still-low (c .before .before .before .before .before .before .before .before .loop .inv) (c .before .before .before .before .before .before .before .loop-test .taken) _ _ (count (c .before .before .before)))
+add-done c =
+    let at-told2 = c .before .before .before in
+    let at-test = at-told2 .before .before .before .before in
+    let at-loop = at-test .before in
+    omega (arith, still-low (at-loop .loop .inv) (at-test .loop-test .taken) (count at-told2))
 
 cast-ends : tie.Need-cast-ends Inv-loop μ-loop
-cast-ends c = omega (arith, still-low (c .before .before .before .before .before .before .before .before .loop .inv) (c .before .before .before .before .before .before .before .loop-test .taken) _ _ (count (c .before .before .before)))
+cast-ends c =
+    let at-told2 = c .before .before .before in
+    let at-test = at-told2 .before .before .before .before in
+    let at-loop = at-test .before in
+    omega (arith, still-low (at-loop .loop .inv) (at-test .loop-test .taken) (count at-told2))
 
 mul-ends : tie.Need-mul-ends Inv-loop μ-loop
 mul-ends c = search needs
 
 slice-write-ends : tie.Need-slice-write-ends Inv-loop μ-loop
-slice-write-ends c = end-fits (c .before .before .before .before .before .before .before .before .loop .inv) (c .before .before .before .before .before .before .before .loop-test .taken)
+slice-write-ends c =
+    let at-test = c .before .before .before .before .before .before .before in
+    let at-loop = at-test .before in
+    end-fits (at-loop .loop .inv) (at-test .loop-test .taken)
 
 add-c : tie.Need-add-c Inv-loop μ-loop
 add-c c = search needs
@@ -81,7 +112,11 @@ loop-less : tie.Need-loop-less Inv-loop μ-loop
 loop-less c = search needs
 
 loop-again : tie.Need-loop-again Inv-loop μ-loop
-loop-again c = next-contour (c .before .before .before .before .before .before .before .before .loop .inv) (c .before .before .before .before .before .before .before .loop-test .taken) _ _ (count (c .before .before .before)) _ _ (c .before .fill-points .ensures)
+loop-again c =
+    let at-told2 = c .before .before .before in
+    let at-test = at-told2 .before .before .before .before in
+    let at-loop = at-test .before in
+    next-contour (at-loop .loop .inv) (at-test .loop-test .taken) (count at-told2) (c .before .fill-points .ensures)
 
 same-length-3 : tie.Need-same-length-3 Inv-loop μ-loop
 same-length-3 c = c .before .loop .inv .points-go .size

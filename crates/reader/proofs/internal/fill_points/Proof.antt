@@ -40,14 +40,24 @@ same-length : tie.Need-same-length Inv-loop μ-loop
 same-length c = c .before .before .before .before .loop .inv .table .size
 
 returns : tie.Need-returns Inv-loop μ-loop
-returns c = absurd (x-there (c .before .before .before .before .loop .inv) (more (c .before .before .before)) (sym (c .before .before .read-coordinate .ensures) ∙ c .enum-told .given .1))
+returns c =
+    let at-read-coordinate = c .before .before in
+    let at-test = at-read-coordinate .before in
+    let at-loop = at-test .before in
+    absurd (x-there (at-loop .loop .inv) (more at-test) (sym (at-read-coordinate .read-coordinate .ensures) ∙ c .enum-told .given .1))
 
 -- the first coordinate read
-first : (c : tie.After-known-told Inv-loop μ-loop) → coordinateAt (toZ w32 (c .before .before .before .before .before .loop .x)) (c .before .before .before .before .before .before .before .args .file .now) (c .before .before .before .before .before .loop .i) ≡ At (c .before .a .given .0 .0) (c .before .a .given .0 .1 .0)
+first : (c : tie.After-known-told Inv-loop μ-loop)
+    → let at-loop = c .before .before .before .before .before in
+    let start = at-loop .before .before in
+    coordinateAt (toZ w32 (at-loop .loop .x)) (start .args .file .now) (at-loop .loop .i)
+    ≡ At (c .before .a .given .0 .0) (c .before .a .given .0 .1 .0)
 first c = sym (c .before .before .before .read-coordinate .ensures) ∙ c .before .a .given .1
 
 read-coordinate-requires-2 : tie.Need-read-coordinate-requires-2 Inv-loop μ-loop
-read-coordinate-requires-2 c κs = c .before .before .before .before .before .loop .inv .y-in
+read-coordinate-requires-2 c κs =
+    let at-loop = c .before .before .before .before .before in
+    at-loop .loop .inv .y-in
 
 enum-known-b : tie.Need-enum-known-b Inv-loop μ-loop
 enum-known-b c = search needs
@@ -56,16 +66,27 @@ enum-told-2 : tie.Need-enum-told-2 Inv-loop μ-loop
 enum-told-2 c = search needs
 
 same-length-2 : tie.Need-same-length-2 Inv-loop μ-loop
-same-length-2 c = c .before .before .before .before .before .before .before .before .loop .inv .table .size
+same-length-2 c =
+    let at-loop = c .before .before .before .before .before .before .before .before in
+    at-loop .loop .inv .table .size
 
 returns-2 : tie.Need-returns-2 Inv-loop μ-loop
-returns-2 c = absurd (y-there (c .before .before .before .before .before .before .before .before .loop .inv) (more (c .before .before .before .before .before .before .before)) _ _ (first (c .before .before .before)) (sym (c .before .before .read-coordinate2 .ensures) ∙ c .enum-told2 .given .1))
+returns-2 c =
+    let at-read-coordinate2 = c .before .before in
+    let at-told = at-read-coordinate2 .before in
+    let at-test = at-told .before .before .before .before in
+    let at-loop = at-test .before in
+    absurd (y-there (at-loop .loop .inv) (more at-test) (first at-told)
+    (sym (at-read-coordinate2 .read-coordinate2 .ensures) ∙ c .enum-told2 .given .1))
 
 mul-nx : tie.Need-mul-nx Inv-loop μ-loop
 mul-nx c = search needs
 
 slice-set-from-nx : tie.Need-slice-set-from-nx Inv-loop μ-loop
-slice-set-from-nx c = x-fits (c .before .before .before .before .before .before .before .before .before .loop .inv) (more (c .before .before .before .before .before .before .before .before))
+slice-set-from-nx c =
+    let at-test = c .before .before .before .before .before .before .before .before in
+    let at-loop = at-test .before in
+    x-fits (at-loop .loop .inv) (more at-test)
 
 add-ny : tie.Need-add-ny Inv-loop μ-loop
 add-ny c = search needs
@@ -74,7 +95,10 @@ mul-ny : tie.Need-mul-ny Inv-loop μ-loop
 mul-ny c = search needs
 
 slice-set-from-ny : tie.Need-slice-set-from-ny Inv-loop μ-loop
-slice-set-from-ny c = lt-length-set (c .before .before .before .before .before .before .before .before .before .loop .points) (c .before .before .before .before .before .before .before .before .before .loop .k) _ {i = c .before .before .before .before .before .before .before .before .before .loop .k + 1} (y-fits (c .before .before .before .before .before .before .before .before .before .loop .inv) (more (c .before .before .before .before .before .before .before .before)))
+slice-set-from-ny c =
+    let at-test = c .before .before .before .before .before .before .before .before in
+    let at-loop = at-test .before in
+    lt-length-set (at-loop .loop .points) (at-loop .loop .k) _ {i = at-loop .loop .k + 1} (y-fits (at-loop .loop .inv) (more at-test))
 
 add-k : tie.Need-add-k Inv-loop μ-loop
 add-k c = search needs
@@ -86,16 +110,25 @@ loop-less : tie.Need-loop-less Inv-loop μ-loop
 loop-less c = search needs
 
 -- the second coordinate read
-second : (c : tie.After-known-told2 Inv-loop μ-loop) → coordinateAt (toZ w32 (c .before .before .before .before .before .before .before .before .before .loop .y)) (c .before .before .before .before .before .before .before .before .before .before .before .args .file .now) (c .before .before .before .before .before .a .given .0 .1 .0) ≡ At (c .before .b .given .0 .0) (c .before .b .given .0 .1 .0)
+second : (c : tie.After-known-told2 Inv-loop μ-loop)
+    → let at-a = c .before .before .before .before .before in
+    let at-loop = at-a .before .before .before .before in
+    let start = at-loop .before .before in
+    coordinateAt (toZ w32 (at-loop .loop .y)) (start .args .file .now) (at-a .a .given .0 .1 .0)
+    ≡ At (c .before .b .given .0 .0) (c .before .b .given .0 .1 .0)
 second c = sym (c .before .before .before .read-coordinate2 .ensures) ∙ c .before .b .given .1
 
 loop-again : tie.Need-loop-again Inv-loop μ-loop
 loop-again c =
+    let at-told = c .before .before .before .before in
+    let at-a = at-told .before in
+    let at-test = at-a .before .before .before in
+    let at-loop = at-test .before in
     simp (
-      same-in w32 (c .before .before .before .before .before .a .given .0 .0) largest (x-near (c .before .before .before .before .before .before .before .before .before .loop .inv) (more (c .before .before .before .before .before .before .before .before)) _ _ (first (c .before .before .before .before))) tt,
-      same-in w32 (c .before .b .given .0 .0) largest (y-near (c .before .before .before .before .before .before .before .before .before .loop .inv) (more (c .before .before .before .before .before .before .before .before)) _ _ (first (c .before .before .before .before)) _ _ (second c)) tt,
+      same-in w32 (at-a .a .given .0 .0) largest (x-near (at-loop .loop .inv) (more at-test) (first at-told)) tt,
+      same-in w32 (c .before .b .given .0 .0) largest (y-near (at-loop .loop .inv) (more at-test) (first at-told) (second c)) tt,
     )
-    (next-filled (c .before .before .before .before .before .before .before .before .before .loop .inv) (more (c .before .before .before .before .before .before .before .before)) _ _ (first (c .before .before .before .before)) _ _ (second c))
+    (next-filled (at-loop .loop .inv) (more at-test) (first at-told) (second c))
 
 same-length-3 : tie.Need-same-length-3 Inv-loop μ-loop
 same-length-3 c = c .before .loop .inv .table .size

@@ -5,72 +5,129 @@ use borrow.Author.Needs.{needs}
 use mir.Syntax.{w32}
 use mir.Val.{toZ}
 use mir.ValLaws.{toZ-ofZ}
-use Rattle.rounds.proofs.Outlining.{Outlining, outlining-start, outlinable-held, names-length, ends-length, marks-length, c-small, c-inside, j-inside, j-small, d-after, d-upto, outlining-skip, roundable, end-few, outlining-ring, outlined-end, marked-end}
+use Rattle.mesh.specs.Meshes.{paired}
+use Rattle.rounds.proofs.Outlining.{Outlining, outlining-start, outlinable-held, names-length, ends-length, marks-length, c-small, c-inside, j-inside}
+use Rattle.rounds.proofs.Outlining.{j-small, d-after, outlining-skip, roundable, end-few, outlining-ring, outlined-end, marked-end}
 use Rattle.rounds.proofs.internal.outline.Statement.{statement}
 use Rattle.rounds.proofs.internal.outline.Tie as tie
 
 abbrev Inv-loop : tie.InvT-loop
-Inv-loop coords corners pairing h stamp ring head names₀ ends₀ marks₀ n c₀ k₀ j₀ names ends marks c k j = Outlining coords corners pairing (toZ w32 h) stamp ring head names₀ ends₀ marks₀ names ends marks c k j
+Inv-loop coords corners pairing h stamp ring head names₀ ends₀ marks₀ n c₀ k₀ j₀ names ends marks c k j =
+    Outlining (paired coords corners pairing) (toZ w32 h) stamp ring head names₀ ends₀ marks₀ names ends marks c k j
 
 abbrev μ-loop : tie.MeasureT-loop
 μ-loop coords corners pairing h stamp ring head names₀ ends₀ marks₀ n c₀ k₀ j₀ names ends marks c k j = n - c
 
 loop-holds : tie.Need-loop-holds Inv-loop μ-loop
-loop-holds c = let s = c .before .before .before .before .before .before in outlining-start _ _ _ _ _ _ _ _ _ _ (outlinable-held (toZ-ofZ w32 (s .args .h) (s .fits .h)) (s .pre))
+loop-holds c =
+    let start = c .before .before .before .before .before .before in
+    outlining-start _ _ (outlinable-held (toZ-ofZ w32 (start .args .h) (start .fits .h)) (start .pre))
 
 mul-wide : tie.Need-mul-wide Inv-loop μ-loop
-mul-wide c = omega (arith, c-small _ _ _ _ _ _ _ _ _ _ _ _ _ _ _ _ (c .before .loop .inv) (c .loop-test .taken))
+mul-wide c = omega (arith, c-small _ _ (c .before .loop .inv) (c .loop-test .taken))
 
 shared-slice-read-wide : tie.Need-shared-slice-read-wide Inv-loop μ-loop
-shared-slice-read-wide c = (c-inside _ _ _ _ _ _ _ _ _ _ _ _ _ _ _ _ (c .before .before .loop .inv) (c .before .loop-test .taken)) .0
+shared-slice-read-wide c =
+    let at-loop = c .before .before in
+    c-inside _ _ (at-loop .loop .inv) (c .before .loop-test .taken) .0
 
 wide-requires : tie.Need-wide-requires Inv-loop μ-loop
 wide-requires c κs = search needs
 
 mul-if1 : tie.Need-mul-if1 Inv-loop μ-loop
-mul-if1 c = omega (arith, c-small _ _ _ _ _ _ _ _ _ _ _ _ _ _ _ _ (c .before .before .before .loop .inv) (c .before .before .loop-test .taken))
+mul-if1 c =
+    let at-loop-test = c .before .before in
+    omega (arith, c-small _ _ (at-loop-test .before .loop .inv) (at-loop-test .loop-test .taken))
 
 slice-read-if1 : tie.Need-slice-read-if1 Inv-loop μ-loop
-slice-read-if1 c = (c-inside _ _ _ _ _ _ _ _ _ _ _ _ _ _ _ _ (c .before .before .before .before .loop .inv) (c .before .before .before .loop-test .taken)) .1
+slice-read-if1 c =
+    let at-loop-test = c .before .before .before in
+    c-inside _ _ (at-loop-test .before .loop .inv) (at-loop-test .loop-test .taken) .1
 
 loop-less : tie.Need-loop-less Inv-loop μ-loop
-loop-less c = let l = d-after _ _ _ _ _ _ _ _ _ _ _ _ _ _ _ _ (c .before .before .before .before .before .loop .inv) (c .before .before .before .before .loop-test .taken) (c .before .before .wide .result) (c .before .before .wide .ensures) in let u = d-upto _ _ _ _ _ _ _ _ _ _ _ _ _ _ _ _ (c .before .before .before .before .before .loop .inv) (c .before .before .before .before .loop-test .taken) (c .before .before .wide .result) (c .before .before .wide .ensures) in omega (arith, c .before .before .before .before .loop-test .taken)
+loop-less c =
+    let at-wide = c .before .before in
+    let at-loop-test = at-wide .before .before in
+    let inv = at-loop-test .before .loop .inv in
+    let after = d-after _ _ inv (at-loop-test .loop-test .taken) (at-wide .wide .ensures) in
+    omega (arith, at-loop-test .loop-test .taken)
 
 loop-again : tie.Need-loop-again Inv-loop μ-loop
-loop-again c = outlining-skip _ _ _ _ _ _ _ _ _ _ _ _ _ _ _ _ (c .before .before .before .before .before .loop .inv) (c .before .before .before .before .loop-test .taken) (c .before .before .wide .result) (c .before .before .wide .ensures) (c .if1 .taken)
+loop-again c =
+    let at-wide = c .before .before in
+    let at-loop-test = at-wide .before .before in
+    let inv = at-loop-test .before .loop .inv in
+    outlining-skip _ _ inv (at-loop-test .loop-test .taken) (at-wide .wide .ensures) (c .if1 .taken)
 
 round-requires : tie.Need-round-requires Inv-loop μ-loop
-round-requires c κs = roundable _ _ _ _ _ _ _ _ _ _ _ _ _ _ _ _ (c .before .before .before .before .before .before .before .loop .inv) (c .before .before .before .before .before .before .loop-test .taken) (c .before .before .before .before .wide .result) (c .before .before .before .before .wide .ensures) (c .before .before .if1 .left)
+round-requires c κs =
+    let at-test = c .before .before in
+    let at-wide = at-test .before .before in
+    let at-loop-test = at-wide .before .before in
+    roundable _ _ (at-loop-test .before .loop .inv) (at-loop-test .loop-test .taken) (at-wide .wide .ensures) (at-test .if1 .left)
 
 cast-ends : tie.Need-cast-ends Inv-loop μ-loop
-cast-ends c = omega (arith, end-few _ _ _ _ _ _ _ _ _ _ _ _ _ _ _ _ (c .before .before .before .before .before .before .before .before .before .before .before .before .loop .inv) (c .before .before .before .before .before .before .before .before .before .before .before .loop-test .taken) (c .before .before .before .before .before .before .before .before .before .wide .result) (c .before .before .before .before .before .before .before .before .before .wide .ensures) (c .before .before .before .before .before .before .before .if1 .left) (c .before .before .before .before .round .ensures), c .before .before .before .before .before .before .before .before .before .before .before .before .loop .inv .given .right .named .whole .few)
+cast-ends c =
+    let at-round = c .before .before .before .before in
+    let at-test = at-round .before .before .before in
+    let at-wide = at-test .before .before in
+    let at-loop-test = at-wide .before .before in
+    let inv = at-loop-test .before .loop .inv in
+    let few = end-few _ _ inv (at-loop-test .loop-test .taken) (at-wide .wide .ensures) (at-test .if1 .left) (at-round .round .ensures) in
+    omega (arith, few, inv .given .right .named .whole .few)
 
 mul-ends : tie.Need-mul-ends Inv-loop μ-loop
-mul-ends c = omega (arith, j-small _ _ _ _ _ _ _ _ _ _ _ _ _ _ _ _ (c .before .before .before .before .before .before .before .before .before .before .before .before .loop .inv) (c .before .before .before .before .before .before .before .before .before .before .before .loop-test .taken))
+mul-ends c =
+    let at-wide = c .before .before .before .before .before .before .before .before .before in
+    let at-loop-test = at-wide .before .before in
+    let inv = at-loop-test .before .loop .inv in
+    omega (arith, j-small _ _ inv (at-loop-test .loop-test .taken))
 
 slice-write-ends : tie.Need-slice-write-ends Inv-loop μ-loop
-slice-write-ends c = j-inside _ _ _ _ _ _ _ _ _ _ _ _ _ _ _ _ (c .before .before .before .before .before .before .before .before .before .before .before .before .loop .inv) (c .before .before .before .before .before .before .before .before .before .before .before .loop-test .taken)
+slice-write-ends c =
+    let at-wide = c .before .before .before .before .before .before .before .before .before in
+    let at-loop-test = at-wide .before .before in
+    let inv = at-loop-test .before .loop .inv in
+    j-inside _ _ inv (at-loop-test .loop-test .taken)
 
 add-j : tie.Need-add-j Inv-loop μ-loop
-add-j c = omega (arith, j-small _ _ _ _ _ _ _ _ _ _ _ _ _ _ _ _ (c .before .before .before .before .before .before .before .before .before .before .before .before .loop .inv) (c .before .before .before .before .before .before .before .before .before .before .before .loop-test .taken))
+add-j c =
+    let at-wide = c .before .before .before .before .before .before .before .before .before in
+    let at-loop-test = at-wide .before .before in
+    let inv = at-loop-test .before .loop .inv in
+    omega (arith, j-small _ _ inv (at-loop-test .loop-test .taken))
 
 loop-less-2 : tie.Need-loop-less-2 Inv-loop μ-loop
-loop-less-2 c = let l = d-after _ _ _ _ _ _ _ _ _ _ _ _ _ _ _ _ (c .before .before .before .before .before .before .before .before .before .before .before .before .loop .inv) (c .before .before .before .before .before .before .before .before .before .before .before .loop-test .taken) (c .before .before .before .before .before .before .before .before .before .wide .result) (c .before .before .before .before .before .before .before .before .before .wide .ensures) in let u = d-upto _ _ _ _ _ _ _ _ _ _ _ _ _ _ _ _ (c .before .before .before .before .before .before .before .before .before .before .before .before .loop .inv) (c .before .before .before .before .before .before .before .before .before .before .before .loop-test .taken) (c .before .before .before .before .before .before .before .before .before .wide .result) (c .before .before .before .before .before .before .before .before .before .wide .ensures) in omega (arith, c .before .before .before .before .before .before .before .before .before .before .before .loop-test .taken)
+loop-less-2 c =
+    let at-wide = c .before .before .before .before .before .before .before .before .before in
+    let at-loop-test = at-wide .before .before in
+    let inv = at-loop-test .before .loop .inv in
+    let after = d-after _ _ inv (at-loop-test .loop-test .taken) (at-wide .wide .ensures) in
+    omega (arith, at-loop-test .loop-test .taken)
 
 loop-again-2 : tie.Need-loop-again-2 Inv-loop μ-loop
-loop-again-2 c = outlining-ring _ _ _ _ _ _ _ _ _ _ _ _ _ _ _ _ (c .before .before .before .before .before .before .before .before .before .before .before .before .loop .inv) (c .before .before .before .before .before .before .before .before .before .before .before .loop-test .taken) (c .before .before .before .before .before .before .before .before .before .wide .result) (c .before .before .before .before .before .before .before .before .before .wide .ensures) (c .before .before .before .before .before .before .before .if1 .left) (c .before .before .before .before .round .ensures)
+loop-again-2 c =
+    let at-round = c .before .before .before .before in
+    let at-test = at-round .before .before .before in
+    let at-wide = at-test .before .before in
+    let at-loop-test = at-wide .before .before in
+    let inv = at-loop-test .before .loop .inv in
+    outlining-ring _ _ inv (at-loop-test .loop-test .taken) (at-wide .wide .ensures) (at-test .if1 .left) (at-round .round .ensures)
 
 same-length : tie.Need-same-length Inv-loop μ-loop
-same-length c = names-length _ _ _ _ _ _ _ _ _ _ _ _ _ _ _ _ (c .before .loop .inv)
+same-length c = names-length _ _ (c .before .loop .inv)
 
 same-length-2 : tie.Need-same-length-2 Inv-loop μ-loop
-same-length-2 c = ends-length _ _ _ _ _ _ _ _ _ _ _ _ _ _ _ _ (c .before .loop .inv)
+same-length-2 c = ends-length _ _ (c .before .loop .inv)
 
 same-length-3 : tie.Need-same-length-3 Inv-loop μ-loop
-same-length-3 c = marks-length _ _ _ _ _ _ _ _ _ _ _ _ _ _ _ _ (c .before .loop .inv)
+same-length-3 c = marks-length _ _ (c .before .loop .inv)
 
 returns : tie.Need-returns Inv-loop μ-loop
-returns c = let s = c .before .before .before .before .before .before .before .before in (outlined-end _ _ _ _ _ _ _ _ _ _ _ _ _ _ _ _ (c .before .loop .inv) (c .loop-test .left) (toZ-ofZ w32 (s .args .h) (s .fits .h)), marked-end _ _ _ _ _ _ _ _ _ _ _ _ _ _ _ _ (c .before .loop .inv) (toZ-ofZ w32 (s .args .h) (s .fits .h)))
+returns c =
+    let start = c .before .before .before .before .before .before .before .before in
+    let e = toZ-ofZ w32 (start .args .h) (start .fits .h) in
+    (outlined-end _ _ (c .before .loop .inv) (c .loop-test .left) e, marked-end _ _ (c .before .loop .inv) e)
 
 pub outline-spec : {M : Type 1} → statement M
 outline-spec =

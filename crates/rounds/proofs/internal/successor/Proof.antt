@@ -1,49 +1,99 @@
 -- `internal::successor` meets its contract.
-use mathlib.Core.Path.{refl, sym, ap, _∙_}
+use Prim.Native.Nat.{ℕ, _<_}
+use mathlib.Core.Path.{_≡_, refl, sym, ap, _∙_}
 use native.Mathlib.Omega.{arith}
 use denote.Ref.{now}
+use lib.ListN.{length, getD}
 use lib.IntN.{ℤ}
 use mir.Syntax.{w32}
 use mir.ValLaws.{toZ-ofZ}
 use Rattle.mesh.specs.Corners.{nextCorner}
+use Rattle.mesh.specs.Meshes.{PairedMesh, paired}
 use Rattle.section.specs.Section.{below}
-use Rattle.rounds.proofs.Walking.{pair-below, third-below, third-vertex, third-passed, third-above}
+use Rattle.rounds.proofs.Walking.{Across, pair-below, third-below, third-vertex, third-passed, third-above}
 use borrow.Author.Needs.{needs}
 use Rattle.rounds.proofs.internal.successor.Statement.{statement}
 use Rattle.rounds.proofs.internal.successor.Tie as tie
+
+abbrev meshOf : tie.Start → PairedMesh
+meshOf start = paired (now (start .args .coords)) (now (start .args .corners)) (now (start .args .pairing))
+
+abbrev startOf : tie.After-previous-corner → tie.Start
+startOf at = at .before .before .before .before .before .before
+
+-- the corners that were read, and the vertex of the third
+across : (at : tie.After-previous-corner) {v : ℕ} → v ≡ getD (now (startOf at .args .corners)) (at .previous-corner .result) 0
+    → Across (meshOf (startOf at)) (startOf at .args .c) (at .before .before .wide .result) (at .before .next-corner .result) (at .previous-corner .result) v
+across at e =
+    record {
+      pair = at .before .before .wide .ensures;
+      next = at .before .next-corner .ensures;
+      third = at .previous-corner .ensures ∙ ap nextCorner (sym (at .before .next-corner .ensures));
+      vertex = e;
+    }
+
+-- the third corner is one
+below-all : (at : tie.After-previous-corner) → at .previous-corner .result < length (now (startOf at .args .corners))
+below-all at = third-below (startOf at .pre .0) (startOf at .args .h) (startOf at .pre .1) (across at refl)
+
+-- what the code has found of its vertex
+found : (at : tie.After-is-below)
+    → let start = startOf (at .before .before .before) in
+    below (now (start .args .coords)) (start .args .h) (at .before .wide2 .result) ≡ at .is-below .result
+found at =
+    let start = startOf (at .before .before .before) in
+    ap (λ (z : ℤ). below (now (start .args .coords)) z (at .before .wide2 .result)) (sym (toZ-ofZ w32 (start .args .h) (start .fits .h)))
+    ∙ sym (at .is-below .ensures)
 
 mul-wide : tie.Need-mul-wide
 mul-wide c = search needs
 
 shared-slice-read-wide : tie.Need-shared-slice-read-wide
-shared-slice-read-wide c = let s = c .before .before .before in s .pre .0 .linked .each (s .args .c) (s .pre .1 .below) .there
+shared-slice-read-wide c =
+    let start = c .before .before .before in
+    start .pre .0 .linked .each (start .args .c) (start .pre .1 .below) .there
 
 wide-requires : tie.Need-wide-requires
 wide-requires c κs = search needs
 
 next-corner-requires : tie.Need-next-corner-requires
-next-corner-requires c κs = let s = c .before .before .before .before in omega (arith, pair-below (s .pre .0) (s .args .h) (s .args .c) (s .pre .1) (c .wide .result) _ _ _ (c .wide .ensures) refl refl refl, s .pre .0 .named .whole .few)
+next-corner-requires c κs =
+    let start = c .before .before .before .before in
+    omega (arith, pair-below (start .pre .0) (start .args .h) (start .pre .1) (c .wide .ensures), start .pre .0 .named .whole .few)
 
 previous-corner-requires : tie.Need-previous-corner-requires
-previous-corner-requires c κs = let s = c .before .before .before .before .before in omega (arith, pair-below (s .pre .0) (s .args .h) (s .args .c) (s .pre .1) (c .before .wide .result) _ _ _ (c .before .wide .ensures) refl refl refl, s .pre .0 .named .whole .few)
+previous-corner-requires c κs =
+    let start = c .before .before .before .before .before in
+    omega (arith, pair-below (start .pre .0) (start .args .h) (start .pre .1) (c .before .wide .ensures), start .pre .0 .named .whole .few)
 
 mul-wide-2 : tie.Need-mul-wide-2
-mul-wide-2 c = let s = c .before .before .before .before .before .before in omega (arith, (third-below (s .pre .0) (s .args .h) (s .args .c) (s .pre .1) (c .before .before .wide .result) (c .before .next-corner .result) (c .previous-corner .result) _ (c .before .before .wide .ensures) (c .before .next-corner .ensures) (c .previous-corner .ensures ∙ ap nextCorner (sym (c .before .next-corner .ensures))) refl) .1, s .pre .0 .named .whole .few)
+mul-wide-2 c = omega (arith, below-all c, startOf c .pre .0 .named .whole .few)
 
 shared-slice-read-wide-2 : tie.Need-shared-slice-read-wide-2
-shared-slice-read-wide-2 c = let s = c .before .before .before .before .before .before .before in (third-below (s .pre .0) (s .args .h) (s .args .c) (s .pre .1) (c .before .before .before .wide .result) (c .before .before .next-corner .result) (c .before .previous-corner .result) _ (c .before .before .before .wide .ensures) (c .before .before .next-corner .ensures) (c .before .previous-corner .ensures ∙ ap nextCorner (sym (c .before .before .next-corner .ensures))) refl) .1
+shared-slice-read-wide-2 c = below-all (c .before)
 
 wide-requires-2 : tie.Need-wide-requires-2
 wide-requires-2 c κs = search needs
 
 is-below-requires : tie.Need-is-below-requires
-is-below-requires c κs = let s = c .before .before .before .before .before .before .before .before in third-vertex (s .pre .0) (s .args .h) (s .args .c) (s .pre .1) (c .before .before .before .before .wide .result) (c .before .before .before .next-corner .result) (c .before .before .previous-corner .result) (c .wide2 .result) (c .before .before .before .before .wide .ensures) (c .before .before .before .next-corner .ensures) (c .before .before .previous-corner .ensures ∙ ap nextCorner (sym (c .before .before .before .next-corner .ensures))) (c .wide2 .ensures)
+is-below-requires c κs =
+    let at-third = c .before .before in
+    let start = startOf at-third in
+    third-vertex (start .pre .0) (start .args .h) (start .pre .1) (across at-third (c .wide2 .ensures))
 
 returns : tie.Need-returns
-returns c = let s = c .before .before .before .before .before .before .before .before .before .before in third-passed (s .pre .0) (s .args .h) (s .args .c) (s .pre .1) (c .before .before .before .before .before .before .wide .result) (c .before .before .before .before .before .next-corner .result) (c .before .before .before .before .previous-corner .result) (c .before .before .wide2 .result) (c .before .before .before .before .before .before .wide .ensures) (c .before .before .before .before .before .next-corner .ensures) (c .before .before .before .before .previous-corner .ensures ∙ ap nextCorner (sym (c .before .before .before .before .before .next-corner .ensures))) (c .before .before .wide2 .ensures) (ap (λ (z : ℤ). below (now (s .args .coords)) z (c .before .before .wide2 .result)) (sym (toZ-ofZ w32 (s .args .h) (s .fits .h))) ∙ sym (c .before .is-below .ensures) ∙ c .if1 .taken)
+returns c =
+    let at-vertex = c .before .before in
+    let at-third = at-vertex .before .before in
+    let start = startOf at-third in
+    third-passed (start .pre .0) (start .args .h) (start .pre .1) (across at-third (at-vertex .wide2 .ensures)) (found (c .before) ∙ c .if1 .taken)
 
 returns-2 : tie.Need-returns-2
-returns-2 c = let s = c .before .before .before .before .before .before .before .before .before .before in third-above (s .pre .0) (s .args .h) (s .args .c) (s .pre .1) (c .before .before .before .before .before .before .wide .result) (c .before .before .before .before .before .next-corner .result) (c .before .before .before .before .previous-corner .result) (c .before .before .wide2 .result) (c .before .before .before .before .before .before .wide .ensures) (c .before .before .before .before .before .next-corner .ensures) (c .before .before .before .before .previous-corner .ensures ∙ ap nextCorner (sym (c .before .before .before .before .before .next-corner .ensures))) (c .before .before .wide2 .ensures) (ap (λ (z : ℤ). below (now (s .args .coords)) z (c .before .before .wide2 .result)) (sym (toZ-ofZ w32 (s .args .h) (s .fits .h))) ∙ sym (c .before .is-below .ensures) ∙ c .if1 .left)
+returns-2 c =
+    let at-vertex = c .before .before in
+    let at-third = at-vertex .before .before in
+    let start = startOf at-third in
+    third-above (start .pre .0) (start .args .h) (start .pre .1) (across at-third (at-vertex .wide2 .ensures)) (found (c .before) ∙ c .if1 .left)
 
 pub successor-spec : {M : Type 1} → statement M
 successor-spec =

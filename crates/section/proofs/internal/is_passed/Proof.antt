@@ -18,13 +18,24 @@ shared-slice-copy-out-z : tie.Need-shared-slice-copy-out-z
 shared-slice-copy-out-z c = search needs
 
 returns : tie.Need-returns
-returns c = let a = c .before .before .args in passed-low (now (a .coords)) (a .h) (a .k) (a .v) (c .before .z .given) (c .before .before .fits .h) (c .if1 .taken)
+returns c =
+    let start = c .before .before in
+    let a = start .args in
+    passed-low (now (a .coords)) (a .h) (a .k) (a .v) (c .before .z .given) (start .fits .h) (c .if1 .taken)
 
 returns-2 : tie.Need-returns-2
-returns-2 c = let a = c .before .before .before .args in passed-high (now (a .coords)) (a .h) (a .k) (a .v) (c .before .before .z .given) (c .before .before .before .fits .h) (c .before .if1 .left) (c .if2 .taken)
+returns-2 c =
+    let at-z = c .before .before in
+    let start = at-z .before in
+    let a = start .args in
+    passed-high (now (a .coords)) (a .h) (a .k) (a .v) (at-z .z .given) (start .fits .h) (c .before .if1 .left) (c .if2 .taken)
 
 returns-3 : tie.Need-returns-3
-returns-3 c = let a = c .before .before .before .args in passed-level (now (a .coords)) (a .h) (a .k) (a .v) (c .before .before .z .given) (c .before .before .before .fits .h) (c .before .if1 .left) (c .if2 .left)
+returns-3 c =
+    let at-z = c .before .before in
+    let start = at-z .before in
+    let a = start .args in
+    passed-level (now (a .coords)) (a .h) (a .k) (a .v) (at-z .z .given) (start .fits .h) (c .before .if1 .left) (c .if2 .left)
 
 pub is-passed-spec : {M : Type 1} → statement M
 is-passed-spec =

@@ -1,13 +1,17 @@
 -- `internal::leads_up` meets its contract.
-use mathlib.Core.Path.{_≡_, subst}
-use mathlib.Core.Bool.{false, not, _&&_}
-use lib.IntN.{ℤ}
-use Rattle.section.specs.Section.{under}
-use Rattle.section.proofs.Turns.{held, back, leads-no, leads-as}
+use Prim.Native.Nat.{ℕ}
+use mathlib.Core.Path.{ap, _∙_}
+use mathlib.Core.Bool.{Bool, not, _&&_}
+use Rattle.section.specs.Section.{VertexSet, under}
+use Rattle.section.proofs.Turns.{held, passed-held, leads-no, leads-as}
 use denote.Ref.{now}
 use borrow.Author.Needs.{needs}
 use Rattle.section.proofs.internal.leads_up.Statement.{statement}
 use Rattle.section.proofs.internal.leads_up.Tie as tie
+
+-- u is passed and v is not
+abbrev upward : ℕ → ℕ → VertexSet → Bool
+upward u v passed = passed u && not (passed v)
 
 is-passed-requires : tie.Need-is-passed-requires
 is-passed-requires c κs = search needs
@@ -17,15 +21,16 @@ is-passed-requires-2 c κs = search needs
 
 returns : tie.Need-returns
 returns c =
-    let s = c .before .before .before in
-    subst (λ (z : ℤ). not (c .is-passed2 .result) ≡ (under (now (s .args .coords)) z (s .args .k) (s .args .u) && not (under (now (s .args .coords)) z (s .args .k) (s .args .v)))) (back (s .fits .h))
-    (leads-as _ _ (c .before .before .is-passed .result) (c .is-passed2 .result) (c .before .before .is-passed .ensures) (c .before .if1 .taken) (c .is-passed2 .ensures))
+    let at-is-passed = c .before .before in
+    let start = at-is-passed .before in
+    leads-as (at-is-passed .is-passed .ensures) (c .before .if1 .taken) (c .is-passed2 .ensures)
+    ∙ ap (upward (start .args .u) (start .args .v)) (passed-held (now (start .args .coords)) (start .args .k) (start .fits .h))
 
 returns-2 : tie.Need-returns-2
 returns-2 c =
-    let s = c .before .before in
-    subst (λ (z : ℤ). false ≡ (under (now (s .args .coords)) z (s .args .k) (s .args .u) && not (under (now (s .args .coords)) z (s .args .k) (s .args .v)))) (back (s .fits .h))
-    (leads-no _ (under (now (s .args .coords)) (held (s .args .h)) (s .args .k) (s .args .v)) (c .before .is-passed .result) (c .before .is-passed .ensures) (c .if1 .left))
+    let start = c .before .before in
+    leads-no (under (now (start .args .coords)) (held (start .args .h)) (start .args .k) (start .args .v)) (c .before .is-passed .ensures) (c .if1 .left)
+    ∙ ap (upward (start .args .u) (start .args .v)) (passed-held (now (start .args .coords)) (start .args .k) (start .fits .h))
 
 pub leads-up-spec : {M : Type 1} → statement M
 leads-up-spec = tie.close (tie.spec is-passed-requires is-passed-requires-2 returns returns-2)

@@ -1,12 +1,12 @@
 -- `internal::link_triangle` meets its contract.
 use Prim.Native.Nat.{ℕ}
-use mathlib.Core.Path.{sym, _∙_}
+use mathlib.Core.Path.{_∙_}
 use native.Mathlib.Omega.{arith}
 use denote.Ref.{now}
 use lib.IntN.{ℤ}
 use Rattle.section.specs.Section.{under, ringEntry}
 use Rattle.section.specs.Triangles.{setThree}
-use Rattle.section.proofs.Turns.{held, back, Seen, between-1, between-2, between-3, between-level, three-are}
+use Rattle.section.proofs.Turns.{held, back, Seen, between-1, between-2, between-3, three-level, three-are}
 use borrow.Author.Needs.{needs}
 use Rattle.section.proofs.internal.link_triangle.Statement.{statement}
 use Rattle.section.proofs.internal.link_triangle.Tie as tie
@@ -17,13 +17,14 @@ entry s z = ringEntry (under (now (s .args .coords)) z 0) (now (s .args .corners
 
 -- the three vertices, as they were read
 seen : (c : tie.After-starts-passed3)
-    → let s = c .before .before .before .before .before .before .args in
-    Seen (under (now (s .coords)) (held (s .h)) 0) (now (s .corners)) (s .c) (c .before .before .starts-passed .result) (c .before .starts-passed2 .result) (c .starts-passed3 .result)
+    → let a = c .before .before .before .before .before .before .args in
+    Seen (under (now (a .coords)) (held (a .h)) 0) (now (a .corners)) (a .c)
+    (c .before .before .starts-passed .result) (c .before .starts-passed2 .result) (c .starts-passed3 .result)
 seen c =
-    let s = c .before .before .before .before .before .before in
+    let start = c .before .before .before .before .before .before in
     record {
-      first = s .pre .1 .1 .1 .1;
-      inside = omega (arith, s .pre .1 .1 .1, s .pre .0 .whole .threes);
+      first = start .pre .1 .1 .1 .1;
+      inside = omega (arith, start .pre .1 .1 .1, start .pre .0 .whole .threes);
       p-is = c .before .before .starts-passed .ensures;
       q-is = c .before .starts-passed2 .ensures;
       r-is = c .starts-passed3 .ensures;
@@ -55,34 +56,45 @@ same-length c = search needs
 
 returns : tie.Need-returns
 returns c =
-    let s = c .before .before .before .before .before .before .before .before .before .before .before .before in
-    let v = seen (c .before .before .before .before .before .before) in
-    let l = c .before .before .before .before .before .is-level .ensures (c .before .before .before .before .if1 .taken) in
+    let at-level = c .before .before .before .before .before in
+    let start = at-level .before .before .before .before .before .before .before in
+    let level = at-level .is-level .ensures (c .before .before .before .before .if1 .taken) in
     c .before .before .put-three .ensures
-    ∙ three-are (entry s (held (s .args .h))) (s .args .c) (now (s .args .ring)) (between-level _ _ (now (s .args .pairing)) (between-1 v) (l .0)) (between-level _ _ (now (s .args .pairing)) (between-2 v) (l .1)) (between-level _ _ (now (s .args .pairing)) (between-3 v) (sym (l .0 ∙ l .1)))
-    ∙ (λ i. setThree (entry s (back (s .fits .h) i)) (s .args .c) (now (s .args .ring)))
+    ∙ three-level (now (start .args .pairing)) (now (start .args .ring)) (seen (at-level .before)) (level .0) (level .1)
+    ∙ (λ i. setThree (entry start (back (start .fits .h) i)) (start .args .c) (now (start .args .ring)))
 
 entry-between-requires : tie.Need-entry-between-requires
-entry-between-requires c κs = let s = c .before .before .before .before .before .before .before .before in (s .pre .0, (s .pre .1 .0, between-1 (seen (c .before .before))))
+entry-between-requires c κs =
+    let start = c .before .before .before .before .before .before .before .before in
+    (start .pre .0, (start .pre .1 .0, between-1 (seen (c .before .before))))
 
 entry-between-requires-2 : tie.Need-entry-between-requires-2
-entry-between-requires-2 c κs = let s = c .before .before .before .before .before .before .before .before .before in (s .pre .0, (s .pre .1 .0, between-2 (seen (c .before .before .before))))
+entry-between-requires-2 c κs =
+    let start = c .before .before .before .before .before .before .before .before .before in
+    (start .pre .0, (start .pre .1 .0, between-2 (seen (c .before .before .before))))
 
 entry-between-requires-3 : tie.Need-entry-between-requires-3
-entry-between-requires-3 c κs = let s = c .before .before .before .before .before .before .before .before .before .before in (s .pre .0, (s .pre .1 .0, between-3 (seen (c .before .before .before .before))))
+entry-between-requires-3 c κs =
+    let start = c .before .before .before .before .before .before .before .before .before .before in
+    (start .pre .0, (start .pre .1 .0, between-3 (seen (c .before .before .before .before))))
 
 put-three-requires-2 : tie.Need-put-three-requires-2
-put-three-requires-2 c κs = omega (arith, c .before .before .before .before .before .before .before .before .before .before .before .before .pre .1 .1 .0, seen (c .before .before .before .before .before .before) .inside)
+put-three-requires-2 c κs =
+    let at-third = c .before .before .before .before .before .before in
+    let start = at-third .before .before .before .before .before .before in
+    omega (arith, start .pre .1 .1 .0, seen at-third .inside)
 
 same-length-2 : tie.Need-same-length-2
 same-length-2 c = search needs
 
 returns-2 : tie.Need-returns-2
 returns-2 c =
-    let s = c .before .before .before .before .before .before .before .before .before .before .before .before .before .before .before in
+    let at-z = c .before .before .before .before in
+    let start = at-z .before .before .before .before .before .before .before .before .before .before .before in
     c .before .before .put-three2 .ensures
-    ∙ three-are (entry s (held (s .args .h))) (s .args .c) (now (s .args .ring)) (c .before .before .before .before .before .before .entry-between .ensures) (c .before .before .before .before .before .entry-between2 .ensures) (c .before .before .before .before .entry-between3 .ensures)
-    ∙ (λ i. setThree (entry s (back (s .fits .h) i)) (s .args .c) (now (s .args .ring)))
+    ∙ three-are (entry start (held (start .args .h))) (start .args .c) (now (start .args .ring))
+    (at-z .before .before .entry-between .ensures) (at-z .before .entry-between2 .ensures) (at-z .entry-between3 .ensures)
+    ∙ (λ i. setThree (entry start (back (start .fits .h) i)) (start .args .c) (now (start .args .ring)))
 
 pub link-triangle-spec : {M : Type 1} → statement M
 link-triangle-spec =

@@ -1,11 +1,7 @@
 -- `internal::rises` meets its contract.
-use Prim.Native.Nat.{_<_}
-use mathlib.Core.Path.{_≡_, subst}
-use lib.IntN.{ℤ}
-use Rattle.mesh.specs.Corners.{vertexCount}
-use Rattle.mesh.specs.TestLaws.{next-below}
-use Rattle.section.specs.Section.{under, rising}
-use Rattle.section.proofs.Turns.{held, back, rises-is}
+use mathlib.Core.Path.{ap, _∙_}
+use Rattle.section.specs.Section.{VertexSet, under, rising}
+use Rattle.section.proofs.Turns.{held, passed-held, vertex-at, next-corner-inside, rises-is}
 use denote.Ref.{now}
 use borrow.Author.Needs.{needs}
 use Rattle.section.proofs.internal.rises.Statement.{statement}
@@ -34,19 +30,22 @@ wide-requires-2 c κs = search needs
 
 leads-up-requires : tie.Need-leads-up-requires
 leads-up-requires c κs =
-    let s = c .before .before .before .before .before .before in
-    let n = c .before .before .before .before .next-corner in
-    let a : c .before .before .wide .result < vertexCount (now (s .args .coords)) = rw (c .before .before .wide .ensures) (s .pre .0 .vertices (s .args .c) (s .pre .1)) in
-    let b : c .wide2 .result < vertexCount (now (s .args .coords)) = rw (c .wide2 .ensures) (s .pre .0 .vertices (n .result) (rw (n .ensures) (next-below _ (s .args .c) (s .pre .0 .whole .threes) (s .pre .1)))) in
-    search (needs, a, b)
+    let at-wide = c .before .before in
+    let at-next = at-wide .before .before in
+    let start = at-next .before .before in
+    let u = vertex-at (start .pre .0) (start .pre .1) (at-wide .wide .ensures) in
+    let v = vertex-at (start .pre .0) (next-corner-inside (start .pre .0) (start .pre .1) (at-next .next-corner .ensures)) (c .wide2 .ensures) in
+    search (needs, u, v)
 
 returns : tie.Need-returns
 returns c =
-    let s = c .before .before .before .before .before .before .before in
-    let n = c .before .before .before .before .before .next-corner in
-    subst (λ (z : ℤ). c .leads-up .result ≡ rising (under (now (s .args .coords)) z (s .args .k)) (now (s .args .corners)) (s .args .c)) (back (s .fits .h))
-    (rises-is (under (now (s .args .coords)) (held (s .args .h)) (s .args .k)) (now (s .args .corners)) (s .args .c) (n .result) (c .before .before .before .wide .result) (c .before .wide2 .result) (c .leads-up .result)
-    (n .ensures) (c .before .before .before .wide .ensures) (c .before .wide2 .ensures) (c .leads-up .ensures))
+    let at-wide = c .before .before .before in
+    let at-next = at-wide .before .before in
+    let start = at-next .before .before in
+    let a = start .args in
+    rises-is (under (now (a .coords)) (held (a .h)) (a .k)) _ _
+    (at-next .next-corner .ensures) (at-wide .wide .ensures) (c .before .wide2 .ensures) (c .leads-up .ensures)
+    ∙ ap (λ (p : VertexSet). rising p (now (a .corners)) (a .c)) (passed-held (now (a .coords)) (a .k) (start .fits .h))
 
 pub rises-spec : {M : Type 1} → statement M
 rises-spec =

@@ -1,12 +1,8 @@
 -- `internal::rising_beside` meets its contract.
-use Prim.Native.Nat.{_<_}
-use mathlib.Core.Path.{ap, _∙_}
+use mathlib.Core.Path.{_∙_}
 use denote.Ref.{now}
-use lib.IntN.{ℤ}
-use lib.ListN.{length}
-use Rattle.mesh.specs.TestLaws.{next-below}
 use Rattle.section.specs.Section.{under}
-use Rattle.section.proofs.Turns.{back, second-rises, first-rises}
+use Rattle.section.proofs.Turns.{passed-held, vertex-at, previous-corner-inside, ThirdSeen, second-rises, first-rises}
 use borrow.Author.Needs.{needs}
 use Rattle.section.proofs.internal.rising_beside.Statement.{statement}
 use Rattle.section.proofs.internal.rising_beside.Tie as tie
@@ -21,22 +17,41 @@ mul-wide : tie.Need-mul-wide
 mul-wide c = search needs
 
 shared-slice-read-wide : tie.Need-shared-slice-read-wide
-shared-slice-read-wide c = let s = c .before .before .before .before in rw (c .before .previous-corner .ensures) (next-below _ _ (s .pre .0 .whole .threes) (next-below _ (s .args .d) (s .pre .0 .whole .threes) (s .pre .1 .0)))
+shared-slice-read-wide c =
+    let start = c .before .before .before .before in
+    previous-corner-inside (start .pre .0) (start .pre .1 .0) (c .before .previous-corner .ensures)
 
 wide-requires : tie.Need-wide-requires
 wide-requires c κs = search needs
 
 is-passed-requires : tie.Need-is-passed-requires
 is-passed-requires c κs =
-    let s = c .before .before .before .before .before in
-    let f : c .before .before .previous-corner .result < length (now (s .args .corners)) = rw (c .before .before .previous-corner .ensures) (next-below _ _ (s .pre .0 .whole .threes) (next-below _ (s .args .d) (s .pre .0 .whole .threes) (s .pre .1 .0))) in
-    rw (c .wide .ensures) (s .pre .0 .vertices (c .before .before .previous-corner .result) f)
+    let at-previous = c .before .before in
+    let start = at-previous .before .before .before in
+    vertex-at (start .pre .0) (previous-corner-inside (start .pre .0) (start .pre .1 .0) (at-previous .previous-corner .ensures)) (c .wide .ensures)
+
+-- what both returns know
+seen : (c : tie.After-is-passed)
+    → let at-previous = c .before .before .before in
+    let a = at-previous .before .before .before .args in
+    ThirdSeen (under (now (a .coords)) (a .h) (a .k)) (now (a .corners)) (a .d)
+    (at-previous .before .next-corner .result) (at-previous .previous-corner .result) (c .is-passed .result)
+seen c =
+    let at-previous = c .before .before .before in
+    let start = at-previous .before .before .before in
+    record {
+      falls = start .pre .1 .1;
+      is-e = at-previous .before .next-corner .ensures;
+      is-f = at-previous .previous-corner .ensures;
+      is-r = c .is-passed .ensures
+          ∙ (λ i. passed-held (now (start .args .coords)) (start .args .k) (start .fits .h) i (c .before .wide .ensures i));
+    }
 
 returns : tie.Need-returns
-returns c = let s = c .before .before .before .before .before .before .before in second-rises (under (now (s .args .coords)) (s .args .h) (s .args .k)) (now (s .args .corners)) (s .args .d) _ _ _ _ (s .pre .1 .1) (c .before .before .before .before .before .next-corner .ensures) (c .before .before .before .before .previous-corner .ensures) (c .before .before .wide .ensures) (c .before .is-passed .ensures ∙ ap (λ (z : ℤ). under (now (s .args .coords)) z (s .args .k) (c .before .before .wide .result)) (back (s .fits .h))) (c .if1 .taken)
+returns c = second-rises (seen (c .before)) (c .if1 .taken)
 
 returns-2 : tie.Need-returns-2
-returns-2 c = let s = c .before .before .before .before .before .before .before in first-rises (under (now (s .args .coords)) (s .args .h) (s .args .k)) (now (s .args .corners)) (s .args .d) _ _ _ _ (s .pre .1 .1) (c .before .before .before .before .before .next-corner .ensures) (c .before .before .before .before .previous-corner .ensures) (c .before .before .wide .ensures) (c .before .is-passed .ensures ∙ ap (λ (z : ℤ). under (now (s .args .coords)) z (s .args .k) (c .before .before .wide .result)) (back (s .fits .h))) (c .if1 .left)
+returns-2 c = first-rises (seen (c .before)) (c .if1 .left)
 
 pub rising-beside-spec : {M : Type 1} → statement M
 rising-beside-spec =

@@ -1,9 +1,7 @@
 -- `internal::starts_passed` meets its contract.
-use mathlib.Core.Path.{ap, _∙_}
-use lib.IntN.{ℤ}
+use mathlib.Core.Path.{_∙_}
 use denote.Ref.{now}
-use Rattle.section.specs.Section.{under}
-use Rattle.section.proofs.Turns.{back}
+use Rattle.section.proofs.Turns.{passed-held, vertex-at}
 use borrow.Author.Needs.{needs}
 use Rattle.section.proofs.internal.starts_passed.Statement.{statement}
 use Rattle.section.proofs.internal.starts_passed.Tie as tie
@@ -18,12 +16,12 @@ wide-requires : tie.Need-wide-requires
 wide-requires c κs = search needs
 
 is-passed-requires : tie.Need-is-passed-requires
-is-passed-requires c κs = rw (c .wide .ensures) (c .before .before .before .pre .0 .vertices (c .before .before .before .args .c) (c .before .before .before .pre .1))
+is-passed-requires c κs = let start = c .before .before .before in vertex-at (start .pre .0) (start .pre .1) (c .wide .ensures)
 
 returns : tie.Need-returns
 returns c =
-    let s = c .before .before .before .before in
-    c .is-passed .ensures ∙ (λ i. under (now (s .args .coords)) (back (s .fits .h) i) (s .args .k) (c .before .wide .ensures i))
+    let start = c .before .before .before .before in
+    c .is-passed .ensures ∙ (λ i. passed-held (now (start .args .coords)) (start .args .k) (start .fits .h) i (c .before .wide .ensures i))
 
 pub starts-passed-spec : {M : Type 1} → statement M
 starts-passed-spec =

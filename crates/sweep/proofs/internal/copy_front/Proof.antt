@@ -28,7 +28,17 @@ mul-to-2 : tie.Need-mul-to-2 Inv-loop μ-loop
 mul-to-2 c = omega (arith, c .before .before .before .pre .0, c .before .loop-test .taken)
 
 slice-write-to : tie.Need-slice-write-to Inv-loop μ-loop
-slice-write-to c = let s = c .before .before .before in omega (arith, s .pre .1, c .before .loop-test .taken, ap length (c .before .before .loop .inv .1), length-refill (c .before .before .loop .i) (λ c. getD (now (s .args .from)) c 0) (now (s .args .to)) (omega (arith, c .before .before .loop .inv .0, s .pre .1)))
+slice-write-to c =
+    let at-loop = c .before .before in
+    let start = at-loop .before in
+    omega (
+      arith,
+      start .pre .1,
+      c .before .loop-test .taken,
+      ap length (at-loop .loop .inv .1),
+      length-refill (at-loop .loop .i)
+          (λ c. getD (now (start .args .from)) c 0) (now (start .args .to)) (omega (arith, at-loop .loop .inv .0, start .pre .1)),
+    )
 
 add-i : tie.Need-add-i Inv-loop μ-loop
 add-i c = omega (arith, c .before .before .before .pre .0, c .before .loop-test .taken)
@@ -37,10 +47,20 @@ loop-less : tie.Need-loop-less Inv-loop μ-loop
 loop-less c = omega (arith, c .before .loop-test .taken)
 
 loop-again : tie.Need-loop-again Inv-loop μ-loop
-loop-again c = let s = c .before .before .before in (omega (arith, c .before .loop-test .taken), (λ k. set (c .before .before .loop .inv .1 k) (c .before .before .loop .i) (getD (now (s .args .from)) (c .before .before .loop .i) 0)) ∙ refill-more (c .before .before .loop .i) (λ c. getD (now (s .args .from)) c 0) (now (s .args .to)) (omega (arith, c .before .loop-test .taken, s .pre .1)))
+loop-again c =
+    let at-loop = c .before .before in
+    let start = at-loop .before in
+    let s = start
+    in (
+      omega (arith, c .before .loop-test .taken),
+      (λ k. set (at-loop .loop .inv .1 k) (at-loop .loop .i) (getD (now (s .args .from)) (at-loop .loop .i) 0)) ∙ refill-more (at-loop .loop .i)
+          (λ c. getD (now (s .args .from)) c 0) (now (s .args .to)) (omega (arith, c .before .loop-test .taken, s .pre .1)),
+    )
 
 same-length : tie.Need-same-length Inv-loop μ-loop
-same-length c = let s = c .before .before in ap length (c .before .loop .inv .1) ∙ length-refill _ _ (now (s .args .to)) (omega (arith, c .before .loop .inv .0, s .pre .1))
+same-length c =
+    let start = c .before .before in
+    ap length (c .before .loop .inv .1) ∙ length-refill _ _ (now (start .args .to)) (omega (arith, c .before .loop .inv .0, start .pre .1))
 
 returns : tie.Need-returns Inv-loop μ-loop
 returns c =

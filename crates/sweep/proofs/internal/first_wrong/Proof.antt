@@ -1,5 +1,5 @@
 -- `internal::first_wrong` meets its contract.
-use Prim.Native.Nat.{_-_}
+use Prim.Native.Nat.{ℕ, _-_}
 use mathlib.Core.Path.{sym, ap, _∙_}
 use native.Mathlib.Omega.{arith}
 use lib.ListN.{length}
@@ -21,6 +21,12 @@ Inv-loop coords corners pairing h k ring c₀ c = Scanned (length corners) (wron
 abbrev μ-loop : tie.MeasureT-loop
 μ-loop coords corners pairing h k ring c₀ c = length corners - c
 
+-- the least corner with a wrong entry, at height z
+abbrev first : tie.Start Inv-loop μ-loop → ℤ → ℕ
+first start z =
+    least (length (now (start .args .corners)))
+    (wrongFor (under (now (start .args .coords)) z (start .args .k)) (now (start .args .corners)) (now (start .args .pairing)) (now (start .args .ring)))
+
 loop-holds : tie.Need-loop-holds Inv-loop μ-loop
 loop-holds c = scan-start
 
@@ -28,10 +34,17 @@ is-wrong-requires : tie.Need-is-wrong-requires Inv-loop μ-loop
 is-wrong-requires c κs = let s = c .before .before .before .before .before in (s .pre .0, (s .pre .1, c .loop-test .taken))
 
 returns : tie.Need-returns Inv-loop μ-loop
-returns c = let s = c .before .before .before .before .before .before .before in scan-hit (c .before .before .before .loop .inv) (c .before .before .loop-test .taken) (sym (c .before .is-wrong .ensures) ∙ c .if1 .taken) ∙ ap (λ (z : ℤ). least (length (now (s .args .corners))) (wrongFor (under (now (s .args .coords)) z (s .args .k)) (now (s .args .corners)) (now (s .args .pairing)) (now (s .args .ring)))) (back (s .fits .h))
+returns c =
+    let at-loop-test = c .before .before in
+    let at-loop = at-loop-test .before in
+    let start = at-loop .before .before .before .before in
+    scan-hit (at-loop .loop .inv) (at-loop-test .loop-test .taken) (sym (c .before .is-wrong .ensures) ∙ c .if1 .taken)
+    ∙ ap (first start) (back (start .fits .h))
 
 add-c : tie.Need-add-c Inv-loop μ-loop
-add-c c = omega (arith, c .before .before .loop-test .taken, c .before .before .before .before .before .before .before .pre .0 .whole .few)
+add-c c =
+    let start = c .before .before .before .before .before .before .before in
+    omega (arith, c .before .before .loop-test .taken, start .pre .0 .whole .few)
 
 loop-less : tie.Need-loop-less Inv-loop μ-loop
 loop-less c = omega (arith, c .before .before .loop-test .taken)
@@ -40,7 +53,9 @@ loop-again : tie.Need-loop-again Inv-loop μ-loop
 loop-again c = scan-miss (c .before .before .before .loop .inv) (c .before .before .loop-test .taken) (sym (c .before .is-wrong .ensures) ∙ c .if1 .left)
 
 returns-2 : tie.Need-returns-2 Inv-loop μ-loop
-returns-2 c = let s = c .before .before .before .before .before in scan-end (c .before .loop .inv) (c .loop-test .left) ∙ ap (λ (z : ℤ). least (length (now (s .args .corners))) (wrongFor (under (now (s .args .coords)) z (s .args .k)) (now (s .args .corners)) (now (s .args .pairing)) (now (s .args .ring)))) (back (s .fits .h))
+returns-2 c =
+    let start = c .before .before .before .before .before in
+    scan-end (c .before .loop .inv) (c .loop-test .left) ∙ ap (first start) (back (start .fits .h))
 
 pub first-wrong-spec : {M : Type 1} → statement M
 first-wrong-spec =

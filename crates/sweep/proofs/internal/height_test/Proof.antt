@@ -16,10 +16,20 @@ height-behind-requires c κs =
     (omega (arith, r .there, c .if1 .left), λ z. r .vertex)
 
 returns-2 : tie.Need-returns-2
-returns-2 c = let s = c .before .before .before .before in low-last (now (s .args .coords)) (now (s .args .order)) (s .args .h) (s .pre .1) (s .args .n) (s .pre .0) (c .before .before .if1 .left) (c .before .height-behind .result) (c .before .height-behind .ensures) (got-lt (c .before .height-behind .result) (s .args .h) (c .before .height-behind .ok) (s .fits .h) (c .if2 .taken))
+returns-2 c =
+    let at-if1 = c .before .before in
+    let start = at-if1 .before .before in
+    low-last (now (start .args .coords)) (now (start .args .order)) (start .args .h) (start .pre .1) (start .args .n) (start .pre .0) (at-if1 .if1 .left)
+    (c .before .height-behind .result) (c .before .height-behind .ensures)
+    (got-lt (c .before .height-behind .result) (start .args .h) (c .before .height-behind .ok) (start .fits .h) (c .if2 .taken))
 
 returns-3 : tie.Need-returns-3
-returns-3 c = let s = c .before .before .before .before in high-last (now (s .args .coords)) (now (s .args .order)) (s .args .h) (s .pre .1) (s .args .n) (s .pre .0) (c .before .before .if1 .left) (c .before .height-behind .result) (c .before .height-behind .ensures) (got-lt (c .before .height-behind .result) (s .args .h) (c .before .height-behind .ok) (s .fits .h) (c .if2 .left))
+returns-3 c =
+    let at-if1 = c .before .before in
+    let start = at-if1 .before .before in
+    high-last (now (start .args .coords)) (now (start .args .order)) (start .args .h) (start .pre .1) (start .args .n) (start .pre .0) (at-if1 .if1 .left)
+    (c .before .height-behind .result) (c .before .height-behind .ensures)
+    (got-lt (c .before .height-behind .result) (start .args .h) (c .before .height-behind .ok) (start .fits .h) (c .if2 .left))
 
 pub height-test-spec : {M : Type 1} → statement M
 height-test-spec = tie.close (tie.spec returns height-behind-requires returns-2 returns-3)

@@ -4,7 +4,7 @@ use mathlib.Core.Bool.{not}
 use lib.Dec.{eqb}
 use lib.ListN.{getD}
 use lib.IntN.{ℤ}
-use Rattle.section.specs.Section.{under}
+use Rattle.section.specs.Section.{VertexSet, under}
 use Rattle.sweep.specs.Places.{wrongFor}
 use denote.Ref.{now}
 use Rattle.sweep.proofs.Moves.{back, wrong-missing, wrong-as}
@@ -26,9 +26,13 @@ entry-of-requires c κs = search needs
 
 returns-2 : tie.Need-returns-2
 returns-2 c =
-    let s = c .before .before .before .before .before .before in
-    subst (λ (z : ℤ). not (eqb (getD (now (s .args .ring)) (s .args .c) 0) (c .entry-of .result)) ≡ wrongFor (under (now (s .args .coords)) z (s .args .k)) (now (s .args .corners)) (now (s .args .pairing)) (now (s .args .ring)) (s .args .c)) (back (s .fits .h))
-    (wrong-as _ _ _ _ _ (c .before .before .if1 .left) _ (c .entry-of .ensures))
+    let at-if1 = c .before .before in
+    let start = at-if1 .before .before .before .before in
+    let ring = now (start .args .ring) in
+    let passed : ℤ → VertexSet = λ z. under (now (start .args .coords)) z (start .args .k) in
+    subst (λ (z : ℤ). not (eqb (getD ring (start .args .c) 0) (c .entry-of .result))
+    ≡ wrongFor (passed z) (now (start .args .corners)) (now (start .args .pairing)) ring (start .args .c)) (back (start .fits .h))
+    (wrong-as _ _ _ _ _ (at-if1 .if1 .left) _ (c .entry-of .ensures))
 
 pub is-wrong-spec : {M : Type 1} → statement M
 is-wrong-spec =

@@ -1,10 +1,11 @@
 -- `internal::relink` meets its contract.
-use Prim.Native.Nat.{_-_, _<_, _≤_}
+use Prim.Native.Nat.{ℕ, _-_, _<_, _≤_}
 use mathlib.Core.Path.{_≡_, sym, ap, _∙_}
 use mathlib.Core.Logic.{⊎-elim}
 use native.Mathlib.Omega.{arith}
 use borrow.Author.Needs.{needs}
 use lib.ListN.{length}
+use lib.IntN.{ℤ}
 use mir.Syntax.{w32}
 use mir.Val.{toZ}
 use Rattle.laws.specs.Tables.{refill}
@@ -22,11 +23,19 @@ Inv-loop coords corners pairing h k w ring₀ n c₀ ring c = (c ≤ n) × (ring
 abbrev μ-loop : tie.MeasureT-loop
 μ-loop coords corners pairing h k w ring₀ n c₀ ring c = n - c
 
+-- the entries that it writes, at height z
+abbrev entries : tie.Start Inv-loop μ-loop → ℤ → ℕ → ℕ
+entries start z =
+    relinked (under (now (start .args .coords)) z (start .args .k)) (now (start .args .corners)) (now (start .args .pairing)) (start .args .w)
+    (now (start .args .ring))
+
 loop-holds : tie.Need-loop-holds Inv-loop μ-loop
 loop-holds c = (omega arith, sym (refill-none _ _))
 
 mul-wide : tie.Need-mul-wide Inv-loop μ-loop
-mul-wide c = omega (arith, c .loop-test .taken, c .before .before .before .before .before .pre .0 .whole .few)
+mul-wide c =
+    let start = c .before .before .before .before .before in
+    omega (arith, c .loop-test .taken, start .pre .0 .whole .few)
 
 shared-slice-read-wide : tie.Need-shared-slice-read-wide Inv-loop μ-loop
 shared-slice-read-wide c =
@@ -45,45 +54,67 @@ touched-requires c κs =
 
 entry-of-requires : tie.Need-entry-of-requires Inv-loop μ-loop
 entry-of-requires c κs =
-    let s = c .before .before .before .before .before .before .before .before .before in
-    let l : c .before .before .before .before .before .loop .c < length (now (s .args .corners)) = omega (arith, c .before .before .before .before .loop-test .taken) in
-    (s .pre .0, (s .pre .1 .0, l))
+    let at-loop-test = c .before .before .before .before in
+    let at-loop = at-loop-test .before in
+    let start = at-loop .before .before .before .before in
+    let l : at-loop .loop .c < length (now (start .args .corners)) = omega (arith, at-loop-test .loop-test .taken) in
+    (start .pre .0, (start .pre .1 .0, l))
 
 mul-ring : tie.Need-mul-ring Inv-loop μ-loop
-mul-ring c = omega (arith, c .before .before .before .before .before .loop-test .taken, c .before .before .before .before .before .before .before .before .before .before .pre .0 .whole .few)
+mul-ring c =
+    let at-loop-test = c .before .before .before .before .before in
+    let start = at-loop-test .before .before .before .before .before in
+    omega (arith, at-loop-test .loop-test .taken, start .pre .0 .whole .few)
 
 slice-write-ring : tie.Need-slice-write-ring Inv-loop μ-loop
 slice-write-ring c =
-    let s = c .before .before .before .before .before .before .before .before .before .before in
-    let l = length-refill (c .before .before .before .before .before .before .loop .c) (relinked (under (now (s .args .coords)) (held (s .args .h)) (s .args .k)) (now (s .args .corners)) (now (s .args .pairing)) (s .args .w) (now (s .args .ring))) (now (s .args .ring)) (omega (arith, c .before .before .before .before .before .before .loop .inv .0, s .pre .1 .1)) in
-    omega (arith, c .before .before .before .before .before .loop-test .taken, s .pre .1 .1, ap length (c .before .before .before .before .before .before .loop .inv .1))
+    let at-loop-test = c .before .before .before .before .before in
+    let at-loop = at-loop-test .before in
+    let start = at-loop .before .before .before .before in
+    let l = length-refill (at-loop .loop .c) (entries start (held (start .args .h))) (now (start .args .ring))
+    (omega (arith, at-loop .loop .inv .0, start .pre .1 .1)) in
+    omega (arith, at-loop-test .loop-test .taken, start .pre .1 .1, ap length (at-loop .loop .inv .1))
 
 add-c : tie.Need-add-c Inv-loop μ-loop
-add-c c = omega (arith, c .before .before .before .before .loop-test .taken, c .before .before .before .before .before .before .before .before .before .pre .0 .whole .few)
+add-c c =
+    let at-loop-test = c .before .before .before .before in
+    let start = at-loop-test .before .before .before .before .before in
+    omega (arith, at-loop-test .loop-test .taken, start .pre .0 .whole .few)
 
 loop-less : tie.Need-loop-less Inv-loop μ-loop
 loop-less c = omega (arith, c .before .before .before .before .loop-test .taken)
 
 loop-again : tie.Need-loop-again Inv-loop μ-loop
 loop-again c =
-    let s = c .before .before .before .before .before .before .before .before .before in
-    let l = c .before .before .before .before .before .loop in
-    let room : l .c < length (now (s .args .ring)) = omega (arith, c .before .before .before .before .loop-test .taken, s .pre .1 .1) in (
-      omega (arith, c .before .before .before .before .loop-test .taken),
+    let at-touched = c .before in
+    let at-wide = at-touched .before in
+    let at-loop-test = at-wide .before .before in
+    let l = at-loop-test .before .loop in
+    let start = at-loop-test .before .before .before .before .before in
+    let passed = under (now (start .args .coords)) (held (start .args .h)) (start .args .k) in
+    let corners = now (start .args .corners) in
+    let pairing = now (start .args .pairing) in
+    let ring = now (start .args .ring) in
+    let room : l .c < length (now (start .args .ring)) = omega (arith, at-loop-test .loop-test .taken, start .pre .1 .1) in (
+      omega (arith, at-loop-test .loop-test .taken),
       ⊎-elim
-          (λ x. x .2 ∙ relink-write (under (now (s .args .coords)) (held (s .args .h)) (s .args .k)) (now (s .args .corners)) (now (s .args .pairing)) (s .args .w) (now (s .args .ring)) (l .ring) (l .c) (c .before .before .wide .result) (c .before .touched .result) (l .inv .1) room (c .before .before .wide .ensures) (c .before .touched .ensures) (x .0 .taken) (x .1 .result) (x .1 .ensures))
-          (λ x. x .1 ∙ relink-skip (under (now (s .args .coords)) (held (s .args .h)) (s .args .k)) (now (s .args .corners)) (now (s .args .pairing)) (s .args .w) (now (s .args .ring)) (l .ring) (l .c) (c .before .before .wide .result) (c .before .touched .result) (l .inv .1) room (c .before .before .wide .ensures) (c .before .touched .ensures) (x .0 .left))
+          (λ x. x .2 ∙ relink-write passed corners pairing (start .args .w) ring (l .ring) (l .c) (at-wide .wide .result) (at-touched .touched .result)
+          (l .inv .1) room (at-wide .wide .ensures) (at-touched .touched .ensures) (x .0 .taken) (x .1 .result) (x .1 .ensures))
+          (λ x. x .1 ∙ relink-skip passed corners pairing (start .args .w) ring (l .ring) (l .c) (at-wide .wide .result) (at-touched .touched .result)
+          (l .inv .1) room (at-wide .wide .ensures) (at-touched .touched .ensures) (x .0 .left))
           (c .if1 .came),
     )
 
 same-length : tie.Need-same-length Inv-loop μ-loop
-same-length c = let s = c .before .before .before .before .before in ap length (c .before .loop .inv .1) ∙ length-refill _ _ (now (s .args .ring)) (omega (arith, c .before .loop .inv .0, s .pre .1 .1))
+same-length c =
+    let start = c .before .before .before .before .before in
+    ap length (c .before .loop .inv .1) ∙ length-refill _ _ (now (start .args .ring)) (omega (arith, c .before .loop .inv .0, start .pre .1 .1))
 
 returns : tie.Need-returns Inv-loop μ-loop
 returns c =
-    let s = c .before .before .before .before .before in
-    let e : c .before .loop .c ≡ length (now (s .args .corners)) = omega (arith, c .loop-test .left, c .before .loop .inv .0) in
-    c .before .loop .inv .1 ∙ (λ i. refill (e i) (relinked (under (now (s .args .coords)) (back (s .fits .h) i) (s .args .k)) (now (s .args .corners)) (now (s .args .pairing)) (s .args .w) (now (s .args .ring))) (now (s .args .ring)))
+    let start = c .before .before .before .before .before in
+    let e : c .before .loop .c ≡ length (now (start .args .corners)) = omega (arith, c .loop-test .left, c .before .loop .inv .0) in
+    c .before .loop .inv .1 ∙ (λ i. refill (e i) (entries start (back (start .fits .h) i)) (now (start .args .ring)))
 
 pub relink-spec : {M : Type 1} → statement M
 relink-spec =

@@ -1,12 +1,19 @@
 -- `internal::ring_test` meets its contract.
+use denote.Ref.{now}
 use mathlib.Core.Path.{_∙_}
 use mir.Syntax.{w32}
 use Rattle.laws.specs.Machine.{same}
-use denote.Ref.{now}
-use Rattle.sweep.proofs.Moves.{held, placed-long, placed-last, ring-refused, ring-fine}
+use Rattle.mesh.specs.Meshes.{ordered}
+use Rattle.sweep.specs.Sweep.{Sweep, sweep}
+use Rattle.sweep.proofs.Moves.{placed-long, placed-last, ring-refused, ring-fine}
 use borrow.Author.Needs.{needs}
 use Rattle.sweep.proofs.internal.ring_test.Statement.{statement}
 use Rattle.sweep.proofs.internal.ring_test.Tie as tie
+
+abbrev sweepOf : tie.Start → Sweep
+sweepOf start =
+    sweep (ordered (now (start .args .coords)) (now (start .args .corners)) (now (start .args .pairing)) (now (start .args .order)))
+    (now (start .args .ring)) (start .args .n)
 
 height-behind-requires : tie.Need-height-behind-requires
 height-behind-requires c κs = let s = c .before .before .before .before in (placed-long (s .pre), placed-last (s .pre))
@@ -18,10 +25,18 @@ first-wrong-requires : tie.Need-first-wrong-requires
 first-wrong-requires c κs = search needs
 
 returns : tie.Need-returns
-returns c = let s = c .before .before .before .before .before .before .before .before in ring-refused (now (s .args .coords)) (now (s .args .corners)) (now (s .args .pairing)) (now (s .args .order)) (now (s .args .ring)) (s .args .n) (s .pre) (held (c .before .before .before .height-behind .result)) (c .before .before .number-behind .result) (c .before .first-wrong .result) (same w32 (c .before .before .before .height-behind .result) (c .before .before .before .height-behind .ok) ∙ c .before .before .before .height-behind .ensures) (c .before .before .number-behind .ensures) (c .before .first-wrong .ensures) (c .if1 .taken)
+returns c =
+    let at-height = c .before .before .before in
+    let start = at-height .before .before .before .before .before in
+    ring-refused (sweepOf start) (start .pre) (same w32 (at-height .height-behind .result) (at-height .height-behind .ok) ∙ at-height .height-behind .ensures)
+    (c .before .before .number-behind .ensures) (c .before .first-wrong .ensures) (c .if1 .taken)
 
 returns-2 : tie.Need-returns-2
-returns-2 c = let s = c .before .before .before .before .before .before .before .before in ring-fine (now (s .args .coords)) (now (s .args .corners)) (now (s .args .pairing)) (now (s .args .order)) (now (s .args .ring)) (s .args .n) (s .pre) (held (c .before .before .before .height-behind .result)) (c .before .before .number-behind .result) (c .before .first-wrong .result) (same w32 (c .before .before .before .height-behind .result) (c .before .before .before .height-behind .ok) ∙ c .before .before .before .height-behind .ensures) (c .before .before .number-behind .ensures) (c .before .first-wrong .ensures) (c .if1 .left)
+returns-2 c =
+    let at-height = c .before .before .before in
+    let start = at-height .before .before .before .before .before in
+    ring-fine (sweepOf start) (start .pre) (same w32 (at-height .height-behind .result) (at-height .height-behind .ok) ∙ at-height .height-behind .ensures)
+    (c .before .before .number-behind .ensures) (c .before .first-wrong .ensures) (c .if1 .left)
 
 pub ring-test-spec : {M : Type 1} → statement M
 ring-test-spec =

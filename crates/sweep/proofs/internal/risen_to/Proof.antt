@@ -1,5 +1,5 @@
 -- `internal::risen_to` meets its contract.
-use Prim.Native.Nat.{_+_, _-_, _*_, _≤_, _<_}
+use Prim.Native.Nat.{ℕ, _+_, _-_, _*_, _≤_, _<_}
 use mathlib.Core.Path.{ap, _∙_}
 use native.Mathlib.Omega.{arith}
 use borrow.Author.Needs.{needs}
@@ -20,7 +20,13 @@ Inv-loop coords order n h vertices p₀ p = Rising coords order (toZ w32 h) n p
 abbrev μ-loop : tie.MeasureT-loop
 μ-loop coords order n h vertices p₀ p = vertices - p
 
-inside : (c : tie.After-wide Inv-loop μ-loop) → 3 * c .wide .result + 2 < length (now (c .before .before .before .before .before .args .coords))
+-- how many it passes, to height z
+abbrev count : tie.Start Inv-loop μ-loop → ℤ → ℕ
+count start z = risenTo (now (start .args .coords)) (now (start .args .order)) z (vertexCount (now (start .args .coords))) (start .args .n)
+
+inside : (c : tie.After-wide Inv-loop μ-loop)
+    → let start = c .before .before .before .before .before in
+    3 * c .wide .result + 2 < length (now (start .args .coords))
 inside c =
     let s = c .before .before .before .before .before in
     let l : c .before .before .before .loop .p < vertexCount (now (s .args .coords)) = omega (arith, c .before .before .loop-test .taken) in
@@ -59,9 +65,14 @@ shared-slice-copy-out-if1 c = inside c
 
 returns : tie.Need-returns Inv-loop μ-loop
 returns c =
-    let s = c .before .before .before .before .before .before .before in
-    let l : c .before .before .before .before .before .loop .p < vertexCount (now (s .args .coords)) = omega (arith, c .before .before .before .before .loop-test .taken) in
-    rising-stop _ _ _ _ _ (c .before .before .before .before .before .loop .inv) (may-not (now (s .args .coords)) _ _ (c .before .before .before .before .before .loop .p) (c .before .before .wide .result) (c .before .if12 .given) (c .before .before .wide .ensures) l (c .if1 .taken)) ∙ ap (λ (z : ℤ). risenTo (now (s .args .coords)) (now (s .args .order)) z (vertexCount (now (s .args .coords))) (s .args .n)) (back (s .fits .h))
+    let at-wide = c .before .before in
+    let at-loop-test = at-wide .before .before in
+    let at-loop = at-loop-test .before in
+    let start = at-loop .before .before in
+    let l : at-loop .loop .p < vertexCount (now (start .args .coords)) = omega (arith, at-loop-test .loop-test .taken) in
+    rising-stop _ _ _ _ _ (at-loop .loop .inv)
+    (may-not (now (start .args .coords)) _ _ (at-loop .loop .p) (at-wide .wide .result) (c .before .if12 .given) (at-wide .wide .ensures) l (c .if1 .taken))
+    ∙ ap (count start) (back (start .fits .h))
 
 add-p : tie.Need-add-p Inv-loop μ-loop
 add-p c = omega (arith, c .before .before .before .before .loop-test .taken)
@@ -71,15 +82,19 @@ loop-less c = omega (arith, c .before .before .before .before .loop-test .taken)
 
 loop-again : tie.Need-loop-again Inv-loop μ-loop
 loop-again c =
-    let s = c .before .before .before .before .before .before .before in
-    let l : c .before .before .before .before .before .loop .p < vertexCount (now (s .args .coords)) = omega (arith, c .before .before .before .before .loop-test .taken) in
-    rising-more _ _ _ _ _ (c .before .before .before .before .before .loop .inv) l (may (now (s .args .coords)) _ _ (c .before .before .before .before .before .loop .p) (c .before .before .wide .result) (c .before .if12 .given) (c .before .before .wide .ensures) l (c .if1 .left))
+    let at-wide = c .before .before in
+    let at-loop-test = at-wide .before .before in
+    let at-loop = at-loop-test .before in
+    let start = at-loop .before .before in
+    let l : at-loop .loop .p < vertexCount (now (start .args .coords)) = omega (arith, at-loop-test .loop-test .taken) in
+    rising-more _ _ _ _ _ (at-loop .loop .inv) l
+    (may (now (start .args .coords)) _ _ (at-loop .loop .p) (at-wide .wide .result) (c .before .if12 .given) (at-wide .wide .ensures) l (c .if1 .left))
 
 returns-2 : tie.Need-returns-2 Inv-loop μ-loop
 returns-2 c =
-    let s = c .before .before .before in
-    let l : vertexCount (now (s .args .coords)) ≤ c .before .loop .p = omega (arith, c .loop-test .left) in
-    rising-stop _ _ _ _ _ (c .before .loop .inv) (may-end _ _ _ (c .before .loop .p) l) ∙ ap (λ (z : ℤ). risenTo (now (s .args .coords)) (now (s .args .order)) z (vertexCount (now (s .args .coords))) (s .args .n)) (back (s .fits .h))
+    let start = c .before .before .before in
+    let l : vertexCount (now (start .args .coords)) ≤ c .before .loop .p = omega (arith, c .loop-test .left) in
+    rising-stop _ _ _ _ _ (c .before .loop .inv) (may-end _ _ _ (c .before .loop .p) l) ∙ ap (count start) (back (start .fits .h))
 
 pub risen-to-spec : {M : Type 1} → statement M
 risen-to-spec =

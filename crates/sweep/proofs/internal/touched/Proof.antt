@@ -36,7 +36,10 @@ wide-requires-2 : tie.Need-wide-requires-2
 wide-requires-2 c κs = search needs
 
 returns-2 : tie.Need-returns-2
-returns-2 c = touches-2 _ _ _ (λ e. c .before .before .before .if1 .left (c .before .before .before .before .wide .ensures ∙ e)) (sym (c .before .wide2 .ensures) ∙ c .if2 .taken)
+returns-2 c =
+    let at-if1 = c .before .before .before in
+    let at-wide = at-if1 .before in
+    touches-2 _ _ _ (λ e. at-if1 .if1 .left (at-wide .wide .ensures ∙ e)) (sym (c .before .wide2 .ensures) ∙ c .if2 .taken)
 
 mul-wide-3 : tie.Need-mul-wide-3
 mul-wide-3 c = search needs
@@ -48,7 +51,12 @@ wide-requires-3 : tie.Need-wide-requires-3
 wide-requires-3 c κs = search needs
 
 returns-3 : tie.Need-returns-3
-returns-3 c = touches-3 _ _ _ (λ e. c .before .before .before .before .before .if1 .left (c .before .before .before .before .before .before .wide .ensures ∙ e)) (λ e. c .before .before .if2 .left (c .before .before .before .wide2 .ensures ∙ e)) _ (c .wide3 .ensures)
+returns-3 c =
+    let at-if2 = c .before .before in
+    let at-wide2 = at-if2 .before in
+    let at-if1 = at-wide2 .before .before in
+    let at-wide = at-if1 .before in
+    touches-3 _ _ _ (λ e. at-if1 .if1 .left (at-wide .wide .ensures ∙ e)) (λ e. at-if2 .if2 .left (at-wide2 .wide2 .ensures ∙ e)) _ (c .wide3 .ensures)
 
 pub touched-spec : {M : Type 1} → statement M
 touched-spec =

@@ -36,10 +36,15 @@ loop-less : tie.Need-loop-less Inv-loop μ-loop
 loop-less c = omega arith
 
 loop-again : tie.Need-loop-again Inv-loop μ-loop
-loop-again c = met-more _ _ _ (c .before .before .before .loop .inv) (c .before .before .loop-test .taken) (c .before .triangle-meets .ensures (not-false _ (c .if2 .left)))
+loop-again c =
+    let at-loop-test = c .before .before in
+    let at-loop = at-loop-test .before in
+    met-more _ _ _ (at-loop .loop .inv) (at-loop-test .loop-test .taken) (c .before .triangle-meets .ensures (not-false _ (c .if2 .left)))
 
 returns-3 : tie.Need-returns-3 Inv-loop μ-loop
-returns-3 c = λ e. met-all _ _ (c .before .before .before .before .before .pre) (c .before .before .if1 .left) _ (c .loop-test .left) (c .before .loop .inv)
+returns-3 c =
+    let at-loop = c .before in
+    λ e. met-all _ _ (at-loop .before .before .before .before .pre) (at-loop .before .if1 .left) _ (c .loop-test .left) (at-loop .loop .inv)
 
 pub all-meet-spec : {M : Type 1} → statement M
 all-meet-spec =

@@ -30,7 +30,10 @@ is-reverse-requires : tie.Need-is-reverse-requires
 is-reverse-requires c κs = search needs
 
 returns-3 : tie.Need-returns-3
-returns-3 c = not-paired _ _ _ (λ p. clash (p .turned) (ap (reverse _ _) (sym (c .before .before .before .wide .ensures)) ∙ sym (c .before .is-reverse .ensures) ∙ not-true _ (c .if3 .taken)))
+returns-3 c =
+    let at-wide = c .before .before .before in
+    not-paired _ _ _
+    (λ p. clash (p .turned) (ap (reverse _ _) (sym (at-wide .wide .ensures)) ∙ sym (c .before .is-reverse .ensures) ∙ not-true _ (c .if3 .taken)))
 
 returns-4 : tie.Need-returns-4
 returns-4 c = not-paired _ _ _ (λ p. omega (arith, p .back-there, c .if4 .taken, c .before .before .before .before .wide .ensures))
@@ -46,11 +49,19 @@ wide-requires-2 c κs = search needs
 
 returns-5 : tie.Need-returns-5
 returns-5 c =
-    let w = c .before .before .before .before .before .before .wide .ensures in
-    let s = c .before .before .before .before .before .before .before .before .before .before .before .args in
+    let at-if4 = c .before .before in
+    let at-if3 = at-if4 .before in
+    let at-is-reverse = at-if3 .before in
+    let at-if2 = at-is-reverse .before in
+    let at-wide = at-if2 .before in
+    let at-if1 = at-wide .before .before in
+    let start = at-if1 .before .before .before in
+    let w = at-wide .wide .ensures in
+    let s = start .args in
     ap (λ (k : ℕ). eqb k (s .c)) (c .wide2 .ensures ∙ ap (pairOf (s .pairing .now)) w)
-    ∙ paired-last (s .corners .now) (s .pairing .now) (s .c) (omega (arith, c .before .before .before .before .before .before .before .before .if1 .left)) (omega (arith, c .before .before .before .before .before .if2 .left))
-    (ap (reverse (s .corners .now) (s .c)) (sym w) ∙ sym (c .before .before .before .before .is-reverse .ensures) ∙ not-false _ (c .before .before .before .if3 .left)) (omega (arith, c .before .before .if4 .left))
+    ∙ paired-last (s .corners .now) (s .pairing .now) (s .c) (omega (arith, at-if1 .if1 .left)) (omega (arith, at-if2 .if2 .left))
+    (ap (reverse (s .corners .now) (s .c)) (sym w) ∙ sym (at-is-reverse .is-reverse .ensures) ∙ not-false _ (at-if3 .if3 .left))
+    (omega (arith, at-if4 .if4 .left))
 
 pub is-paired-spec : {M : Type 1} → statement M
 is-paired-spec =

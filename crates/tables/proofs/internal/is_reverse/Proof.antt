@@ -38,7 +38,11 @@ shared-slice-read-result-2 : tie.Need-shared-slice-read-result-2
 shared-slice-read-result-2 c = search needs
 
 returns-2 : tie.Need-returns-2
-returns-2 c = reverse-as _ _ _ _ _ (c .before .before .before .before .before .before .next-corner .ensures) (c .before .before .before .before .before .next-corner2 .ensures) (c .before .before .if1 .left)
+returns-2 c =
+    let at-if1 = c .before .before in
+    let at-next-corner2 = at-if1 .before .before .before in
+    let at-next-corner = at-next-corner2 .before in
+    reverse-as _ _ _ _ _ (at-next-corner .next-corner .ensures) (at-next-corner2 .next-corner2 .ensures) (at-if1 .if1 .left)
 
 pub is-reverse-spec : {M : Type 1} → statement M
 is-reverse-spec =

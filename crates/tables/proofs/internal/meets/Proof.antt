@@ -38,7 +38,11 @@ wide-requires-2 : tie.Need-wide-requires-2
 wide-requires-2 c κs = search needs
 
 returns-3 : tie.Need-returns-3
-returns-3 c = λ e. meets-of _ _ _ _ _ _ (c .before .before .before .before .before .wide .ensures) (omega (arith, c .before .before .before .before .if1 .left)) (c .before .before .if2 .left) (c .wide2 .ensures) e
+returns-3 c =
+    let at-if2 = c .before .before in
+    let at-if1 = at-if2 .before .before in
+    let at-wide = at-if1 .before in
+    λ e. meets-of _ _ _ _ _ _ (at-wide .wide .ensures) (omega (arith, at-if1 .if1 .left)) (at-if2 .if2 .left) (c .wide2 .ensures) e
 
 pub meets-spec : {M : Type 1} → statement M
 meets-spec =

@@ -1,5 +1,5 @@
 -- `internal::pairing_test` meets its contract.
-use Rattle.mesh.specs.RefusalLaws.{test-refused, test-fine, nowhere-fine}
+use Rattle.mesh.specs.OperationLaws.{test-refused, test-fine, nowhere-fine}
 use borrow.Author.Needs.{needs}
 use Rattle.tables.proofs.internal.pairing_test.Statement.{statement}
 use Rattle.tables.proofs.internal.pairing_test.Tie as tie

@@ -49,7 +49,17 @@ meets-requires-3 : tie.Need-meets-requires-3
 meets-requires-3 c κs = search needs
 
 returns-3 : tie.Need-returns-3
-returns-3 c = λ e. record { first = c .before .before .before .before .before .before .meets .ensures (not-false _ (c .before .before .before .before .before .if1 .left)); second = c .before .before .before .meets2 .ensures (not-false _ (c .before .before .if2 .left)); third = c .meets3 .ensures e }
+returns-3 c =
+    let at-if2 = c .before .before in
+    let at-meets2 = at-if2 .before in
+    let at-if1 = at-meets2 .before .before in
+    let at-meets = at-if1 .before in
+    λ e. record {
+      first = at-meets .meets .ensures (not-false _ (at-if1 .if1 .left));
+      second = at-meets2 .meets2 .ensures (not-false _ (at-if2 .if2 .left));
+      third = c
+          .meets3 .ensures e;
+    }
 
 pub triangle-meets-spec : {M : Type 1} → statement M
 triangle-meets-spec =

@@ -51,12 +51,15 @@ loop-less c = omega arith
 turn : (c : tie.After-rank-of Inv-loop μ-loop) → let l = c .before .before .before .before in
     let a = l .before .before .args in
     c .rank-of .result ≡ rank (now (a .coords)) (getD (now (a .order)) (middle (l .loop .lo) (l .loop .hi)) 0)
-turn c = c .rank-of .ensures ∙ ap (rank (now (c .before .before .before .before .before .before .args .coords))) (c .before .wide .ensures)
+turn c =
+    let at-loop = c .before .before .before .before in
+    c .rank-of .ensures ∙ ap (rank (now (at-loop .before .before .args .coords))) (c .before .wide .ensures)
 
 loop-again : tie.Need-loop-again Inv-loop μ-loop
 loop-again c =
     let l = c .before .before .before .before .before in
-    search-right _ _ _ _ _ (l .loop .inv) (l .before .before .pre .1) (middle (l .loop .lo) (l .loop .hi)) (omega arith) (omega arith) (sym (turn (c .before)) ∙ c .if1 .taken)
+    search-right _ _ _ _ _ (l .loop .inv) (l .before .before .pre .1) (middle (l .loop .lo) (l .loop .hi)) (omega arith) (omega arith)
+    (sym (turn (c .before)) ∙ c .if1 .taken)
 
 loop-less-2 : tie.Need-loop-less-2 Inv-loop μ-loop
 loop-less-2 c = omega arith
@@ -64,7 +67,8 @@ loop-less-2 c = omega arith
 loop-again-2 : tie.Need-loop-again-2 Inv-loop μ-loop
 loop-again-2 c =
     let l = c .before .before .before .before .before in
-    search-wrong _ _ _ _ _ (l .loop .inv) (l .before .before .pre .1) (middle (l .loop .lo) (l .loop .hi)) (omega arith) (omega arith) (λ e. c .if1 .left (turn (c .before) ∙ e))
+    search-wrong _ _ _ _ _ (l .loop .inv) (l .before .before .pre .1) (middle (l .loop .lo) (l .loop .hi)) (omega arith) (omega arith)
+    (λ e. c .if1 .left (turn (c .before) ∙ e))
 
 returns : tie.Need-returns Inv-loop μ-loop
 returns c = search-end _ _ _ _ _ (c .before .loop .inv) (c .loop-test .left)

@@ -27,13 +27,20 @@ returns : tie.Need-returns Inv-loop μ-loop
 returns c = c .before .before .before .loop .inv
 
 add-d : tie.Need-add-d Inv-loop μ-loop
-add-d c = omega (arith, c .before .before .before .loop .inv .upto, c .before .before .before .before .before .pre .few)
+add-d c =
+    let at-loop = c .before .before .before in
+    let start = at-loop .before .before in
+    omega (arith, at-loop .loop .inv .upto, start .pre .few)
 
 loop-less : tie.Need-loop-less Inv-loop μ-loop
 loop-less c = omega (arith, c .before .before .loop-test .taken)
 
 loop-again : tie.Need-loop-again Inv-loop μ-loop
-loop-again c = sought-more (c .before .before .before .loop .inv) (c .before .before .before .loop .d + 4) (omega arith) (c .before .before .loop-test .taken) (c .before .no-links .ensures (not-false _ (c .if1 .left)))
+loop-again c =
+    let at-test = c .before .before in
+    let at-loop = at-test .before in
+    sought-more (at-loop .loop .inv) (at-loop .loop .d + 4) (omega arith) (at-test .loop-test .taken)
+    (c .before .no-links .ensures (not-false _ (c .if1 .left)))
 
 returns-2 : tie.Need-returns-2 Inv-loop μ-loop
 returns-2 c = c .before .loop .inv

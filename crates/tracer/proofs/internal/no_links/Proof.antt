@@ -1,12 +1,17 @@
 -- `internal::no_links` meets its contract.
-use Prim.Native.Nat.{_+_}
+use Prim.Native.Nat.{ℕ, _+_, _<_}
 use native.Mathlib.Omega.{arith}
+use lib.ListN.{getD}
 use denote.Ref.{now}
 use borrow.Author.Tests.{eqb-true}
 use Rattle.tracer.proofs.Seeking.{four-none}
 use borrow.Author.Needs.{needs}
 use Rattle.tracer.proofs.internal.no_links.Statement.{statement}
 use Rattle.tracer.proofs.internal.no_links.Tie as tie
+
+-- a link has 32 bits
+small : (c : tie.After-shared-slice-known) (i : ℕ) → getD (now (c .before .args .links)) i 0 < 4294967296
+small c i = c .shared-slice-known .given i .fits
 
 mul-wide : tie.Need-mul-wide
 mul-wide c = search needs
@@ -30,7 +35,11 @@ wide-requires-2 : tie.Need-wide-requires-2
 wide-requires-2 c κs = search needs
 
 add-a : tie.Need-add-a
-add-a c = let s = c .before .before .before .before .before .args .c in omega (arith, c .before .before .wide .ensures, c .wide2 .ensures, c .before .before .before .before .shared-slice-known .given s, c .before .before .before .before .shared-slice-known .given (s + 1))
+add-a c =
+    let at-wide = c .before .before in
+    let known = at-wide .before .before in
+    let at = known .before .args .c in
+    omega (arith, at-wide .wide .ensures, c .wide2 .ensures, small known at, small known (at + 1))
 
 add-wide-2 : tie.Need-add-wide-2
 add-wide-2 c = search needs
@@ -57,15 +66,39 @@ wide-requires-4 : tie.Need-wide-requires-4
 wide-requires-4 c κs = search needs
 
 add-b : tie.Need-add-b
-add-b c = let s = c .before .before .before .before .before .before .before .before .before .args .c in omega (arith, c .before .before .wide3 .ensures, c .wide4 .ensures, c .before .before .before .before .before .before .before .before .shared-slice-known .given (s + 2), c .before .before .before .before .before .before .before .before .shared-slice-known .given (s + 3))
+add-b c =
+    let at-wide3 = c .before .before in
+    let known = at-wide3 .before .before .before .before .before .before in
+    let at = known .before .args .c in
+    omega (arith, at-wide3 .wide3 .ensures, c .wide4 .ensures, small known (at + 2), small known (at + 3))
 
 add-result : tie.Need-add-result
 add-result c =
-    let s = c .before .before .before .before .before .before .before .before .before .args .c in
-    omega (arith, c .before .before .before .before .before .before .wide .ensures, c .before .before .before .before .wide2 .ensures, c .before .before .wide3 .ensures, c .wide4 .ensures, c .before .before .before .before .before .before .before .before .shared-slice-known .given s, c .before .before .before .before .before .before .before .before .shared-slice-known .given (s + 1), c .before .before .before .before .before .before .before .before .shared-slice-known .given (s + 2), c .before .before .before .before .before .before .before .before .shared-slice-known .given (s + 3))
+    let at-wide3 = c .before .before in
+    let at-wide2 = at-wide3 .before .before in
+    let at-wide = at-wide2 .before .before in
+    let known = at-wide .before .before in
+    let at = known .before .args .c in
+    omega (
+      arith,
+      at-wide .wide .ensures,
+      at-wide2 .wide2 .ensures,
+      at-wide3 .wide3 .ensures,
+      c .wide4 .ensures,
+      small known at,
+      small known (at + 1),
+      small known (at + 2),
+      small known (at + 3),
+    )
 
 returns : tie.Need-returns
-returns c = λ e. four-none (now (c .before .before .before .before .before .before .before .before .before .args .links)) (c .before .before .before .before .before .before .before .before .before .args .c) (λ i. c .before .before .before .before .before .before .before .before .shared-slice-known .given i .fits) (c .before .before .before .before .before .before .wide .ensures) (c .before .before .before .before .wide2 .ensures) (c .before .before .wide3 .ensures) (c .wide4 .ensures) (eqb-true _ _ e)
+returns c =
+    let at-wide3 = c .before .before in
+    let at-wide2 = at-wide3 .before .before in
+    let at-wide = at-wide2 .before .before in
+    let known = at-wide .before .before in
+    λ e. four-none (now (known .before .args .links)) (known .before .args .c) (small known)
+    (at-wide .wide .ensures) (at-wide2 .wide2 .ensures) (at-wide3 .wide3 .ensures) (c .wide4 .ensures) (eqb-true _ _ e)
 
 pub no-links-spec : {M : Type 1} → statement M
 no-links-spec =

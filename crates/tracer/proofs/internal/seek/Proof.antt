@@ -23,19 +23,29 @@ mul-if1 : tie.Need-mul-if1 Inv-loop μ-loop
 mul-if1 c = omega (arith, c .loop-test .taken, c .before .before .before .before .pre .few)
 
 shared-slice-read-if1 : tie.Need-shared-slice-read-if1 Inv-loop μ-loop
-shared-slice-read-if1 c = omega (arith, c .before .loop-test .taken, c .before .before .before .before .before .pre .there)
+shared-slice-read-if1 c =
+    let start = c .before .before .before .before .before in
+    omega (arith, c .before .loop-test .taken, start .pre .there)
 
 returns : tie.Need-returns Inv-loop μ-loop
 returns c = (c .before .before .before .loop .inv, λ l. c .if1 .taken)
 
 add-d : tie.Need-add-d Inv-loop μ-loop
-add-d c = omega (arith, c .before .before .loop-test .taken, c .before .before .before .before .before .before .pre .few)
+add-d c =
+    let at-test = c .before .before in
+    let start = at-test .before .before .before .before in
+    omega (arith, at-test .loop-test .taken, start .pre .few)
 
 loop-less : tie.Need-loop-less Inv-loop μ-loop
 loop-less c = omega (arith, c .before .before .loop-test .taken)
 
 loop-again : tie.Need-loop-again Inv-loop μ-loop
-loop-again c = sought-more (c .before .before .before .loop .inv) (c .before .before .before .loop .d + 1) (omega arith) (omega (arith, c .before .before .loop-test .taken)) (one-none (now (c .before .before .before .before .before .before .args .links)) (c .before .before .before .loop .d) (c .if1 .left))
+loop-again c =
+    let at-test = c .before .before in
+    let at-loop = at-test .before in
+    let start = at-loop .before .before .before in
+    sought-more (at-loop .loop .inv) (at-loop .loop .d + 1) (omega arith) (omega (arith, at-test .loop-test .taken))
+    (one-none (now (start .args .links)) (at-loop .loop .d) (c .if1 .left))
 
 returns-2 : tie.Need-returns-2 Inv-loop μ-loop
 returns-2 c = (c .before .loop .inv, λ l. absurd (omega (arith, l, c .loop-test .left)))

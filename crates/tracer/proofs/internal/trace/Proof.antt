@@ -2,121 +2,160 @@
 use denote.Enum.Declared.{tagOf, declared}
 use Rattle.tracer.proofs.Walked.{enum}
 use Prim.Native.Nat.{ℕ, _+_, _-_, _<_}
-use mathlib.Core.Path.{_≡_, refl, sym, ap, _∙_}
+use mathlib.Core.Path.{_≡_, sym, ap, _∙_}
 use native.Mathlib.Omega.{arith}
 use lib.ListN.{getD, set}
 use denote.Ref.{now}
 use Rattle.section.specs.Section.{noCorner}
 use Rattle.tracer.specs.declared.Walked.{Walked}
 use Rattle.tracer.specs.declared.Walked.the-variants.{Closed}
-use Rattle.tracer.proofs.Tracing.{Tracing, tracing-start, tracing-pass, names-length, ends-length, links-length, j-inside, walkable, end-few, tracing-ring, found-is, names-end, ends-end, links-end}
+use Rattle.tracer.proofs.Tracing.{Tracing, tracing-start, tracing-pass, names-length, ends-length, links-length, j-inside, walkable}
+use Rattle.tracer.proofs.Tracing.{end-few, tracing-ring, traced}
 use Rattle.tracer.proofs.internal.trace.Statement.{statement}
 use Rattle.tracer.proofs.internal.trace.Tie as tie
 
 abbrev Inv-loop : tie.InvT-loop
-Inv-loop n links₀ names₀ ends₀ c₀ k₀ j₀ links names ends c k j = Tracing n links₀ names₀ ends₀ links names ends c k j × (c < n → getD links c 0 ≡ noCorner → ⊥)
+Inv-loop n links₀ names₀ ends₀ c₀ k₀ j₀ links names ends c k j =
+    Tracing n links₀ names₀ ends₀ links names ends c k j
+    × (c < n → getD links c 0 ≡ noCorner → ⊥)
 
 abbrev μ-loop : tie.MeasureT-loop
 μ-loop n links₀ names₀ ends₀ c₀ k₀ j₀ links names ends c k j = n - c
 
 seek-requires : tie.Need-seek-requires Inv-loop μ-loop
-seek-requires c κs = let g = c .before .before .before .before .pre in record { begins = omega arith; few = g .few; there = g .links-room }
+seek-requires c κs =
+    let start = c .before .before .before .before in
+    record { begins = omega arith; few = start .pre .few; there = start .pre .links-room }
 
 loop-holds : tie.Need-loop-holds Inv-loop μ-loop
-loop-holds c = (tracing-pass (c .seek .result) (tracing-start _ _ _ _ (c .before .before .before .before .before .pre)) (c .seek .ensures .0), c .seek .ensures .1)
+loop-holds c =
+    let start = c .before .before .before .before .before in
+    (tracing-pass (tracing-start (start .pre)) (c .seek .ensures .0), c .seek .ensures .1)
 
 walk-requires : tie.Need-walk-requires Inv-loop μ-loop
-walk-requires c κs = walkable _ _ _ _ _ _ _ _ _ _ (c .before .before .before .loop .inv .0) (c .before .before .loop-test .taken) (c .before .before .before .loop .inv .1 (c .before .before .loop-test .taken))
+walk-requires c κs =
+    let at-test = c .before .before in
+    let inv = at-test .before .loop .inv in
+    walkable (inv .0) (at-test .loop-test .taken) (inv .1 (at-test .loop-test .taken))
 
-closed-same : (r : Walked) (a b : ℕ) → r ≡ Closed a → r ≡ Closed b → a ≡ b
-closed-same r a b p q = cc
+closed-same : {r : Walked} {a b : ℕ} → r ≡ Closed a → r ≡ Closed b → a ≡ b
+closed-same p q = cc
 
 -- refusal 16: the walk's contract leaves no such case
 dead : (c : tie.At-match-keys2 Inv-loop μ-loop) → ⊥
-dead c = never (c .before .before .before .before .before .walk .result) _ (c .before .before .before .before .before .walk .ensures .0) (c .match .keys2)
-  where
-    never : (r : Walked) (a : ℕ) → r ≡ Closed a → tagOf (declared enum) r ≡ 1 → ⊥
-    never r a p q = let z : _≡_ {A = ℕ} 0 1 = sym (ap (tagOf (declared enum)) p) ∙ q in omega arith
+dead c =
+    let at-walk = c .before .before .before .before .before in
+    let z : _≡_ {A = ℕ} 0 1 = sym (ap (tagOf (declared enum)) (at-walk .walk .ensures .0)) ∙ c .match .keys2 in
+    omega arith
 
 enum-known-w : tie.Need-enum-known-w Inv-loop μ-loop
 enum-known-w c = c .match .keys1
 
 cast-ends : tie.Need-cast-ends Inv-loop μ-loop
 cast-ends c =
-    let l = c .before .before .before .before .before .before .before .before .before .before .before .loop .inv in
-    let e = closed-same (c .before .before .before .before .before .before .before .walk .result) (c .before .w .given .0 .0) _ (c .before .w .given .1) (c .before .before .before .before .before .before .before .walk .ensures .0) in
-    let f = end-few _ _ _ _ _ _ _ _ _ _ (l .0) (c .before .before .before .before .before .before .before .before .before .before .loop-test .taken) (l .1 (c .before .before .before .before .before .before .before .before .before .before .loop-test .taken)) in
-    omega (arith, e, f, l .0 .given .few)
+    let at-walk = c .before .before .before .before .before .before .before in
+    let at-test = at-walk .before .before .before in
+    let inv = at-test .before .loop .inv in
+    let is = closed-same (c .before .w .given .1) (at-walk .walk .ensures .0) in
+    omega (arith, is, end-few (inv .0) (at-test .loop-test .taken) (inv .1 (at-test .loop-test .taken)), inv .0 .given .few)
 
 mul-ends : tie.Need-mul-ends Inv-loop μ-loop
-mul-ends c = let l = c .before .before .before .before .before .before .before .before .before .before .before .loop .inv .0 in omega (arith, l .at-j, l .begun .few, l .given .few, l .upto)
+mul-ends c =
+    let at-loop = c .before .before .before .before .before .before .before .before .before .before .before in
+    let w = at-loop .loop .inv .0 in
+    omega (arith, w .at-j, w .begun .few, w .given .few, w .upto)
 
 slice-write-ends : tie.Need-slice-write-ends Inv-loop μ-loop
-slice-write-ends c = j-inside _ _ _ _ _ _ _ _ _ _ (c .before .before .before .before .before .before .before .before .before .before .before .loop .inv .0) (c .before .before .before .before .before .before .before .before .before .before .loop-test .taken)
+slice-write-ends c =
+    let at-test = c .before .before .before .before .before .before .before .before .before .before in
+    j-inside (at-test .before .loop .inv .0) (at-test .loop-test .taken)
 
 add-j : tie.Need-add-j Inv-loop μ-loop
-add-j c = let l = c .before .before .before .before .before .before .before .before .before .before .before .loop .inv .0 in omega (arith, l .at-j, l .begun .few, l .given .few, l .upto)
+add-j c =
+    let at-loop = c .before .before .before .before .before .before .before .before .before .before .before in
+    let w = at-loop .loop .inv .0 in
+    omega (arith, w .at-j, w .begun .few, w .given .few, w .upto)
 
 enum-known-w-2 : tie.Need-enum-known-w-2 Inv-loop μ-loop
 enum-known-w-2 c = c .match .keys2
 
 wipe-requires : tie.Need-wipe-requires Inv-loop μ-loop
-wipe-requires c κs = absurd (dead (c .before .before .before .before .before))
+wipe-requires c κs = let at-match = c .before .before .before .before .before in absurd (dead at-match)
 
 same-length : tie.Need-same-length Inv-loop μ-loop
-same-length c = absurd (dead (c .before .before .before .before .before .before .before .before .before .before .before .before))
+same-length c =
+    let at-match = c .before .before .before .before .before .before .before .before .before .before .before .before in
+    absurd (dead at-match)
 
 same-length-2 : tie.Need-same-length-2 Inv-loop μ-loop
-same-length-2 c = absurd (dead (c .before .before .before .before .before .before .before .before .before .before .before .before))
+same-length-2 c =
+    let at-match = c .before .before .before .before .before .before .before .before .before .before .before .before in
+    absurd (dead at-match)
 
 same-length-3 : tie.Need-same-length-3 Inv-loop μ-loop
-same-length-3 c = absurd (dead (c .before .before .before .before .before .before .before .before .before .before .before .before))
+same-length-3 c =
+    let at-match = c .before .before .before .before .before .before .before .before .before .before .before .before in
+    absurd (dead at-match)
 
 returns : tie.Need-returns Inv-loop μ-loop
-returns c = absurd (dead (c .before .before .before .before .before .before .before .before .before .before .before .before))
+returns c =
+    let at-match = c .before .before .before .before .before .before .before .before .before .before .before .before in
+    absurd (dead at-match)
 
 -- after the walk of corner c
-turned : (c : tie.After-seek-arg2 Inv-loop μ-loop)
-    → let s = c .before .before .before .before .before .before .before .before .before .before .before .before .before .before .before .before .before .before .args in
-    let l = c .before .before .before .before .before .before .before .before .before .before .before .before .loop in
-    Tracing (s .n) (now (s .links)) (now (s .names)) (now (s .ends)) (c .before .before .before .before .before .before .before .before .walk .last .0) (c .before .before .before .before .before .before .before .before .walk .last .1 .0) (set (l .ends) (l .j) (c .before .before .w .given .0 .0))
-    (l .c + 1) (c .before .before .w .given .0 .0) (l .j + 1)
-turned c =
-    let l = c .before .before .before .before .before .before .before .before .before .before .before .before .loop in
-    let lt = c .before .before .before .before .before .before .before .before .before .before .before .loop-test .taken in
-    let w = c .before .before .before .before .before .before .before .before .walk in
-    let e = closed-same (w .result) (c .before .before .w .given .0 .0) _ (c .before .before .w .given .1) (w .ensures .0) in
-    tracing-ring _ _ _ _ _ _ _ _ _ _ (l .inv .0) lt (l .inv .1 lt) _ _ _ _ (w .ensures .1 .0) (w .ensures .1 .1) e refl
+walked : (c : tie.After-seek-arg2 Inv-loop μ-loop)
+    → let at-walk = c .before .before .before .before .before .before .before .before in
+    let at-loop = at-walk .before .before .before .before in
+    let start = at-loop .before .before .before .before .before .before in
+    let l = at-loop .loop in
+    let end = c .before .before .w .given .0 .0 in
+    Tracing (start .args .n) (now (start .args .links)) (now (start .args .names)) (now (start .args .ends))
+    (at-walk .walk .last .0) (at-walk .walk .last .1 .0) (set (l .ends) (l .j) end) (l .c + 1) end (l .j + 1)
+walked c =
+    let at-walk = c .before .before .before .before .before .before .before .before in
+    let at-test = at-walk .before .before .before in
+    let inv = at-test .before .loop .inv in
+    let is = closed-same (c .before .before .w .given .1) (at-walk .walk .ensures .0) in
+    tracing-ring (inv .0) (at-test .loop-test .taken) (inv .1 (at-test .loop-test .taken)) (at-walk .walk .ensures .1 .0) (at-walk .walk .ensures .1 .1) is
 
 add-seek : tie.Need-add-seek Inv-loop μ-loop
-add-seek c = omega (arith, c .before .before .before .before .before .before .before .before .before .before .before .loop-test .taken, c .before .before .before .before .before .before .before .before .before .before .before .before .loop .inv .0 .given .few)
+add-seek c =
+    let at-test = c .before .before .before .before .before .before .before .before .before .before .before in
+    omega (arith, at-test .loop-test .taken, at-test .before .loop .inv .0 .given .few)
 
 seek-requires-2 : tie.Need-seek-requires-2 Inv-loop μ-loop
-seek-requires-2 c κs = let v = turned c in record { begins = v .upto; few = v .given .few; there = omega (arith, v .given .links-room, links-length _ _ _ _ _ _ _ _ _ _ v) }
+seek-requires-2 c κs =
+    let w = walked c in
+    record { begins = w .upto; few = w .given .few; there = omega (arith, w .given .links-room, links-length w) }
 
 loop-less : tie.Need-loop-less Inv-loop μ-loop
-loop-less c = omega (arith, c .before .before .before .before .before .before .before .before .before .before .before .before .loop-test .taken, c .seek2 .ensures .0 .onward)
+loop-less c =
+    let at-test = c .before .before .before .before .before .before .before .before .before .before .before .before in
+    omega (arith, at-test .loop-test .taken, c .seek2 .ensures .0 .onward)
 
 loop-again : tie.Need-loop-again Inv-loop μ-loop
-loop-again c = (tracing-pass (c .seek2 .result) (turned (c .before)) (c .seek2 .ensures .0), c .seek2 .ensures .1)
+loop-again c = (tracing-pass (walked (c .before)) (c .seek2 .ensures .0), c .seek2 .ensures .1)
 
 fill-requires : tie.Need-fill-requires Inv-loop μ-loop
-fill-requires c κs = let l = c .before .before .loop .inv .0 in omega (arith, l .given .links-room, links-length _ _ _ _ _ _ _ _ _ _ l)
+fill-requires c κs = let w = c .before .before .loop .inv .0 in omega (arith, w .given .links-room, links-length w)
 
 same-length-4 : tie.Need-same-length-4 Inv-loop μ-loop
-same-length-4 c = c .before .before .fill .kept .0 ∙ links-length _ _ _ _ _ _ _ _ _ _ (c .before .before .before .before .before .loop .inv .0)
+same-length-4 c =
+    let at-fill = c .before .before in
+    at-fill .fill .kept .0 ∙ links-length (at-fill .before .before .before .loop .inv .0)
 
 same-length-5 : tie.Need-same-length-5 Inv-loop μ-loop
-same-length-5 c = names-length _ _ _ _ _ _ _ _ _ _ (c .before .before .before .before .before .loop .inv .0)
+same-length-5 c = let at-loop = c .before .before .before .before .before in names-length (at-loop .loop .inv .0)
 
 same-length-6 : tie.Need-same-length-6 Inv-loop μ-loop
-same-length-6 c = ends-length _ _ _ _ _ _ _ _ _ _ (c .before .before .before .before .before .loop .inv .0)
+same-length-6 c = let at-loop = c .before .before .before .before .before in ends-length (at-loop .loop .inv .0)
 
 returns-2 : tie.Need-returns-2 Inv-loop μ-loop
 returns-2 c =
-    let w = c .before .before .before .before .before .loop .inv .0 in
-    let end = c .before .before .before .before .loop-test .left in
-    (found-is _ _ _ _ _ _ _ _ _ _ w end, (names-end _ _ _ _ _ _ _ _ _ _ w end, (ends-end _ _ _ _ _ _ _ _ _ _ w end, links-end _ _ _ _ _ _ _ _ _ _ w end _ (c .before .before .fill .ensures))))
+    let at-fill = c .before .before in
+    let at-test = at-fill .before .before in
+    let done = traced (at-test .before .loop .inv .0) (at-test .loop-test .left) (at-fill .fill .ensures) in
+    (done .0, done .1)
 
 pub trace-spec : {M : Type 1} → statement M
 trace-spec =

@@ -30,7 +30,10 @@ mul-a c = omega (arith, c .before .before .before .loop .inv .place .within)
 
 -- the end lies within the points, and not below the end before
 module _ (c : tie.After-wide Inv-loop μ-loop) where
-  within : 2 * c .wide .result ≤ length (c .before .before .before .before .before .args .points .now)
+  abbrev start : tie.Start Inv-loop μ-loop
+  start = c .before .before .before .before .before
+
+  within : 2 * c .wide .result ≤ length (start .args .points .now)
   within = end-within (c .before .before .before .loop .inv .place) (c .before .before .loop-test .taken) (c .wide .ensures)
 
   rises : c .before .before .before .loop .from ≤ c .wide .result
@@ -55,7 +58,15 @@ contour-length-requires : tie.Need-contour-length-requires Inv-loop μ-loop
 contour-length-requires c κs = tt
 
 add-total : tie.Need-add-total Inv-loop μ-loop
-add-total c = omega (arith, contour-fits (c .before .before .before .before .before .loop .inv) (c .before .before .before .before .loop-test .taken) (c .before .before .wide .ensures) (c .contour-length .ensures), c .before .before .before .before .before .loop .inv .place .there)
+add-total c =
+    let at-wide = c .before .before in
+    let at-test = at-wide .before .before in
+    let at-loop = at-test .before in
+    omega (
+      arith,
+      contour-fits (at-loop .loop .inv) (at-test .loop-test .taken) (at-wide .wide .ensures) (c .contour-length .ensures),
+      at-loop .loop .inv .place .there,
+    )
 
 add-i : tie.Need-add-i Inv-loop μ-loop
 add-i c = omega arith
@@ -64,7 +75,11 @@ loop-less : tie.Need-loop-less Inv-loop μ-loop
 loop-less c = omega arith
 
 loop-again : tie.Need-loop-again Inv-loop μ-loop
-loop-again c = contours-next (c .before .before .before .before .before .loop .inv) (c .before .before .before .before .loop-test .taken) (c .before .before .wide .ensures) (c .contour-length .ensures)
+loop-again c =
+    let at-wide = c .before .before in
+    let at-test = at-wide .before .before in
+    let at-loop = at-test .before in
+    contours-next (at-loop .loop .inv) (at-test .loop-test .taken) (at-wide .wide .ensures) (c .contour-length .ensures)
 
 returns : tie.Need-returns Inv-loop μ-loop
 returns c = contours-end (c .before .loop .inv) (c .loop-test .left)

@@ -34,10 +34,12 @@ module _ (c : tie.After-number-length2) where
   sent = c .before .before .unsigned-of .ensures ∙ ap zigzag (cast {w′ = w64} (height (c .before .before .before .before)) tt .is)
 
   height-few : c .before .number-length .result ≤ 5
-  height-few = height-short (c .before .before .before .before .args .h) (c .before .before .before .before .fits .h .sfits) sent (c .before .number-length .ensures)
+  height-few =
+      height-short (c .before .before .before .before .args .h) (c .before .before .before .before .fits .h .sfits) sent (c .before .number-length .ensures)
 
   count-few : c .number-length2 .result ≤ 10
-  count-few = omega (arith, c .number-length2 .ensures, number-bytes (c .before .before .before .before .args .j) (c .before .before .before .before .fits .j .fits))
+  count-few =
+      omega (arith, c .number-length2 .ensures, number-bytes (c .before .before .before .before .args .j) (c .before .before .before .before .fits .j .fits))
 
 add-result : tie.Need-add-result
 add-result c = omega (arith, height-few c, count-few c)
@@ -46,10 +48,16 @@ contours-length-requires : tie.Need-contours-length-requires
 contours-length-requires c κs = search needs
 
 add-result-2 : tie.Need-add-result-2
-add-result-2 c = omega (arith, height-few (c .before), count-few (c .before), c .contours-length .ensures .1, c .before .before .before .before .before .pre .there)
+add-result-2 c =
+    let start = c .before .before .before .before .before in
+    omega (arith, height-few (c .before), count-few (c .before), c .contours-length .ensures .1, start .pre .there)
 
 returns : tie.Need-returns
-returns c = layer-measured (c .before .before .before .before .before .pre) _ (sent (c .before)) (c .before .before .number-length .ensures) (c .before .number-length2 .ensures) (c .contours-length .ensures .0)
+returns c =
+    let at-number-length = c .before .before in
+    let start = at-number-length .before .before .before in
+    layer-measured (start .pre) _ (sent (c .before)) (at-number-length .number-length .ensures) (c .before .number-length2 .ensures)
+    (c .contours-length .ensures .0)
 
 pub layer-length-spec : {M : Type 1} → statement M
 layer-length-spec =

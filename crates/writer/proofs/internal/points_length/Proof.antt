@@ -49,7 +49,18 @@ number-length-requires-2 c κs = tt
 
 -- the two numbers of a point take at most ten bytes
 short : (c : tie.After-number-length2 Inv-loop μ-loop) → c .before .before .number-length .result + c .number-length2 .result ≤ 10
-short c = point-short (c .before .before .before .before .before .before .before .loop .inv) (c .before .before .before .before .before .before .loop-test .taken) (same w32 _ (c .before .before .before .before .before .nx .given)) (same w32 _ (c .before .before .before .before .ny .given)) (c .before .before .before .before .before .nx .given) (c .before .before .before .before .ny .given) (c .before .before .before .difference .ensures) (c .before .difference2 .ensures) (c .before .before .number-length .ensures) (c .number-length2 .ensures)
+short c =
+    let at-number-length = c .before .before in
+    let at-difference = at-number-length .before in
+    let at-ny = at-difference .before in
+    let at-nx = at-ny .before in
+    let at-test = at-nx .before in
+    let at-loop = at-test .before in
+    point-short (at-loop .loop .inv) (at-test .loop-test .taken)
+    (same w32 _ (at-nx .nx .given)) (same w32 _ (at-ny .ny .given))
+    (at-nx .nx .given) (at-ny .ny .given)
+    (at-difference .difference .ensures) (c .before .difference2 .ensures) (at-number-length .number-length .ensures)
+    (c .number-length2 .ensures)
 
 add-total : tie.Need-add-total Inv-loop μ-loop
 add-total c = omega (arith, short c)
@@ -64,7 +75,16 @@ loop-less : tie.Need-loop-less Inv-loop μ-loop
 loop-less c = omega arith
 
 loop-again : tie.Need-loop-again Inv-loop μ-loop
-loop-again c = points-next (c .before .before .before .before .before .before .before .loop .inv) (c .before .before .before .before .before .before .loop-test .taken) (same w32 _ (c .before .before .before .before .before .nx .given)) (same w32 _ (c .before .before .before .before .ny .given)) (c .before .before .before .before .before .nx .given) (c .before .before .before .before .ny .given) (c .before .before .before .difference .ensures) (c .before .difference2 .ensures) (c .before .before .number-length .ensures) (c .number-length2 .ensures)
+loop-again c =
+    let at-number-length = c .before .before in
+    let at-difference = at-number-length .before in
+    let at-ny = at-difference .before in
+    let at-nx = at-ny .before in
+    let at-test = at-nx .before in
+    let at-loop = at-test .before in
+    points-next (at-loop .loop .inv) (at-test .loop-test .taken) (same w32 _ (at-nx .nx .given)) (same w32 _ (at-ny .ny .given)) (at-nx .nx .given)
+    (at-ny .ny .given) (at-difference .difference .ensures) (c .before .difference2 .ensures) (at-number-length .number-length .ensures)
+    (c .number-length2 .ensures)
 
 returns : tie.Need-returns Inv-loop μ-loop
 returns c = points-end (c .before .loop .inv) (c .loop-test .left)

@@ -30,7 +30,10 @@ mul-a c = omega (arith, c .before .before .before .loop .inv .place .within)
 
 -- the end lies within the points, and not below the end before
 module _ (c : tie.After-wide Inv-loop μ-loop) where
-  within : 2 * c .wide .result ≤ length (c .before .before .before .before .before .before .args .points .now)
+  abbrev start : tie.Start Inv-loop μ-loop
+  start = c .before .before .before .before .before .before
+
+  within : 2 * c .wide .result ≤ length (start .args .points .now)
   within = end-within (c .before .before .before .loop .inv .place) (c .before .before .loop-test .taken) (c .wide .ensures)
 
   rises : c .before .before .before .loop .from ≤ c .wide .result
@@ -52,7 +55,11 @@ part-write-contour-end : tie.Need-part-write-contour-end Inv-loop μ-loop
 part-write-contour-end c = omega (arith, within c)
 
 write-contour-requires : tie.Need-write-contour-requires Inv-loop μ-loop
-write-contour-requires c κs = contour-room (c .before .before .before .before .before .loop .inv) (c .before .before .before .before .loop-test .taken) (c .before .before .wide .ensures)
+write-contour-requires c κs =
+    let at-wide = c .before .before in
+    let at-test = at-wide .before .before in
+    let at-loop = at-test .before in
+    contour-room (at-loop .loop .inv) (at-test .loop-test .taken) (at-wide .wide .ensures)
 
 add-i : tie.Need-add-i Inv-loop μ-loop
 add-i c = omega arith
@@ -61,7 +68,12 @@ loop-less : tie.Need-loop-less Inv-loop μ-loop
 loop-less c = omega arith
 
 loop-again : tie.Need-loop-again Inv-loop μ-loop
-loop-again c = contours-next (c .before .before .before .before .before .before .before .before .loop .inv) (c .before .before .before .before .before .before .before .loop-test .taken) (c .before .before .before .before .before .wide .ensures) (c .before .before .write-contour .ensures)
+loop-again c =
+    let at-write-contour = c .before .before in
+    let at-wide = at-write-contour .before .before .before in
+    let at-test = at-wide .before .before in
+    let at-loop = at-test .before in
+    contours-next (at-loop .loop .inv) (at-test .loop-test .taken) (at-wide .wide .ensures) (at-write-contour .write-contour .ensures)
 
 same-length : tie.Need-same-length Inv-loop μ-loop
 same-length c = c .before .loop .inv .bytes .size

@@ -24,19 +24,40 @@ sent : (c : tie.After-unsigned-of) → c .unsigned-of .result ≡ zigzag (c .bef
 sent c = c .unsigned-of .ensures ∙ ap zigzag (cast {w′ = w64} (height (c .before .before .before .before)) tt .is)
 
 write-number-requires : tie.Need-write-number-requires
-write-number-requires c κs = height-room (c .before .before .before .before .args .output .now) _ (c .before .before .before .before .pre .0) (c .before .before .before .before .args .h) (sent c) (c .before .before .before .before .pre .1)
+write-number-requires c κs =
+    let start = c .before .before .before .before in
+    height-room (start .args .output .now) _ (start .pre .0) (start .args .h) (sent c) (start .pre .1)
 
 write-number-requires-2 : tie.Need-write-number-requires-2
-write-number-requires-2 c κs = count-room (c .before .before .before .before .before .before .before .before .args .output .now) _ (c .before .before .before .before .before .before .before .before .pre .0) (c .before .before .before .before .before .before .before .before .args .h) (sent (c .before .before .before .before)) (c .before .before .before .before .before .before .before .before .pre .1) (c .before .before .before .write-number .ensures)
+write-number-requires-2 c κs =
+    let at-write-number = c .before .before .before in
+    let at-unsigned-of = at-write-number .before in
+    let start = at-unsigned-of .before .before .before .before in
+    count-room (start .args .output .now) _ (start .pre .0) (start .args .h) (sent at-unsigned-of) (start .pre .1) (at-write-number .write-number .ensures)
 
 write-contours-requires : tie.Need-write-contours-requires
-write-contours-requires c κs = (c .before .before .before .before .before .before .before .before .before .before .before .before .pre .0, contours-room (c .before .before .before .before .before .before .before .before .before .before .before .before .args .output .now) _ (c .before .before .before .before .before .before .before .before .before .before .before .before .pre .0) (c .before .before .before .before .before .before .before .before .before .before .before .before .args .h) (sent (c .before .before .before .before .before .before .before .before)) (c .before .before .before .before .before .before .before .before .before .before .before .before .pre .1) (c .before .before .before .before .before .before .before .write-number .ensures) (c .before .before .before .write-number2 .ensures))
+write-contours-requires c κs =
+    let at-write-number2 = c .before .before .before in
+    let at-write-number = at-write-number2 .before .before .before .before in
+    let at-unsigned-of = at-write-number .before in
+    let start = at-unsigned-of .before .before .before .before in (
+      start .pre .0,
+      contours-room (start .args .output .now) _ (start .pre .0) (start .args .h) (sent at-unsigned-of) (start .pre .1)
+          (at-write-number .write-number .ensures) (at-write-number2 .write-number2 .ensures),
+    )
 
 same-length : tie.Need-same-length
 same-length c = search needs
 
 returns : tie.Need-returns
-returns c = layer-put _ _ (c .before .before .before .before .before .before .before .before .before .before .before .before .before .before .before .pre .0) _ (sent (c .before .before .before .before .before .before .before .before .before .before .before)) (c .before .before .before .before .before .before .before .before .before .before .before .before .before .before .before .pre .1) (c .before .before .before .before .before .before .before .before .before .before .write-number .ensures) (c .before .before .before .before .before .before .write-number2 .ensures) (c .before .before .write-contours .ensures)
+returns c =
+    let at-write-contours = c .before .before in
+    let at-write-number2 = at-write-contours .before .before .before .before in
+    let at-write-number = at-write-number2 .before .before .before .before in
+    let at-unsigned-of = at-write-number .before in
+    let start = at-unsigned-of .before .before .before .before in
+    layer-put _ _ (start .pre .0) _ (sent at-unsigned-of) (start .pre .1) (at-write-number .write-number .ensures) (at-write-number2 .write-number2 .ensures)
+    (at-write-contours .write-contours .ensures)
 
 pub write-layer-spec : {M : Type 1} → statement M
 write-layer-spec =

@@ -42,10 +42,26 @@ difference-requires-2 : tie.Need-difference-requires-2 Inv-loop μ-loop
 difference-requires-2 c κs = tt
 
 write-number-requires : tie.Need-write-number-requires Inv-loop μ-loop
-write-number-requires c κs = x-room (c .before .before .before .before .before .before .loop .inv) (c .before .before .before .before .before .loop-test .taken) (same w32 _ (c .before .before .before .before .nx .given)) (same w32 _ (c .before .before .before .ny .given)) (c .before .before .difference .ensures) (c .before .difference2 .ensures)
+write-number-requires c κs =
+    let at-difference = c .before .before in
+    let at-ny = at-difference .before in
+    let at-nx = at-ny .before in
+    let at-test = at-nx .before in
+    let at-loop = at-test .before in
+    x-room (at-loop .loop .inv) (at-test .loop-test .taken) (same w32 _ (at-nx .nx .given)) (same w32 _ (at-ny .ny .given))
+    (at-difference .difference .ensures) (c .before .difference2 .ensures)
 
 write-number-requires-2 : tie.Need-write-number-requires-2 Inv-loop μ-loop
-write-number-requires-2 c κs = y-room (c .before .before .before .before .before .before .before .before .before .before .loop .inv) (c .before .before .before .before .before .before .before .before .before .loop-test .taken) (same w32 _ (c .before .before .before .before .before .before .before .before .nx .given)) (same w32 _ (c .before .before .before .before .before .before .before .ny .given)) (c .before .before .before .before .before .before .difference .ensures) (c .before .before .before .before .before .difference2 .ensures) (c .before .before .before .write-number .ensures)
+write-number-requires-2 c κs =
+    let at-write-number = c .before .before .before in
+    let at-difference2 = at-write-number .before .before in
+    let at-difference = at-difference2 .before in
+    let at-ny = at-difference .before in
+    let at-nx = at-ny .before in
+    let at-test = at-nx .before in
+    let at-loop = at-test .before in
+    y-room (at-loop .loop .inv) (at-test .loop-test .taken) (same w32 _ (at-nx .nx .given)) (same w32 _ (at-ny .ny .given))
+    (at-difference .difference .ensures) (at-difference2 .difference2 .ensures) (at-write-number .write-number .ensures)
 
 add-k : tie.Need-add-k Inv-loop μ-loop
 add-k c = omega arith
@@ -54,7 +70,18 @@ loop-less : tie.Need-loop-less Inv-loop μ-loop
 loop-less c = omega arith
 
 loop-again : tie.Need-loop-again Inv-loop μ-loop
-loop-again c = points-next (c .before .before .before .before .before .before .before .before .before .before .before .before .before .loop .inv) (c .before .before .before .before .before .before .before .before .before .before .before .before .loop-test .taken) (same w32 _ (c .before .before .before .before .before .before .before .before .before .before .before .nx .given)) (same w32 _ (c .before .before .before .before .before .before .before .before .before .before .ny .given)) (c .before .before .before .before .before .before .before .before .before .difference .ensures) (c .before .before .before .before .before .before .before .before .difference2 .ensures) (c .before .before .before .before .before .before .write-number .ensures) (c .before .before .write-number2 .ensures)
+loop-again c =
+    let at-write-number2 = c .before .before in
+    let at-write-number = at-write-number2 .before .before .before .before in
+    let at-difference2 = at-write-number .before .before in
+    let at-difference = at-difference2 .before in
+    let at-ny = at-difference .before in
+    let at-nx = at-ny .before in
+    let at-test = at-nx .before in
+    let at-loop = at-test .before in
+    points-next (at-loop .loop .inv) (at-test .loop-test .taken) (same w32 _ (at-nx .nx .given)) (same w32 _ (at-ny .ny .given))
+    (at-difference .difference .ensures) (at-difference2 .difference2 .ensures) (at-write-number .write-number .ensures)
+    (at-write-number2 .write-number2 .ensures)
 
 same-length : tie.Need-same-length Inv-loop μ-loop
 same-length c = c .before .loop .inv .bytes .size

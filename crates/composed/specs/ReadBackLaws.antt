@@ -1,0 +1,130 @@
+-- Read back, proved: the file is that of Cut's layers, which keep the rules, so Read layer reads them; a layer's points and ends are those in Cut's tables.
+use Prim.Native.Nat.{ℕ, zero, suc, _*_, _<_}
+use mathlib.Core.Path.{_≡_, refl, sym, ap, _∙_}
+use mathlib.Core.List.{List, [], _∷_, map, flatten}
+use native.Mathlib.Omega.{arith}
+use lib.ListN.{length, getD, take, drop, length-map}
+use lib.Seq.{take-at, drop-at}
+use lib.IntN.{ℤ, pos}
+use Rattle.laws.specs.Tables.{overwrite}
+use Rattle.mesh.specs.Meshes.{PairedMesh}
+use Rattle.mesh.specs.Operation.{gives, fine, verdict, after}
+use Rattle.mesh.specs.OperationLaws.{then-fine, given-verdict, left-given}
+use Rattle.polygons.specs.Flat.{FlatLayer, numbersOf, endsOf, pointTotal}
+use Rattle.polygons.specs.FlatLaws.{length-points, length-ends}
+use Rattle.cutter.specs.declared.Sliced.the-variants.{Layer as Cut}
+use Rattle.cutter.specs.Cut.{CutTables, section, contoursOf, Cuts}
+use Rattle.reader.specs.declared.Reading.{Reading}
+use Rattle.reader.specs.Reading.{layerAt, entriesOf, readingTests, layerCounts, fillsLayer, tellReading, ReadsLayer}
+use Rattle.reader.specs.ReadingLaws.{verdict-fine, room-of, Gives}
+use Rattle.formats.specs.Formats.{holds}
+use Rattle.formats.specs.LayerFile as files
+use Rattle.formats.specs.LayerFile.{layersOf}
+use Rattle.formats.specs.WholeFileLaws.{held-is}
+use Rattle.heights.specs.Heights.{heightsTaken}
+use Rattle.heights.specs.HeightLaws.{ranged-words}
+use Rattle.layers.specs.AllLayers.{crossingAt, drawn, cutLayer}
+use Rattle.layers.specs.CutLayerLaws.{drawn-points, drawn-ends, drawn-total}
+use Rattle.layers.specs.LayersLaws.{filed-tested, filed-cut, filed-reads-back}
+use Rattle.claim.specs.FileLaws.{file-claim}
+use Rattle.composed.specs.ReadBack.{ReadsCut, ReadBack}
+
+-- ---- tables with the same front
+
+module _ {A : Type 0} (vs table : List A) {n : ℕ} (e : length vs ≡ n) where
+  front-is : take n (overwrite vs table) ≡ vs
+  unfolding overwrite
+  front-is = take-at vs (drop (length vs) table) n e
+
+  rest-is : drop n (overwrite vs table) ≡ drop n table
+  unfolding overwrite
+  rest-is = drop-at vs (drop (length vs) table) n e ∙ ap (λ (k : ℕ). drop k table) e
+
+-- ---- one layer
+
+-- the layer of Cut at h as Cut's tables hold it: its counts, and what is in front
+pub record LayerLeft (m : PairedMesh) (h : ℤ) (t′ : CutTables) (j k : ℕ) : Type 0 where
+  pub count : length (cutLayer m h .contours) ≡ j
+  pub total : pointTotal (cutLayer m h .contours) ≡ k
+  pub points : take (2 * k) (t′ .points) ≡ numbersOf (flatten (cutLayer m h .contours))
+  pub ends : take j (t′ .ends) ≡ endsOf (cutLayer m h .contours)
+
+pub layer-left : {m : PairedMesh} {h : ℤ} {t t′ : CutTables} {j k : ℕ} → Cuts m h t (Cut j k) t′ → LayerLeft m h t′ j k
+unfolding cutLayer after
+layer-left {m} {h} {t} {t′} {j} {k} c =
+    let rs = contoursOf (section m h) in
+    let cs = drawn (m .mesh) h rs .contours in
+    let counts = given-verdict c {g = (j, k)} refl .1 in
+    let left = left-given c {g = (j, k)} refl in
+    let count : length cs ≡ j = length-map rs (map (crossingAt (m .mesh) h)) ∙ sym (λ i. counts i .0) in
+    let total : pointTotal cs ≡ k = drawn-total (m .mesh) h rs ∙ sym (λ i. counts i .1) in
+    let points : t′ .points ≡ overwrite (numbersOf (flatten cs)) (t .points) =
+    ap (λ (u : CutTables). u .points) left ∙ ap (λ (l : List ℤ). overwrite l (t .points)) (drawn-points (m .mesh) h rs) in
+    let ends : t′ .ends ≡ overwrite (endsOf cs) (t .ends) =
+    ap (λ (u : CutTables). u .ends) left ∙ ap (λ (l : List ℕ). overwrite l (t .ends)) (drawn-ends (m .mesh) h rs) in
+    record {
+      count = count;
+      total = total;
+      points = ap (take (2 * k)) points ∙ front-is _ (t .points) (length-points cs ∙ ap (λ (n : ℕ). 2 * n) total);
+      ends = ap (take j) ends ∙ front-is _ (t .ends) (length-ends 0 cs ∙ count);
+    }
+
+-- ---- Read layer
+
+-- what Read layer left where it gave this layer
+module _ {m : PairedMesh} {h : ℤ} {cut : CutTables} {j k : ℕ} (left : LayerLeft m h cut j k) where
+  pub reads-cut : {n : ℕ} {u u′ : FlatLayer} {result : Reading} → tellReading result ≡ gives (n, h, j, k) → u′ ≡ fillsLayer (cutLayer m h) u fine
+      → ReadsCut n h j k cut u result u′
+  unfolding after
+  reads-cut {n} {u} {u′} says filled =
+      let cs = cutLayer m h .contours in
+      let many : length (numbersOf (flatten cs)) ≡ 2 * k = length-points cs ∙ ap (λ (n : ℕ). 2 * n) (left .total) in
+      let some : length (endsOf cs) ≡ j = length-ends 0 cs ∙ left .count in
+      let points = ap (λ (t : FlatLayer). t .points) filled in
+      let ends = ap (λ (t : FlatLayer). t .ends) filled in
+      record {
+        says = says;
+        points = ap (take (2 * k)) points ∙ front-is _ (u .points) many ∙ sym (left .points);
+        ends = ap (take j) ends ∙ front-is _ (u .ends) some ∙ sym (left .ends);
+        points-stay = ap (drop (2 * k)) points ∙ rest-is _ (u .points) many;
+        ends-stay = ap (drop j) ends ∙ rest-is _ (u .ends) some;
+      }
+
+-- from a file that holds these layers, with room for layer i, it is read
+held-read : {file : List ℕ} {ls : List files.Layer} {i : ℕ} {u u′ : FlatLayer} {result : Reading} (d : ReadsLayer file i u result u′)
+    → layersOf file ≡ holds ls → verdict (readingTests file i (entriesOf u)) ≡ fine → Gives d ls
+held-read {i = i} {u = u} d e v =
+    let same = held-is [] e in
+    record {
+      answered = d .answers ∙ sym (then-fine v) ∙ (λ s. gives (layerCounts (same s) i));
+      filled = d .leaves ∙ (λ s. fillsLayer (layerAt (same s) i) u (v s));
+    }
+
+-- layer i of the layers of Cut is that at height i
+layer-of-height : (m : PairedMesh) (hs : List ℤ) (i : ℕ) → i < length hs → layerAt (map (cutLayer m) hs) i ≡ cutLayer m (getD hs i (pos 0))
+layer-of-height m [] i l = absurd (omega arith)
+layer-of-height m (h ∷ hs) zero l = refl
+layer-of-height m (h ∷ hs) (suc i) l = layer-of-height m hs i (omega arith)
+
+height-is : (m : PairedMesh) (h : ℤ) → cutLayer m h .height ≡ h
+unfolding cutLayer
+height-is m h = refl
+
+-- ---- the theorem
+
+pub reads-back : ReadBack
+reads-back m heights w w′ output output′ n words f i l t t′ j k c u u′ result points ends d =
+    let hs = heightsTaken (m .paired .mesh .coords) heights in
+    let ls = map (cutLayer (m .paired)) hs in
+    let coords = ranged-words (m .paired .mesh .coords) (filed-tested f {n = n} refl .right .inside) in
+    let file = file-claim m heights w w′ output output′ n f .bytes ∙ sym (filed-cut f {n = n} refl) in
+    let holds-them = ap layersOf file ∙ filed-reads-back f {n = n} refl coords words in
+    let at = layer-of-height (m .paired) hs i l in
+    let left = layer-left c in
+    let total = ap (λ (x : files.Layer). pointTotal (x .contours)) at ∙ left .total in
+    let count = ap (λ (x : files.Layer). length (x .contours)) at ∙ left .count in
+    let size = length-map hs (cutLayer (m .paired)) in
+    let height = ap (λ (x : files.Layer). x .height) at ∙ height-is (m .paired) (getD hs i (pos 0)) in
+    let room = room-of (layerAt ls i) (entriesOf u) (omega (arith, total)) (omega (arith, count)) in
+    let g = held-read d holds-them (verdict-fine (take n output′) i (entriesOf u) holds-them (omega (arith, size)) room) in
+    reads-cut left (g .answered ∙ (λ s. gives (size s, height s, count s, total s))) (g .filled ∙ (λ s. fillsLayer (at s) u fine))

@@ -1,0 +1,18 @@
+-- The doubled signed area of a contour as a list of points ("Area" of document 01), by recursion along its points.
+use mathlib.Core.List.{List, [], _∷_}
+use lib.IntN.{ℤ, pos, _+ℤ_, _-ℤ_, _*ℤ_}
+use Rattle.polygons.specs.Flat.{Point}
+
+-- x × y′ − x′ × y of two points
+unfoldable pub crossPoints : Point → Point → ℤ
+crossPoints p q = p .x *ℤ q .y -ℤ q .x *ℤ p .y
+
+-- the sum from point p on, over each point and the next, the last leading back to the first
+unfoldable pub areaFrom : Point → Point → List Point → ℤ
+areaFrom first p [] = crossPoints p first
+areaFrom first p (q ∷ c) = crossPoints p q +ℤ areaFrom first q c
+
+-- the doubled area of a contour, closed round
+unfoldable pub contourArea : List Point → ℤ
+contourArea [] = pos 0
+contourArea (p ∷ c) = areaFrom p p c

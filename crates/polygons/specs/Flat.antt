@@ -1,0 +1,109 @@
+-- A layer as data ("Section and points" of document 01): its contours as lists of points, the two tables that hold them (points, x and y in turn, and ends, for
+-- each contour the number of points up to its end), the way back, and the test that two tables are those of a layer.
+use Prim.Native.Nat.{ℕ, zero, suc, _+_, _-_, _*_, _/_, _%_, _≤_}
+use mathlib.Core.Bool.{Bool, true, not, _&&_}
+use mathlib.Core.List.{List, [], _∷_, flatten}
+use lib.Dec.{leb, eqb}
+use lib.ListN.{length, getD, take, drop}
+use lib.IntN.{ℤ}
+pub use Rattle.mesh.specs.Corners.{mostPoints}
+use Rattle.mesh.specs.Operation.{Condition, whole}
+use Rattle.mesh.specs.Refusals.{Told, refusal}
+
+-- ---- contours
+
+-- a point of a contour
+pub record Point : Type 0 where
+  pub x : ℤ
+  pub y : ℤ
+
+-- fewest points of a contour
+abbrev pub fewestPoints : ℕ
+fewestPoints = 2
+
+-- the points of a layer in all
+abbrev pub pointTotal : List (List Point) → ℕ
+pointTotal [] = 0
+pointTotal (c ∷ cs) = length c + pointTotal cs
+
+-- of each value of a list
+abbrev pub Each : {A : Type 0} → (A → Type 0) → List A → Type 0
+Each P [] = Unit {0}
+Each P (a ∷ l) = P a × Each P l
+
+-- contours of two points or more, and of no more points than a layer has
+pub record Polygons (cs : List (List Point)) : Type 0 where
+  pub few : pointTotal cs ≤ mostPoints
+  pub each : Each (λ (c : List Point). fewestPoints ≤ length c) cs
+
+-- ---- their tables
+
+-- points and ends
+pub record FlatLayer : Type 0 where
+  pub points : List ℤ
+  pub ends : List ℕ
+
+abbrev pub flat : List ℤ → List ℕ → FlatLayer
+flat points ends = record { points = points; ends = ends }
+
+-- x and y of each point, in turn
+unfoldable pub numbersOf : List Point → List ℤ
+numbersOf [] = []
+numbersOf (p ∷ c) = p .x ∷ p .y ∷ numbersOf c
+
+-- for each contour the number of points up to its end, where k came before
+unfoldable pub endsFrom : {A : Type 0} → ℕ → List (List A) → List ℕ
+endsFrom k [] = []
+endsFrom k (c ∷ cs) = (k + length c) ∷ endsFrom (k + length c) cs
+
+abbrev pub endsOf : {A : Type 0} → List (List A) → List ℕ
+endsOf cs = endsFrom 0 cs
+
+abbrev pub flatOf : List (List Point) → FlatLayer
+flatOf cs = flat (numbersOf (flatten cs)) (endsOf cs)
+
+-- ---- and back
+
+-- the points of a row of numbers, x and y in turn; one number more tells none
+unfoldable pub pointsIn : List ℤ → List Point
+pointsIn [] = []
+pointsIn (x ∷ []) = []
+pointsIn (x ∷ y ∷ row) = record { x = x; y = y } ∷ pointsIn row
+
+-- the contours with these ends, after one that ended at `from`: each is a part of the points, from the previous end to its own
+unfoldable pub contoursIn : List ℤ → ℕ → List ℕ → List (List Point)
+contoursIn points from [] = []
+contoursIn points from (end ∷ ends) = pointsIn (take (2 * (end - from)) (drop (2 * from) points)) ∷ contoursIn points end ends
+
+-- the end before number j of these ends, `from` for the first
+unfoldable pub endBefore : ℕ → List ℕ → ℕ → ℕ
+endBefore from ends zero = from
+endBefore from ends (suc j) = getD ends j 0
+
+abbrev pub polygonsOf : FlatLayer → List (List Point)
+polygonsOf t = contoursIn (t .points) 0 (t .ends)
+
+-- ---- 1: two tables are not those of a layer, place 0
+
+-- n numbers are points, and not more than a layer has
+unfoldable pub runFits : ℕ → Bool
+runFits n = eqb (n % 2) 0 && leb (n / 2) mostPoints
+
+-- ends rise by two or more, from `from` on
+unfoldable pub rises : ℕ → List ℕ → Bool
+rises from [] = true
+rises from (end ∷ ends) = leb (from + fewestPoints) end && rises end ends
+
+-- the last end, `from` if there is none
+unfoldable pub lastEnd : ℕ → List ℕ → ℕ
+lastEnd from [] = from
+lastEnd from (end ∷ ends) = lastEnd end ends
+
+-- an even number of numbers, of no more points than a layer has; ends that rise from 0 by two or more; the last, 0 if there is none, is the number of points
+unfoldable pub isLayer : FlatLayer → Bool
+isLayer t =
+    let n = length (t .points) in
+    runFits n && rises 0 (t .ends) && eqb (lastEnd 0 (t .ends)) (n / 2)
+
+abbrev pub notLayer : FlatLayer → Condition Told
+notLayer t = whole (refusal 1) (not (isLayer t))

@@ -1,0 +1,27 @@
+-- The tests of a sweep by name: those of its mesh, and 10, 11 and 12 of Layer.
+use Prim.Native.Nat.{_≤_}
+use lib.ListN.{length}
+use lib.IntN.{ℤ}
+use Rattle.mesh.specs.Corners.{vertexCount}
+use Rattle.mesh.specs.Operation.{Condition}
+use Rattle.mesh.specs.Refusals.{Told}
+use Rattle.tables.specs.MeshTests as meshTests
+use Rattle.sweep.specs.declared.SweepTest.{SweepTest}
+use Rattle.sweep.specs.declared.SweepTest.the-variants.{Mesh, Passed, Ring, Height}
+use Rattle.sweep.specs.Sweep.{Sweep, meshOf}
+use Rattle.sweep.specs.Operations.{tooMany, wrongRing, notAbove}
+use Rattle.sweep.specs.Places.{InOrder, Placed}
+
+-- the condition that each one tests, of a rise to h
+abbrev pub conditionOf : SweepTest → Sweep → ℤ → Condition Told
+conditionOf (Mesh which) s h = meshTests.conditionOf which (s .ordered)
+conditionOf Passed s h = tooMany (meshOf s .coords) (s .passed)
+conditionOf Ring s h = wrongRing s
+conditionOf Height s h = notAbove (meshOf s .coords) (s .ordered .order) (s .passed) h
+
+-- what it asks: 7 is tested after 1, 11 after all of the mesh and 10, 12 after 8 and 10
+abbrev pub Askable : SweepTest → Sweep → Type 0
+Askable (Mesh which) s = meshTests.Askable which (length (meshOf s .corners))
+Askable Passed s = Unit {0}
+Askable Ring s = Placed (s .ordered) (s .passed)
+Askable Height s = (s .passed ≤ vertexCount (meshOf s .coords)) × InOrder (meshOf s .coords) (s .ordered .order)

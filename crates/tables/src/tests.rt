@@ -1,0 +1,83 @@
+// The tests of a mesh one by one, and those that every operation on a mesh with a pairing begins with. A table may be a part of a longer one.
+ghost use mathlib.Core.Path.{_≡_};
+ghost use lib.ListN.{length};
+ghost use Rattle.mesh.specs.Meshes.{paired, ordered};
+ghost use Rattle.mesh.specs.Operation.{test, verdict};
+ghost use Rattle.mesh.specs.Refusals.{tellVerdict};
+ghost use Rattle.mesh.specs.Tests.{Whole};
+ghost use Rattle.tables.specs.MeshTests.{conditionOf, Askable, contentTests, openingTests};
+use crate::MeshTest;
+use crate::internal::pairing_test;
+use crate::ordering::order_test;
+use mesh::Refusal;
+use mesh::Verdict;
+use mesh::tests::range_test;
+use mesh::tests::size_test;
+use mesh::tests::triangle_test;
+use mesh::tests::vertex_test;
+
+// One test, by name.
+pub fn one_test(
+    which: MeshTest,
+    coords: &[i32],
+    corners: &[u32],
+    pairing: &[u32],
+    order: &[u32],
+) -> Verdict
+    requires { ⌜ Askable which (length (now corners)) ⌝ }
+    ensures { λ r. ⌜ tellVerdict r
+        ≡ test (conditionOf which (ordered (coords .entry .now) (corners .entry .now) (pairing .entry .now) (order .entry .now))) ⌝ }
+{
+    match which {
+        MeshTest::Size => size_test(coords, corners),
+        MeshTest::Range => range_test(coords),
+        MeshTest::Vertex => vertex_test(coords.len() / 3, corners),
+        MeshTest::Triangle => triangle_test(corners),
+        MeshTest::Pairing => pairing_test(corners, pairing),
+        MeshTest::Order => order_test(coords, order),
+    }
+}
+
+// Refusals 2, 3, 4 and 7.
+fn content_test(coords: &[i32], corners: &[u32], pairing: &[u32]) -> Verdict
+    requires { ⌜ Whole (length (now corners)) ⌝ }
+    ensures { λ r. ⌜ tellVerdict r ≡ verdict (contentTests (paired (coords .entry .now) (corners .entry .now) (pairing .entry .now))) ⌝ }
+{
+    let a = one_test(MeshTest::Range, coords, corners, pairing, pairing);
+    if let Verdict::Refused(_) = a {
+        return a;
+    }
+    let b = one_test(MeshTest::Vertex, coords, corners, pairing, pairing);
+    if let Verdict::Refused(_) = b {
+        return b;
+    }
+    let d = one_test(MeshTest::Triangle, coords, corners, pairing, pairing);
+    if let Verdict::Refused(_) = d {
+        return d;
+    }
+    one_test(MeshTest::Pairing, coords, corners, pairing, pairing)
+}
+
+// Refusals 1, 9, 2, 3, 4 and 7: 1 also unless `few`, 9 unless `room`.
+pub fn opening_test(
+    coords: &[i32],
+    corners: &[u32],
+    pairing: &[u32],
+    few: bool,
+    room: bool,
+) -> Verdict
+    ensures { λ r. ⌜ tellVerdict r
+        ≡ verdict (openingTests (paired (coords .entry .now) (corners .entry .now) (pairing .entry .now)) few room) ⌝ }
+{
+    let a = one_test(MeshTest::Size, coords, corners, pairing, pairing);
+    if let Verdict::Refused(_) = a {
+        return a;
+    }
+    if !few {
+        return Verdict::Refused(Refusal::Size(0));
+    }
+    if !room {
+        return Verdict::Refused(Refusal::Room(0));
+    }
+    content_test(coords, corners, pairing)
+}
