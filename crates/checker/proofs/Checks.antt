@@ -23,23 +23,23 @@ use Rattle.mesh.specs.TestLaws.{sizes-parts, sizes-whole, in-range, names-verte
 use Rattle.mesh.specs.declared.Refusal.{Refusal}
 use Rattle.mesh.specs.declared.Verdict.{Verdict}
 use Rattle.checker.specs.declared.Checked.the-variants.{Accepted, Refused as Turned}
-use Rattle.checker.specs.Check.{CheckTables, checkTables, roomFor, tests, edgeTests, Checks}
+use Rattle.checker.specs.Check.{CheckTables, checkTables, checkRoomFor, checkTests, edgeTests, Checks}
 use Rattle.pairing.specs.Partners.{partnerOf, pairingOf}
-use Rattle.pairing.specs.Joining.{Named, Frame, Long, Paired}
+use Rattle.pairing.specs.Joining.{NamesVertices, Frame, PairingRoom, PairsFound}
 
 -- ---- 9
 
 module _ (n v a b : ℕ) where
-  pub room-1 : a < n → false ≡ roomFor n v a b
-  unfolding roomFor
+  pub room-1 : a < n → false ≡ checkRoomFor n v a b
+  unfolding checkRoomFor
   room-1 h = simp (lt-leb n a h)
 
-  pub room-2 : n ≤ a → leb v b ≡ roomFor n v a b
-  unfolding roomFor
+  pub room-2 : n ≤ a → leb v b ≡ checkRoomFor n v a b
+  unfolding checkRoomFor
   room-2 h = simp (le-leb n a h)
 
-  room-parts : roomFor n v a b ≡ true → (n ≤ a) × (v ≤ b)
-  unfolding roomFor
+  room-parts : checkRoomFor n v a b ≡ true → (n ≤ a) × (v ≤ b)
+  unfolding checkRoomFor
   room-parts e = let p = and-parts _ _ e in (leb-true n a (p .0), leb-true v b (p .1))
 
 -- only later entries of a table count where its first ones are overwritten
@@ -51,8 +51,8 @@ overwrite-frame n vs t t′ e h f =
 -- ---- what the first tests establish
 
 pub record Passed (m : Mesh) (t : CheckTables) : Type 0 where
-  pub named : Named (m .corners) (vertexCount (m .coords))
-  pub long : Long (m .corners) (vertexCount (m .coords)) (t .pairing) (t .order)
+  pub named : NamesVertices (m .corners) (vertexCount (m .coords))
+  pub long : PairingRoom (m .corners) (vertexCount (m .coords)) (t .pairing) (t .order)
   pub range-of : (i : ℕ) → i < length (m .coords) → natAbs (getD (m .coords) i (pos 0)) ≤ largest
 
 module _ (m : Mesh) (t : CheckTables) where
@@ -63,10 +63,10 @@ module _ (m : Mesh) (t : CheckTables) where
   k = vertexCount (m .coords)
 
   abbrev first : List (Condition Told)
-  first = tests m (length (t .pairing)) (length (t .order))
+  first = checkTests m (length (t .pairing)) (length (t .order))
 
   -- they found f
-  module _ {f : Finding Told} (e : f ≡ verdict (tests m (length (t .pairing)) (length (t .order)))) where
+  module _ {f : Finding Told} (e : f ≡ verdict (checkTests m (length (t .pairing)) (length (t .order)))) where
     pub passed : f ≡ fine → Passed m t
     passed h = go (fine-none first (sym e ∙ h))
       where
@@ -101,11 +101,11 @@ module _ (m : Mesh) (t : CheckTables) where
 
     -- nothing, and pairs were sought
     module _ (h : f ≡ fine) {w : Verdict} {t₁ : CheckTables}
-        (p : Paired (m .corners) (vertexCount (m .coords)) (t .pairing) (t .order) (t₁ .pairing) (t₁ .order) w) where
-      long : Long (m .corners) (vertexCount (m .coords)) (t .pairing) (t .order)
+        (p : PairsFound (m .corners) (vertexCount (m .coords)) (t .pairing) (t .order) (t₁ .pairing) (t₁ .order) w) where
+      long : PairingRoom (m .corners) (vertexCount (m .coords)) (t .pairing) (t .order)
       long = passed h .long
 
-      decides : tellVerdict w ≡ verdict (tests m (length (t .pairing)) (length (t .order)) ++ edgeTests (m .corners))
+      decides : tellVerdict w ≡ verdict (checkTests m (length (t .pairing)) (length (t .order)) ++ edgeTests (m .corners))
       decides = join-next first (edgeTests (m .corners)) e h (p .is)
 
       pub checks-cleared : {r : Refusal} {t₂ : CheckTables} → tellVerdict w ≡ refuses (toldOf r)

@@ -24,17 +24,17 @@ checkTables pairing order = record { pairing = pairing; order = order }
 
 -- ---- 9: a table to be written has fewer entries than corners (pairing) or vertices (order)
 
-unfoldable pub roomFor : ℕ → ℕ → ℕ → ℕ → Bool
-roomFor corners vertices pairing order = leb corners pairing && leb vertices order
+unfoldable pub checkRoomFor : ℕ → ℕ → ℕ → ℕ → Bool
+checkRoomFor corners vertices pairing order = leb corners pairing && leb vertices order
 
-abbrev pub room : ℕ → ℕ → ℕ → ℕ → Condition Told
-room corners vertices pairing order = whole (refusal 9) (not (roomFor corners vertices pairing order))
+abbrev pub checkRoom : ℕ → ℕ → ℕ → ℕ → Condition Told
+checkRoom corners vertices pairing order = whole (refusal 9) (not (checkRoomFor corners vertices pairing order))
 
 -- ---- Check as a whole
 
 -- 1, 9, 2, 3 and 4, for lent tables of these lengths
-abbrev pub tests : Mesh → ℕ → ℕ → List (Condition Told)
-tests m pairing order = size m ∷ room (length (m .corners)) (vertexCount (m .coords)) pairing order ∷ meshTests m
+abbrev pub checkTests : Mesh → ℕ → ℕ → List (Condition Told)
+checkTests m pairing order = size m ∷ checkRoom (length (m .corners)) (vertexCount (m .coords)) pairing order ∷ meshTests m
 
 -- 5 and 6
 abbrev pub edgeTests : List ℕ → List (Condition Told)
@@ -43,7 +43,7 @@ edgeTests corners = doubledEdge corners ∷ openEdge corners ∷ []
 -- it gives no value; the tables hold pairing and order, or zeros after 5 and 6
 abbrev pub checking : Mesh × CheckTables → Operation Told Unit CheckTables
 checking = λ (m, t). record {
-  refusals = tests m (length (t .pairing)) (length (t .order)) ++ edgeTests (m .corners);
+  refusals = checkTests m (length (t .pairing)) (length (t .order)) ++ edgeTests (m .corners);
   values = tt;
   leaves = λ f. checkTables
       (after (numbered (5 ∷ 6 ∷ [])) f (pairingOf (m .corners)) (length (m .corners)) 0 (t .pairing))

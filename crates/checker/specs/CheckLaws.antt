@@ -28,7 +28,7 @@ use Rattle.mesh.specs.Tests.{reverse, pairedAt, pairs, orderedAt, orders}
 use Rattle.mesh.specs.TestLaws.{reverse-parts, reverse-of, paired-of, pairedAt-of}
 use Rattle.checker.specs.declared.Checked.{Checked}
 use Rattle.checker.specs.declared.Checked.the-variants.{Accepted, Refused as Turned}
-use Rattle.checker.specs.Check.{CheckTables, roomFor, checking, tellCheck, Checks}
+use Rattle.checker.specs.Check.{CheckTables, checkRoomFor, checking, tellCheck, Checks}
 use Rattle.pairing.specs.Partners.{twin, doubledAt, openAt, doubledEdge, openEdge, partnerOf, pairingOf}
 
 -- ---- a closed mesh: no directed edge twice, and the reverse of each
@@ -130,9 +130,9 @@ module _ {m : Mesh} {t t′ : CheckTables} {result : Checked} (c : Checks m t re
       listed : t′ .order ≡ overwrite (orderOf (m .coords)) (t .order)
       listed = ap (λ (u : CheckTables). u .order) (left-given c e)
 
-      room-parts : roomFor (length (m .corners)) (vertexCount (m .coords)) (length (t .pairing)) (length (t .order)) ≡ true
+      room-parts : checkRoomFor (length (m .corners)) (vertexCount (m .coords)) (length (t .pairing)) (length (t .order)) ≡ true
           → (length (m .corners) ≤ length (t .pairing)) × (vertexCount (m .coords) ≤ length (t .order))
-      room-parts h = unfold roomFor in (let p = and-parts _ _ h in (leb-true _ _ (p .0), leb-true _ _ (p .1)))
+      room-parts h = unfold checkRoomFor in (let p = and-parts _ _ h in (leb-true _ _ (p .0), leb-true _ _ (p .1)))
 
       go : None (checking (m, t) .refusals) → Promise
       go (more s (more r (more x (more y (more z (more d (more o done))))))) =

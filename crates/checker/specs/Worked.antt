@@ -11,7 +11,7 @@ use Rattle.mesh.specs.Meshes.{mesh}
 use Rattle.mesh.specs.Operation.{gives, refuses, test, _then_, verdict, answerOf}
 use Rattle.mesh.specs.Refusals.{refusal}
 use Rattle.mesh.specs.Tests.{sizesFit, outOfRange, namesNone, namesTwice, reverse}
-use Rattle.checker.specs.Check.{checkTables, roomFor, checking}
+use Rattle.checker.specs.Check.{checkTables, checkRoomFor, checking}
 use Rattle.pairing.specs.Partners.{twin, doubledAt, openAt, partnerOf, pairingOf}
 
 -- part P
@@ -25,7 +25,7 @@ abbrev zeros : List ℕ
 zeros = 0 ∷ 0 ∷ 0 ∷ 0 ∷ 0 ∷ 0 ∷ 0 ∷ 0 ∷ 0 ∷ 0 ∷ 0 ∷ 0 ∷ []
 
 accepted : answerOf (checking (mesh coords corners, checkTables zeros zeros)) ≡ gives tt
-unfolding verdict _then_ test some least sizesFit roomFor outOfRange namesNone namesTwice twin doubledAt openAt reverse
+unfolding verdict _then_ test some least sizesFit checkRoomFor outOfRange namesNone namesTwice twin doubledAt openAt reverse
 accepted = refl
 
 pairing : pairingOf corners ≡ 8 ∷ 9 ∷ 3 ∷ 2 ∷ 11 ∷ 6 ∷ 5 ∷ 10 ∷ 0 ∷ 1 ∷ 7 ∷ 4 ∷ []
@@ -38,5 +38,5 @@ order = refl
 
 -- P without triangle 3: refusal 6, place 1
 opened : answerOf (checking (mesh coords (0 ∷ 2 ∷ 1 ∷ 0 ∷ 1 ∷ 3 ∷ 0 ∷ 3 ∷ 2 ∷ []), checkTables zeros zeros)) ≡ refuses (refusal 6 1)
-unfolding verdict _then_ test some least sizesFit roomFor outOfRange namesNone namesTwice twin doubledAt openAt reverse
+unfolding verdict _then_ test some least sizesFit checkRoomFor outOfRange namesNone namesTwice twin doubledAt openAt reverse
 opened = refl

@@ -3,7 +3,7 @@ ghost use mathlib.Core.Path.{_≡_};
 ghost use Rattle.mesh.specs.Meshes.{mesh};
 ghost use Rattle.mesh.specs.Operation.{test, verdict};
 ghost use Rattle.mesh.specs.Refusals.{tellVerdict};
-ghost use Rattle.checker.specs.Check.{checkTables, roomFor, room, tests, Checks};
+ghost use Rattle.checker.specs.Check.{checkTables, checkRoomFor, checkRoom, checkTests, Checks};
 use mesh::Refusal;
 use mesh::Verdict;
 use mesh::internal::fill;
@@ -20,7 +20,7 @@ pub enum Checked {
 
 // Whether tables of these lengths have an entry for each corner and each vertex.
 fn room_for(corners: usize, vertices: usize, pairing: usize, order: usize) -> bool
-    ensures { λ r. ⌜ r ≡ roomFor corners vertices pairing order ⌝ }
+    ensures { λ r. ⌜ r ≡ checkRoomFor corners vertices pairing order ⌝ }
 {
     if pairing < corners {
         return false;
@@ -30,7 +30,7 @@ fn room_for(corners: usize, vertices: usize, pairing: usize, order: usize) -> bo
 
 // Refusal 9.
 fn room_test(corners: usize, vertices: usize, pairing: usize, order: usize) -> Verdict
-    ensures { λ r. ⌜ tellVerdict r ≡ test (room corners vertices pairing order) ⌝ }
+    ensures { λ r. ⌜ tellVerdict r ≡ test (checkRoom corners vertices pairing order) ⌝ }
 {
     if room_for(corners, vertices, pairing, order) {
         return Verdict::Fine;
@@ -40,7 +40,7 @@ fn room_test(corners: usize, vertices: usize, pairing: usize, order: usize) -> V
 
 // Refusals 1, 9, 2, 3 and 4, for lent tables of these lengths.
 fn table_test(coords: &[i32], corners: &[u32], pairing: usize, order: usize) -> Verdict
-    ensures { λ r. ⌜ tellVerdict r ≡ verdict (tests (mesh (coords .entry .now) (corners .entry .now)) pairing order) ⌝ }
+    ensures { λ r. ⌜ tellVerdict r ≡ verdict (checkTests (mesh (coords .entry .now) (corners .entry .now)) pairing order) ⌝ }
 {
     let a = size_test(coords, corners);
     if let Verdict::Refused(_) = a {

@@ -18,7 +18,7 @@ use Rattle.formats.specs.declared.Extent.the-variants.{End as ExtentEnd, Refuse
 use Rattle.checking.specs.declared.Contours.{Contours}
 use Rattle.checking.specs.declared.Contours.the-variants.{End, Refused}
 use Rattle.checking.specs.declared.Counts.the-variants.{End as CountsEnd, Refused as CountsRefused}
-use Rattle.checking.specs.Answers.{contourAt, contoursAt, countsAt}
+use Rattle.checking.specs.Answers.{contourToldAt, contoursAt, countsAt}
 use Rattle.checking.specs.AnswerLaws.{told-parsed, told-refused, told-bad, contour-read, contour-off, contours-read, contours-off, room-left}
 use Rattle.checking.specs.AnswerLaws.{contours-by-count}
 use Rattle.checking.proofs.Runs.{Running, run-off, run-next}
@@ -26,11 +26,11 @@ use Rattle.checking.proofs.Runs.{Running, run-off, run-next}
 -- ---- a contour, by its count and its points
 
 module _ (room : ℕ) (file : List ℕ) (at : ℕ) (h : at ≤ length file) where
-  pub no-count : numberAt room file at ≡ NoNumber → Refused at ≡ contourAt room file at
+  pub no-count : numberAt room file at ≡ NoNumber → Refused at ≡ contourToldAt room file at
   no-count e = told-bad (λ c next. End next (roomAfter room c)) Refused (contour room) file at h (contour-bad room (drop at file) (not-took room file at e))
 
   module _ {n next : ℕ} (e : numberAt room file at ≡ Value n next) where
-    pub few-points : n < fewestPoints → Refused at ≡ contourAt room file at
+    pub few-points : n < fewestPoints → Refused at ≡ contourToldAt room file at
     few-points k =
         told-bad (λ c next. End next (roomAfter room c)) Refused (contour room) file at h
         (contour-few room (drop at file) n (drop next file) (took e .parses) (lt-leb fewestPoints n k))
@@ -39,7 +39,7 @@ module _ (room : ℕ) (file : List ℕ) (at : ℕ) (h : at ≤ length file) wher
       by-points : (contour room) .parse (drop at file) ≡ (sequence point latest n origin) .parse (drop next file)
       by-points = contour-points room (drop at file) n (drop next file) (took e .parses) (le-leb fewestPoints n k)
 
-      pub points-pass : {i : ℕ} → extentAt (sequence point latest n origin) file next ≡ ExtentEnd i → End i (room - n) ≡ contourAt room file at
+      pub points-pass : {i : ℕ} → extentAt (sequence point latest n origin) file next ≡ ExtentEnd i → End i (room - n) ≡ contourToldAt room file at
       points-pass {i} f =
           let q = passed (sequence point latest n origin) file next i (sequence-tails point latest point-tails n origin) (took e .inside) f in
           let m : length (q .0) ≡ n = parsed-length point latest n origin (drop next file) (q .0) (drop i file) (q .1 .parses) in
@@ -47,7 +47,7 @@ module _ (room : ℕ) (file : List ℕ) (at : ℕ) (h : at ≤ length file) wher
           ∙ told-parsed (λ c next. End next (roomAfter room c)) Refused (contour room) file at (q .0) i
           (record { inside = q .1 .inside; parses = by-points ∙ q .1 .parses })
 
-      pub points-stop : {i : ℕ} → extentAt (sequence point latest n origin) file next ≡ ExtentRefused i → Refused i ≡ contourAt room file at
+      pub points-stop : {i : ℕ} → extentAt (sequence point latest n origin) file next ≡ ExtentRefused i → Refused i ≡ contourToldAt room file at
       points-stop {i} f =
           let q = stopped (sequence point latest n origin) file next i f in
           ap Refused (q .2) ∙ told-refused (λ c next. End next (roomAfter room c)) Refused (contour room) file at (q .0) (by-points ∙ q .1)
@@ -58,10 +58,10 @@ abbrev pub Rows : List ℕ → Contours → ℕ → ℕ → ℕ → Type 0
 Rows file total room i left = Running contour roomAfter (λ room next. End next room) Refused file total room i left
 
 module _ {file : List ℕ} {total : Contours} {room i left : ℕ} (w : Rows file total room i left) (h : 0 < left) where
-  pub contour-stops : {e : ℕ} → contourAt room file i ≡ Refused e → Refused e ≡ total
+  pub contour-stops : {e : ℕ} → contourToldAt room file i ≡ Refused e → Refused e ≡ total
   contour-stops {e} f = run-off contour roomAfter (λ room next. End next room) Refused file left w h e (contour-off file i room e f)
 
-  pub contour-passes : {next r : ℕ} → contourAt room file i ≡ End next r → Rows file total r next (left - 1)
+  pub contour-passes : {next r : ℕ} → contourToldAt room file i ≡ End next r → Rows file total r next (left - 1)
   contour-passes {next} {r} f =
       let q = contour-read file i room (w .inside) next r f in
       subst (λ (s : ℕ). Rows file total s next (left - 1)) (q .2)

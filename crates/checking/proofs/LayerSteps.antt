@@ -19,7 +19,7 @@ use Rattle.checking.specs.declared.Height.the-variants.{Above, Bad as Lo
 use Rattle.checking.specs.declared.Counts.the-variants.{End as CountsEnd, Refused as CountsRefused}
 use Rattle.checking.specs.declared.Levels.{Levels}
 use Rattle.checking.specs.declared.Levels.the-variants.{End, Refused}
-use Rattle.checking.specs.Answers.{heightAt, countsAt, levelsAt, final}
+use Rattle.checking.specs.Answers.{heightToldAt, countsAt, levelsAt, final}
 use Rattle.checking.specs.AnswerLaws.{told-parsed, told-refused, Off, counts-read, levels-read, levels-off, final-off, final-over, final-whole}
 use Rattle.checking.specs.AnswerLaws.{layer-no-height, height-inside, layer-no-contours, layer-read}
 use Rattle.checking.proofs.Runs.{Running, run-off, run-next}
@@ -27,16 +27,16 @@ use Rattle.checking.proofs.Runs.{Running, run-off, run-next}
 -- ---- a height
 
 module _ (low : ℤ) (file : List ℕ) (at : ℕ) where
-  pub no-height : numberAt word file at ≡ NoNumber → Low ≡ heightAt low file at
+  pub no-height : numberAt word file at ≡ NoNumber → Low ≡ heightToldAt low file at
   no-height e = told-refused Above (λ q. Low) (heightAbove low) file at (drop at file) (height-bad low (drop at file) (not-took word file at e))
 
   module _ {m next : ℕ} (e : numberAt word file at ≡ Value m next) where
-    pub not-above : ltZ low (unzigzag m) ≡ false → Low ≡ heightAt low file at
+    pub not-above : ltZ low (unzigzag m) ≡ false → Low ≡ heightToldAt low file at
     not-above t =
         told-refused Above (λ q. Low) (heightAbove low) file at (drop at file)
         (height-low low (drop at file) m (drop next file) (took e .parses) t)
 
-    pub above : ltZ low (unzigzag m) ≡ true → Above (unzigzag m) next ≡ heightAt low file at
+    pub above : ltZ low (unzigzag m) ≡ true → Above (unzigzag m) next ≡ heightToldAt low file at
     above t =
         let w = took e in
         told-parsed Above (λ q. Low) (heightAbove low) file at (unzigzag m) next
@@ -48,10 +48,10 @@ abbrev pub Climbing : List ℕ → Levels → ℤ → ℕ → ℕ → Type 0
 Climbing file total low i left = Running layer heightOf (λ z next. End next z) Refused file total low i left
 
 module _ {file : List ℕ} {total : Levels} {low : ℤ} {i left : ℕ} (w : Climbing file total low i left) (h : 0 < left) where
-  pub height-stops : heightAt low file i ≡ Low → Refused i ≡ total
+  pub height-stops : heightToldAt low file i ≡ Low → Refused i ≡ total
   height-stops e = run-off layer heightOf (λ z next. End next z) Refused file left w h i (layer-no-height low file i (w .inside) e)
 
-  module _ {z : ℤ} {j : ℕ} (e : heightAt low file i ≡ Above z j) where
+  module _ {z : ℤ} {j : ℕ} (e : heightToldAt low file i ≡ Above z j) where
     pub height-in : j ≤ length file
     height-in = height-inside low file i (w .inside) z j e
 

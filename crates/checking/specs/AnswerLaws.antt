@@ -25,7 +25,7 @@ use Rattle.checking.specs.declared.Height.the-variants.{Above, Bad as Lo
 use Rattle.checking.specs.declared.Contours.the-variants.{End, Refused}
 use Rattle.checking.specs.declared.Counts.the-variants.{End as CountsEnd, Refused as CountsRefused}
 use Rattle.checking.specs.declared.Levels.the-variants.{End as LevelsEnd, Refused as LevelsRefused}
-use Rattle.checking.specs.Answers.{toldAt, coordinateAt, heightAt, contourAt, contoursAt, countsAt, levelsAt, final}
+use Rattle.checking.specs.Answers.{toldAt, coordinateAt, heightToldAt, contourToldAt, contoursAt, countsAt, levelsAt, final}
 
 module _ {A B : Type 0} (good : A → ℕ → B) (bad : ℕ → B) (F : Format A) (file : List ℕ) (at : ℕ) where
   -- ---- from parsing to an answer
@@ -100,12 +100,12 @@ module _ (p : ℤ) (file : List ℕ) (at : ℕ) where
       g .1 ∙ ap refused (coordinate-single p (drop at file) (g .0) (g .1))
 
 module _ (low : ℤ) (file : List ℕ) (at : ℕ) where
-  pub height-read : at ≤ length file → (z : ℤ) (next : ℕ) → heightAt low file at ≡ Above z next → ParsedAt (heightAbove low) file at z next
+  pub height-read : at ≤ length file → (z : ℤ) (next : ℕ) → heightToldAt low file at ≡ Above z next → ParsedAt (heightAbove low) file at z next
   height-read h z next e =
       let g = from-good heights (λ y. y) (heightAbove low) file at (heightAbove-tails low) h z next e in
       subst (λ (y : ℤ). ParsedAt (heightAbove low) file at y next) (g .2) (g .1)
 
-  pub height-off : heightAt low file at ≡ Low → (heightAbove low) .parse (drop at file) ≡ refused (drop at file)
+  pub height-off : heightToldAt low file at ≡ Low → (heightAbove low) .parse (drop at file) ≡ refused (drop at file)
   height-off e =
       let g = from-bad heights (λ y. y) (heightAbove low) file at at e in
       g .1 ∙ ap refused (height-single low (drop at file) (g .0) (g .1))
@@ -126,11 +126,11 @@ contours = record { apart = λ e. let n : _≡_ {A = ℕ} 0 1 = cc in omega arit
 
 module _ (file : List ℕ) (at : ℕ) where
   module _ (room : ℕ) where
-    pub contour-read : at ≤ length file → (next r : ℕ) → contourAt room file at ≡ End next r
+    pub contour-read : at ≤ length file → (next r : ℕ) → contourToldAt room file at ≡ End next r
         → (c : List Point) × ParsedAt (contour room) file at c next × (roomAfter room c ≡ r)
     contour-read h next r e = from-good contours (roomAfter room) (contour room) file at (contour-tails room) h r next e
 
-    pub contour-off : (i : ℕ) → contourAt room file at ≡ Refused i → Off (contour room) file at i
+    pub contour-off : (i : ℕ) → contourToldAt room file at ≡ Refused i → Off (contour room) file at i
     contour-off i e = from-off contours (roomAfter room) (contour room) file at (λ p q f. cc) i e
 
   module _ (n : ℕ) where
@@ -226,10 +226,10 @@ room-left (suc n) room l cs r e =
 -- ---- a layer, by its height and its contours
 
 module _ (low : ℤ) (file : List ℕ) (at : ℕ) (h : at ≤ length file) where
-  pub layer-no-height : heightAt low file at ≡ Low → Off (layer low) file at at
+  pub layer-no-height : heightToldAt low file at ≡ Low → Off (layer low) file at at
   layer-no-height e = record { rest = drop at file; parses = layer-bad low (drop at file) (height-off low file at e); place = sym (place-drop file at h) }
 
-  module _ (z : ℤ) (j : ℕ) (e : heightAt low file at ≡ Above z j) where
+  module _ (z : ℤ) (j : ℕ) (e : heightToldAt low file at ≡ Above z j) where
     by-contours : (layer low) .parse (drop at file) ≡ mapped {B = Layer} (λ cs. record { height = z; contours = cs }) (contourList .parse (drop j file))
     by-contours = layer-contours low (drop at file) z (drop j file) (height-read low file at h z j e .parses)
 

@@ -31,12 +31,12 @@ abbrev pub coordinateAt : ℤ → List ℕ → ℕ → Coordinate
 coordinateAt p = toldAt At (λ at. Bad) (coordinate p)
 
 -- a height above low
-abbrev pub heightAt : ℤ → List ℕ → ℕ → Height
-heightAt low = toldAt Above (λ at. Low) (heightAbove low)
+abbrev pub heightToldAt : ℤ → List ℕ → ℕ → Height
+heightToldAt low = toldAt Above (λ at. Low) (heightAbove low)
 
 -- a contour
-abbrev pub contourAt : ℕ → List ℕ → ℕ → Contours
-contourAt room = toldAt (λ c next. End next (roomAfter room c)) Refused (contour room)
+abbrev pub contourToldAt : ℕ → List ℕ → ℕ → Contours
+contourToldAt room = toldAt (λ c next. End next (roomAfter room c)) Refused (contour room)
 
 -- the first n contours of a layer
 abbrev pub contoursAt : ℕ → List ℕ → ℕ → Contours

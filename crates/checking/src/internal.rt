@@ -7,7 +7,7 @@ ghost use Rattle.mesh.specs.Corners.{largest};
 ghost use Rattle.formats.specs.Formats.{sequence};
 ghost use Rattle.formats.specs.LayerFile.{point, origin, latest, layer, heightOf};
 ghost use Rattle.formats.specs.Positions.{extentAt};
-ghost use Rattle.checking.specs.Answers.{coordinateAt, heightAt, contourAt, contoursAt, countsAt, levelsAt, final};
+ghost use Rattle.checking.specs.Answers.{coordinateAt, heightToldAt, contourToldAt, contoursAt, countsAt, levelsAt, final};
 use crate::Contours;
 use crate::Coordinate;
 use crate::Counts;
@@ -66,7 +66,7 @@ pub fn check_points(file: &[u8], at: usize, count: u64) -> Extent
 // Checks a contour, where its layer has room for so many points.
 pub fn check_contour(file: &[u8], at: usize, room: u64) -> Contours
     requires { ⌜ at ≤ length (now file) ⌝ }
-    ensures { λ r. ⌜ r ≡ contourAt room (file .entry .now) at ⌝ }
+    ensures { λ r. ⌜ r ≡ contourToldAt room (file .entry .now) at ⌝ }
 {
     let n = read_number(file, at, room);
     let Number::Value(count, next) = n else {
@@ -124,7 +124,7 @@ pub fn check_counted(file: &[u8], at: usize) -> Counts
 
 // The height at a position of a file, where it must lie above low.
 pub fn read_height(file: &[u8], at: usize, low: i64) -> Height
-    ensures { λ r. ⌜ r ≡ heightAt low (file .entry .now) at ⌝ }
+    ensures { λ r. ⌜ r ≡ heightToldAt low (file .entry .now) at ⌝ }
 {
     let n = read_number(file, at, 4294967295);
     let Number::Value(m, next) = n else {

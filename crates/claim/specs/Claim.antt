@@ -119,16 +119,16 @@ Did m (rise s h t (Layer u j k) ring′ t′ ok) = GivesCut (m .paired) h t j k 
 Did m (rise s h t (Unrisen r) ring′ t′ ok) = ring′ ≡ s .ring
 
 -- it holds of each call of the list
-pub data Each (P : Call → Type 0) : List Call → Type 0 where
-  none : Each P []
-  and : {c : Call} {cs : List Call} → P c → Each P cs → Each P (c ∷ cs)
+pub data EachCall (P : Call → Type 0) : List Call → Type 0 where
+  none : EachCall P []
+  and : {c : Call} {cs : List Call} → P c → EachCall P cs → EachCall P (c ∷ cs)
 
 -- ---- the claim
 
 -- the rings of the ring table are those of a cut made afresh with n passed: each contour closed, from its least corner on, every crossing once
 pub record Afresh (m : OrderedMesh) (n : ℕ) (ring : List ℕ) : Type 0 where
   pub rings : List (List ℕ)
-  pub layer : layers.Layer (passedAt (m .order) n) (m .paired .mesh .corners) (m .paired .pairing) rings
+  pub layer : layers.LayerContours (passedAt (m .order) n) (m .paired .mesh .corners) (m .paired .pairing) rings
   pub walked : traceLinks (length (m .paired .mesh .corners)) ring ≡ contours rings
   pub traced : trace (passedAt (m .order) n) (m .paired .mesh .corners) (m .paired .pairing) ≡ contours rings
 
@@ -149,7 +149,7 @@ pub record Swept (m : OrderedMesh) (calls : List Call) (n passed : ℕ) (ring : 
   pub rings : (c d : ℕ) → c < length (m .paired .mesh .corners) → (d ≡ c) ⊎ (d ≡ pairOf (m .paired .pairing) c)
       → rising (passedAt (m .order) n) (m .paired .mesh .corners) d ≡ true → Ring (λ k. getD ring k 0) (length (m .paired .mesh .corners)) d
   -- each unrefused rise gave what Cut gives; each step changed only entries whose paired triangle touches its vertex; a refused call left its ring table
-  pub each : Each (Did m) calls
+  pub each : EachCall (Did m) calls
 
 -- Demand 3 about the list of calls. The hypotheses, and why a caller can meet them:
 -- * the start is not refused: Start refuses only tables of a wrong length or beyond the limits (1) and a ring table shorter than the corners (9);

@@ -33,7 +33,7 @@ use Rattle.sweep.specs.Operations.{Starts, Steps, Rises}
 use Rattle.sweep.specs.AnswerLaws.{fresh-start, step-taken, step-top, unstepped-ring}
 use Rattle.sweep.specs.RiseLaws.{rise-tests, rise-state, rise-ring, rise-is-cut, unrisen-ring}
 use Rattle.claim.specs.Claim.{Call, step, rise, refused, given, passedAfter, ringAfter, Run, done, skipped, taken, up, to, moveOf, moved, planeAfter, fed}
-use Rattle.claim.specs.Claim.{OnlyTouched, GivesCut, Afresh, Did, Each, none, and, SweepClaim}
+use Rattle.claim.specs.Claim.{OnlyTouched, GivesCut, Afresh, Did, EachCall, none, and, SweepClaim}
 
 -- ---- Step, unrefused
 
@@ -179,7 +179,7 @@ module _ (m : OrderedMesh) where
       (λ v. record { gives = rise-is-cut v; alone = λ a w x. cut-only x (rise-is-cut v) }) ok
   did-taken passed ring (rise s h t (Unrisen r) ring′ t′ ok) e q = absurd (clash refl e)
 
-  run-did : {p p′ : ℕ} {ring ring′ : List ℕ} {cs : List Call} → Run m p ring cs p′ ring′ → Each (Did m) cs
+  run-did : {p p′ : ℕ} {ring ring′ : List ℕ} {cs : List Call} → Run m p ring cs p′ ring′ → EachCall (Did m) cs
   run-did done = none
   run-did (skipped {c = c} e r) = and (did-refused c e) (run-did r)
   run-did (taken {n = p} {r = ring} {c = c} e q r) = and (did-taken p ring c e q) (run-did r)

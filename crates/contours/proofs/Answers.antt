@@ -13,7 +13,7 @@ use Rattle.mesh.specs.declared.Verdict.{Verdict}
 use Rattle.mesh.specs.declared.Verdict.the-variants.{Fine}
 use Rattle.contours.specs.Areas.{mostPoints, runFits, measuring}
 use Rattle.contours.specs.AreaLaws.{fits-parts, run-of}
-use Rattle.contours.specs.Runs.{Run}
+use Rattle.contours.specs.Runs.{PointRun}
 
 module _ (n : ℕ) where
   pub fits-odd : (n % 2 ≡ 0 → ⊥) → runFits n ≡ false
@@ -22,5 +22,5 @@ module _ (n : ℕ) where
   pub fits-many : mostPoints < n / 2 → runFits n ≡ false
   fits-many h = is-false (runFits n) (λ e. omega (arith, fits-parts n e .1))
 
-pub tested-run : (points : List ℤ) {v : Verdict} → tellVerdict v ≡ verdict (measuring points .refusals) → v ≡ Fine → Run points
+pub tested-run : (points : List ℤ) {v : Verdict} → tellVerdict v ≡ verdict (measuring points .refusals) → v ≡ Fine → PointRun points
 tested-run points e f = run-of points (fine-none (measuring points .refusals) (sym e ∙ ap tellVerdict f))

@@ -14,7 +14,7 @@ use Rattle.laws.specs.Machine.{Rd, got, same-in, add, add-ok}
 use Rattle.mesh.specs.Corners.{largest}
 use Rattle.contours.specs.Areas.{mostPoints, pointCount, xOf, yOf, crossOf, sumOf, areaOf}
 use Rattle.contours.specs.AreaLaws.{sum-bound, area-none, area-closed, cross-bound}
-use Rattle.contours.specs.Runs.{largestCross, Run}
+use Rattle.contours.specs.Runs.{largestCross, PointRun}
 
 -- the bits x and y stand for point i
 pub record Held (points : List ℤ) (i x y : ℕ) : Type 0 where
@@ -35,7 +35,7 @@ pub area-empty : (points : List ℤ) → length points ≡ 0 → pos 0 ≡ areaO
 area-empty [] e = sym area-none
 area-empty (z ∷ points) e = absurd (omega arith)
 
-module _ {points : List ℤ} (r : Run points) where
+module _ {points : List ℤ} (r : PointRun points) where
   -- a point that was loaded
   pub loaded : (i : ℕ) → Held points i (ofZ w32 (xOf points i)) (ofZ w32 (yOf points i))
   loaded i = record { x-is = same-in w32 (xOf points i) largest (r .ranged (2 * i)) tt; y-is = same-in w32 (yOf points i) largest (r .ranged (2 * i + 1)) tt }

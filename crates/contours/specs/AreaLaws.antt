@@ -24,7 +24,7 @@ use Rattle.contours.specs.declared.Measured.the-variants.{Area, Refused 
 use Rattle.contours.specs.Areas.{mostPoints, pointCount, xOf, yOf, crossOf, nextPoint, sumOf, areaOf, runFits, measuring, tellArea, Measures}
 use Rattle.contours.specs.Contours.{priorEnd, ownEnd, spanOf, contourOf}
 use Rattle.contours.specs.ContourLaws.{span-there, span-contour, span-even, length-contour, contour-at}
-use Rattle.contours.specs.Runs.{largestCross, Run}
+use Rattle.contours.specs.Runs.{largestCross, PointRun}
 
 -- ---- sums
 
@@ -81,12 +81,12 @@ cross-le x y u v hx hy hu hv =
     let b : natAbs u * natAbs y ≤ largest * largest = mul-le-mul hu hy in
     omega (arith, abs-sub (x *ℤ v) (u *ℤ y), abs-mul x v, abs-mul u y)
 
-pub cross-bound : (points : List ℤ) → Run points → (i k : ℕ) → natAbs (crossOf points i k) ≤ largestCross
+pub cross-bound : (points : List ℤ) → PointRun points → (i k : ℕ) → natAbs (crossOf points i k) ≤ largestCross
 unfolding crossOf
 cross-bound points r i k =
     cross-le (xOf points i) (yOf points i) (xOf points k) (yOf points k) (r .ranged (2 * i)) (r .ranged (2 * i + 1)) (r .ranged (2 * k)) (r .ranged (2 * k + 1))
 
-pub run-bound : (points : List ℤ) → Run points → natAbs (areaOf points) ≤ mostPoints * largestCross
+pub run-bound : (points : List ℤ) → PointRun points → natAbs (areaOf points) ≤ mostPoints * largestCross
 unfolding areaOf
 run-bound points r =
     let n = pointCount points in
@@ -106,7 +106,7 @@ range-passed : (points : List ℤ) (i : ℕ) → natAbs (getD points i (pos 0)) 
 unfolding outOfRange
 range-passed points i h = le-ltb largest (natAbs (getD points i (pos 0))) h
 
-pub run-of : (points : List ℤ) → None (measuring points .refusals) → Run points
+pub run-of : (points : List ℤ) → None (measuring points .refusals) → PointRun points
 run-of points (more s (more r done)) =
     let p = fits-parts (length points) (not-false _ (s 0 (omega arith))) in
     record {
@@ -118,14 +118,14 @@ run-of points (more s (more r done)) =
           (split-lt i (length points));
     }
 
-pub none-of : (points : List ℤ) → Run points → None (measuring points .refusals)
+pub none-of : (points : List ℤ) → PointRun points → None (measuring points .refusals)
 none-of points r =
     more (λ i l. ap not (fits-of (length points) (r .even) (r .few)))
     (more (λ i l. range-passed points i (r .ranged i)) done)
 
 -- a contour of points in range, of which there are not too many
 pub contour-run : (points : List ℤ) (ends : List ℕ) (j : ℕ) → ownEnd ends j ≤ mostPoints
-    → ((i : ℕ) → i < 2 * ownEnd ends j → natAbs (getD points i (pos 0)) ≤ largest) → Run (contourOf points ends j)
+    → ((i : ℕ) → i < 2 * ownEnd ends j → natAbs (getD points i (pos 0)) ≤ largest) → PointRun (contourOf points ends j)
 contour-run points ends j few ranged =
     record { even = rw len (span-even n ends j); few = rw len (short (split-lt 0 (spanOf n ends j))); ranged = λ i. at i (split-lt i (spanOf n ends j)) }
   where
@@ -166,7 +166,7 @@ module _ {points : List ℤ} {result : Measured} (d : Measures points result) wh
   pub area-only : {other : Measured} → Measures points other → result ≡ other
   area-only e = only-outcome area-recovers d e .0
 
-  pub run-measured : Run points → result ≡ Area (areaOf points)
+  pub run-measured : PointRun points → result ≡ Area (areaOf points)
   run-measured r = recovered area-recovers (area-given .1 (none-of points r))
 
   -- an area that is answered is the area, and at most 98,304 × 2 × 2 ^ 40

@@ -12,7 +12,7 @@ abbrev pub largestCross : ℕ
 largestCross = 2 * (largest * largest)
 
 -- an even length, not too many points, every number in range
-pub record Run (points : List ℤ) : Type 0 where
+pub record PointRun (points : List ℤ) : Type 0 where
   pub even : length points % 2 ≡ 0
   pub few : pointCount points ≤ mostPoints
   -- past the end the default 0 is in range, so that this says no more than it does within

@@ -4,7 +4,7 @@ ghost use Prim.Native.Nat.{_≤_};
 ghost use lib.IntN.{natAbs, _-ℤ_, _*ℤ_};
 ghost use Rattle.mesh.specs.Corners.{largest};
 ghost use Rattle.contours.specs.Areas.{areaOf};
-ghost use Rattle.contours.specs.Runs.{largestCross, Run};
+ghost use Rattle.contours.specs.Runs.{largestCross, PointRun};
 
 // The cross product of two points, and that it is small.
 fn cross(x: i32, y: i32, u: i32, v: i32) -> i64
@@ -16,7 +16,7 @@ fn cross(x: i32, y: i32, u: i32, v: i32) -> i64
 
 // The doubled signed area of points that Area does not refuse.
 pub fn doubled_area(points: &[i32]) -> i64
-    requires { ⌜ Run (now points) ⌝ }
+    requires { ⌜ PointRun (now points) ⌝ }
     ensures { λ r. ⌜ r ≡ areaOf (points .entry .now) ⌝ }
 {
     if points.len() == 0 {

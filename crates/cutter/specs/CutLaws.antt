@@ -37,7 +37,7 @@ use Rattle.cutter.specs.SolidLaws.{solid-left, crossing-climbs}
 
 -- ---- a layer has at most one point for each triangle
 
-pub one-each : (passed : VertexSet) (corners pairing : List ℕ) (rs : List (List ℕ)) → Linked corners pairing → layers.Layer passed corners pairing rs
+pub one-each : (passed : VertexSet) (corners pairing : List ℕ) (rs : List (List ℕ)) → Linked corners pairing → layers.LayerContours passed corners pairing rs
     → length (namesOf rs) ≤ triangleCount corners
 one-each passed corners pairing rs linked l = by (decLt (triangleCount corners) (length (namesOf rs)))
   where
@@ -80,7 +80,7 @@ module _ {m : PairedMesh} {h : ℤ} {t t′ : CutTables} {result : Sliced} (c : 
   -- what a layer is
   pub record Promise (j k : ℕ) : Type 0 where
     pub rings : List (List ℕ)
-    pub layer : layers.Layer (below (m .mesh .coords) h) (m .mesh .corners) (m .pairing) rings
+    pub layer : layers.LayerContours (below (m .mesh .coords) h) (m .mesh .corners) (m .pairing) rings
     pub count : j ≡ length rings
     pub total : k ≡ length (namesOf rings)
     pub few : k ≤ triangleCount (m .mesh .corners)

@@ -11,7 +11,7 @@ use lib.IntN.{ℤ}
 use Rattle.laws.specs.SignLaws.{Below, Above}
 use Rattle.decimals.specs.Decimals.{digit, minus, decimal, signedDecimal}
 use Rattle.decimals.specs.DecimalLaws.{decimal-one, decimal-more, length-more, decimal-pos}
-use Rattle.decimals.specs.Texts.{HasRoom, Puts}
+use Rattle.decimals.specs.Texts.{TextRoom, PutsText}
 
 -- ---- digits
 
@@ -51,7 +51,7 @@ module _ {l : List ℕ} {at n : ℕ} {m : List ℕ} {rest i : ℕ} (w : Spelling
   pub spelling-size : length m ≡ length l
   spelling-size = ap length (w .is) ∙ length-sets l (suc i) (w .done)
 
-  pub spelling-room : HasRoom l at (decimal n) → i < length m
+  pub spelling-room : TextRoom l at (decimal n) → i < length m
   spelling-room h = omega (arith, w .place, spelling-size, ap length (w .whole) ∙ length-append (decimal rest) (w .done))
 
   pub spelling-back : 10 ≤ rest → 1 ≤ i
@@ -72,7 +72,7 @@ module _ {l : List ℕ} {at n : ℕ} {m : List ℕ} {rest i : ℕ} (w : Spelling
         is = put (digit (rest % 10)) ∙ ap (λ (k : ℕ). sets l k (digit (rest % 10) ∷ w .done)) (sym s);
       }
 
-  pub spelling-last : {end : ℕ} → HasRoom l at (decimal n) → rest < 10 → end ≡ at + length (decimal n) → Puts l at (decimal n) end (set m i (digit rest))
+  pub spelling-last : {end : ℕ} → TextRoom l at (decimal n) → rest < 10 → end ≡ at + length (decimal n) → PutsText l at (decimal n) end (set m i (digit rest))
   spelling-last g h f =
       let e = decimal-one rest h in
       let s : i ≡ at = omega (arith, w .place, ap length e) in
@@ -92,7 +92,7 @@ pub record Copying (l : List ℕ) (at : ℕ) (text m : List ℕ) (p k : ℕ) : T
   pub upto : k ≤ length text
   pub bytes : Emit l at text m p (drop k text)
 
-pub copying : {l : List ℕ} {at : ℕ} {text : List ℕ} → HasRoom l at text → Copying l at text l at 0
+pub copying : {l : List ℕ} {at : ℕ} {text : List ℕ} → TextRoom l at text → Copying l at text l at 0
 copying h = record { upto = omega arith; bytes = emit-start _ _ _ (h .within) }
 
 module _ {l : List ℕ} {at : ℕ} {text m : List ℕ} {p k : ℕ} (w : Copying l at text m p k) where
@@ -106,7 +106,7 @@ module _ {l : List ℕ} {at : ℕ} {text m : List ℕ} {p k : ℕ} (w : Copying 
     pub copying-next : Copying l at text (set m p (getD text k 0)) (p + 1) (k + 1)
     copying-next = record { upto = omega arith; bytes = rw (add-one k) (emit-one _ _ next) }
 
-  pub copying-end : length text ≤ k → Puts l at text p m
+  pub copying-end : length text ≤ k → PutsText l at text p m
   copying-end h =
       let e = emit-end (subst (Emit l at text m p) (drop-of-length-le text h) (w .bytes)) in
       record { ends = e .0; within = omega (arith, e .0, w .bytes .room); is = e .1 }
@@ -118,14 +118,14 @@ module _ {z : ℤ} (b : Below z) {u : ℕ} (is : u ≡ b .k) where
   unfolding signedDecimal
   below-text = ap signedDecimal (b .from) ∙ ap (λ (n : ℕ). minus ∷ decimal n) (let e : suc (b .k) ≡ u + 1 = omega arith in e)
 
-  module _ {l : List ℕ} {at : ℕ} (h : HasRoom l at (signedDecimal z)) where
+  module _ {l : List ℕ} {at : ℕ} (h : TextRoom l at (signedDecimal z)) where
     pub sign-room : at < length l
     sign-room = omega (arith, ap length below-text)
 
-    pub below-room : (sign : ℕ) → HasRoom (set l at sign) (at + 1) (decimal (u + 1))
+    pub below-room : (sign : ℕ) → TextRoom (set l at sign) (at + 1) (decimal (u + 1))
     below-room sign = record { within = omega (arith, ap length below-text, length-set l at sign) }
 
-  pub below-put : {l : List ℕ} {at p : ℕ} {m : List ℕ} → Puts (set l at minus) (at + 1) (decimal (u + 1)) p m → Puts l at (signedDecimal z) p m
+  pub below-put : {l : List ℕ} {at p : ℕ} {m : List ℕ} → PutsText (set l at minus) (at + 1) (decimal (u + 1)) p m → PutsText l at (signedDecimal z) p m
   below-put {l} {at} v =
       record {
         ends = omega (arith, v .ends, ap length below-text);
@@ -138,10 +138,10 @@ module _ {z : ℤ} (b : Above z) {u : ℕ} (is : u ≡ b .k) where
   unfolding signedDecimal
   above-text = ap signedDecimal (b .from) ∙ ap decimal (sym is)
 
-  pub above-room : {l : List ℕ} {at : ℕ} → HasRoom l at (signedDecimal z) → HasRoom l at (decimal u)
+  pub above-room : {l : List ℕ} {at : ℕ} → TextRoom l at (signedDecimal z) → TextRoom l at (decimal u)
   above-room h = record { within = omega (arith, h .within, ap length above-text) }
 
-  pub above-put : {l : List ℕ} {at p : ℕ} {m : List ℕ} → Puts l at (decimal u) p m → Puts l at (signedDecimal z) p m
+  pub above-put : {l : List ℕ} {at p : ℕ} {m : List ℕ} → PutsText l at (decimal u) p m → PutsText l at (signedDecimal z) p m
   above-put {l} {at} v =
       record {
         ends = v .ends ∙ ap (λ (t : List ℕ). at + length t) (sym above-text);

@@ -6,13 +6,13 @@ use native.Mathlib.Omega.{arith}
 use lib.ListN.{length, length-append}
 use lib.Seq.{sets, length-sets}
 use Rattle.formats.specs.EmitLaws.{sets-append}
-use Rattle.decimals.specs.Texts.{HasRoom, Puts}
+use Rattle.decimals.specs.Texts.{TextRoom, PutsText}
 
-pub put-length : {l : List ℕ} {at : ℕ} {a : List ℕ} {p : ℕ} {m : List ℕ} → Puts l at a p m → length m ≡ length l
+pub put-length : {l : List ℕ} {at : ℕ} {a : List ℕ} {p : ℕ} {m : List ℕ} → PutsText l at a p m → length m ≡ length l
 put-length {l} {at} {a} v = ap length (v .is) ∙ length-sets l at a
 
 -- one text and then another
-pub put-both : {l : List ℕ} {at : ℕ} {a b : List ℕ} {p q : ℕ} {m n : List ℕ} → Puts l at a p m → Puts m p b q n → Puts l at (a ++ b) q n
+pub put-both : {l : List ℕ} {at : ℕ} {a b : List ℕ} {p q : ℕ} {m n : List ℕ} → PutsText l at a p m → PutsText m p b q n → PutsText l at (a ++ b) q n
 put-both {l} {at} {a} {b} v w =
     record {
       ends = omega (arith, v .ends, w .ends, length-append a b);
@@ -36,11 +36,11 @@ writing {l} {at} h e = record { ends = ap (λ (t : List ℕ). at + length t) (sy
 
 module _ {l : List ℕ} {at : ℕ} {all m : List ℕ} {p : ℕ} {t : List ℕ} {ts : List (List ℕ)} (w : Writing l at all m p (t ∷ ts)) where
   -- the next text has room where all have
-  pub next-room : HasRoom l at all → HasRoom m p t
+  pub next-room : TextRoom l at all → TextRoom m p t
   next-room h = record { within = omega (arith, h .within, w .ends, w .size, length-flatten t ts) }
 
   -- and is written
-  pub next-put : {q : ℕ} {n : List ℕ} → Puts m p t q n → Writing l at all n q ts
+  pub next-put : {q : ℕ} {n : List ℕ} → PutsText m p t q n → Writing l at all n q ts
   unfolding flatten
   next-put {q} {n} v =
       record {
@@ -50,6 +50,6 @@ module _ {l : List ℕ} {at : ℕ} {all m : List ℕ} {p : ℕ} {t : List ℕ} {
         same = (λ i. sets (v .is i) (v .ends i) (flatten ts)) ∙ sym (sets-append t (flatten ts) m p) ∙ w .same;
       }
 
-pub all-put : {l : List ℕ} {at : ℕ} {all m : List ℕ} {p : ℕ} → Writing l at all m p [] → Puts l at all p m
+pub all-put : {l : List ℕ} {at : ℕ} {all m : List ℕ} {p : ℕ} → Writing l at all m p [] → PutsText l at all p m
 unfolding flatten
 all-put w = record { ends = omega (arith, w .ends); within = omega (arith, w .inside, w .size); is = w .same }

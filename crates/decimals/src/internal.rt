@@ -2,7 +2,7 @@
 ghost use mathlib.Core.Path.{_≡_};
 ghost use lib.ListN.{length};
 ghost use Rattle.decimals.specs.Decimals.{decimal, signedDecimal};
-ghost use Rattle.decimals.specs.Texts.{HasRoom, Puts};
+ghost use Rattle.decimals.specs.Texts.{TextRoom, PutsText};
 
 // How many digits a number has.
 fn digit_count(n: u64) -> usize
@@ -19,8 +19,8 @@ fn digit_count(n: u64) -> usize
 
 // Writes a number at a position, from its last digit to its first, and returns the position after it.
 pub fn write_decimal(output: &mut [u8], at: usize, n: u64) -> usize
-    requires { ⌜ HasRoom (now output) at (decimal n) ⌝ }
-    ensures { λ r. ⌜ Puts (output .entry .now) at (decimal n) r (output .exit .now) ⌝ }
+    requires { ⌜ TextRoom (now output) at (decimal n) ⌝ }
+    ensures { λ r. ⌜ PutsText (output .entry .now) at (decimal n) r (output .exit .now) ⌝ }
 {
     let end = at + digit_count(n);
     let mut rest = n;
@@ -36,8 +36,8 @@ pub fn write_decimal(output: &mut [u8], at: usize, n: u64) -> usize
 
 // Writes a signed number.
 pub fn write_signed(output: &mut [u8], at: usize, z: i64) -> usize
-    requires { ⌜ HasRoom (now output) at (signedDecimal z) ⌝ }
-    ensures { λ r. ⌜ Puts (output .entry .now) at (signedDecimal z) r (output .exit .now) ⌝ }
+    requires { ⌜ TextRoom (now output) at (signedDecimal z) ⌝ }
+    ensures { λ r. ⌜ PutsText (output .entry .now) at (signedDecimal z) r (output .exit .now) ⌝ }
 {
     if z < 0 {
         output[at] = b'-';
@@ -49,8 +49,8 @@ pub fn write_signed(output: &mut [u8], at: usize, z: i64) -> usize
 
 // Writes a text.
 pub fn write_text(output: &mut [u8], at: usize, text: &[u8]) -> usize
-    requires { ⌜ HasRoom (now output) at (now text) ⌝ }
-    ensures { λ r. ⌜ Puts (output .entry .now) at (text .entry .now) r (output .exit .now) ⌝ }
+    requires { ⌜ TextRoom (now output) at (now text) ⌝ }
+    ensures { λ r. ⌜ PutsText (output .entry .now) at (text .entry .now) r (output .exit .now) ⌝ }
 {
     let mut p = at;
     let mut k: usize = 0;

@@ -12,7 +12,7 @@ use lib.Seq.{drop-cons}
 use borrow.Author.Tests.{lt-ltb, le-ltb, le-leb, lt-leb, ltb-true, ltb-false, leb-true, leb-false}
 use Rattle.formats.specs.Formats.{Parse, parsed, refused, tested}
 use Rattle.formats.specs.Numbers.{joined, parseNumber}
-use Rattle.formats.specs.Positions.{numbered, numberAt}
+use Rattle.formats.specs.Positions.{numberTold, numberAt}
 use Rattle.formats.specs.declared.Number.{Number}
 use Rattle.formats.specs.declared.Number.the-variants.{Value, Bad}
 
@@ -24,13 +24,13 @@ onto value unit least Bad = Bad
 -- ---- the number at a position, by the byte there
 
 join : (n top b : ℕ) (s q : List ℕ) (d : Parse ℕ) → 128 ≤ b → b < 256 → 128 ≤ top
-    → numbered n (tested (λ v. leb v top) s (joined b d)) ≡ onto (b - 128) 128 1 (numbered n (tested (λ v. leb v ((top - (b - 128)) / 128)) q d))
+    → numberTold n (tested (λ v. leb v top) s (joined b d)) ≡ onto (b - 128) 128 1 (numberTold n (tested (λ v. leb v ((top - (b - 128)) / 128)) q d))
 join n top b s q (refused r) h g k = refl
 join n top b s q (parsed v r) h g k = by (ltb 0 v) refl (leb v ((top - (b - 128)) / 128)) refl
   where
     by : (t : Bool) → ltb 0 v ≡ t → (u : Bool) → leb v ((top - (b - 128)) / 128) ≡ u
-        → numbered n (tested (λ v. leb v top) s (joined b (parsed v r)))
-        ≡ onto (b - 128) 128 1 (numbered n (tested (λ v. leb v ((top - (b - 128)) / 128)) q (parsed v r)))
+        → numberTold n (tested (λ v. leb v top) s (joined b (parsed v r)))
+        ≡ onto (b - 128) 128 1 (numberTold n (tested (λ v. leb v ((top - (b - 128)) / 128)) q (parsed v r)))
     by true e true f =
         let p = ltb-true 0 v e in
         let o = leb-true v ((top - (b - 128)) / 128) f in
@@ -42,11 +42,11 @@ join n top b s q (parsed v r) h g k = by (ltb 0 v) refl (leb v ((top - (b - 128)
     by false e true f = let p = ltb-false 0 v e in simp (e, f, lt-ltb v 1 (omega arith))
     by false e false f = simp (e, f)
 
-over : (n top b : ℕ) (s : List ℕ) (d : Parse ℕ) → 128 ≤ b → top < 128 → numbered n (tested (λ v. leb v top) s (joined b d)) ≡ Bad
+over : (n top b : ℕ) (s : List ℕ) (d : Parse ℕ) → 128 ≤ b → top < 128 → numberTold n (tested (λ v. leb v top) s (joined b d)) ≡ Bad
 over n top b s (refused r) h k = refl
 over n top b s (parsed v r) h k = by (ltb 0 v) refl
   where
-    by : (t : Bool) → ltb 0 v ≡ t → numbered n (tested (λ v. leb v top) s (joined b (parsed v r))) ≡ Bad
+    by : (t : Bool) → ltb 0 v ≡ t → numberTold n (tested (λ v. leb v top) s (joined b (parsed v r))) ≡ Bad
     by true e = let p = ltb-true 0 v e in simp (e, lt-leb (b - 128 + 128 * v) top (omega arith))
     by false e = simp e
 

@@ -13,7 +13,7 @@ use Rattle.formats.specs.NumberLaws.{word-sent, sent-word}
 use Rattle.formats.specs.LayerFile.{Point, Layer, mostPoints, fewestPoints, coordinate, point, origin, latest, contour, roomAfter, contourList}
 use Rattle.formats.specs.LayerFile.{heightAbove, layer, lowest, heightOf, layerFile}
 use Rattle.formats.specs.LayerFileLaws.{coordinate-valid}
-use Rattle.formats.specs.LayerRules.{PointRules, ContourRules, pointTotal, LayerRules, Rising, Rules}
+use Rattle.formats.specs.LayerRules.{PointRules, ContourRules, pointTotal, LayerRules, RisingLayers, Rules}
 
 -- ---- points
 
@@ -72,11 +72,11 @@ layer-ruled low l e =
     let g = contours-ruled (length (l .contours)) mostPoints (l .contours) (e .1 .1) in
     (record { lt = e .0 .1 }, record { height-fits = sent-word (l .height) (e .0 .0); few = g .0; each = g .1 })
 
-layers-valid : (low : ℤ) (ls : List Layer) → Rising low ls → Each LayerRules ls → validAll layer heightOf (length ls) low ls
+layers-valid : (low : ℤ) (ls : List Layer) → RisingLayers low ls → Each LayerRules ls → validAll layer heightOf (length ls) low ls
 layers-valid low [] h e = tt
 layers-valid low (l ∷ ls) h e = (layer-valid low l (h .0) (e .0), layers-valid (l .height) ls (h .1) (e .1))
 
-layers-ruled : (n : ℕ) (low : ℤ) (ls : List Layer) → validAll layer heightOf n low ls → Rising low ls × Each LayerRules ls
+layers-ruled : (n : ℕ) (low : ℤ) (ls : List Layer) → validAll layer heightOf n low ls → RisingLayers low ls × Each LayerRules ls
 layers-ruled n low [] e = (tt, tt)
 layers-ruled zero low (l ∷ ls) e = absurd e
 layers-ruled (suc n) low (l ∷ ls) e =

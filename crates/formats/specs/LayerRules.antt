@@ -25,12 +25,12 @@ pub record LayerRules (l : Layer) : Type 0 where
   pub each : Each ContourRules (l .contours)
 
 -- heights rise strictly, from above low
-abbrev pub Rising : ℤ → List Layer → Type 0
-Rising low [] = Unit {0}
-Rising low (l ∷ ls) = (low <ℤ l .height) × Rising (l .height) ls
+abbrev pub RisingLayers : ℤ → List Layer → Type 0
+RisingLayers low [] = Unit {0}
+RisingLayers low (l ∷ ls) = (low <ℤ l .height) × RisingLayers (l .height) ls
 
 -- a file's layers: not too many, and their heights rise
 pub record Rules (ls : List Layer) : Type 0 where
   pub few : length ls ≤ mostLayers
-  pub rises : Rising lowest ls
+  pub rises : RisingLayers lowest ls
   pub each : Each LayerRules ls

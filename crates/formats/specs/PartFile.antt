@@ -26,8 +26,8 @@ unfoldable pub signedList : Format (List ℤ)
 signedList = headed length (number word) signedRun
 
 -- how many vertices and triangles a part has
-abbrev pub countsOf : Part → ℕ × ℕ
-countsOf p = (length (p .coords) / 3, length (p .corners) / 3)
+abbrev pub meshCounts : Part → ℕ × ℕ
+meshCounts p = (length (p .coords) / 3, length (p .corners) / 3)
 
 -- the vertex count and the triangle count
 unfoldable pub counts : Format (ℕ × ℕ)
@@ -41,7 +41,7 @@ tablesFor n =
 
 -- the file: the two counts, and then the tables
 unfoldable pub partFile : Format Part
-partFile = headed countsOf counts tablesFor
+partFile = headed meshCounts counts tablesFor
 
 -- the rules for parts as data: whole vertices and triangles, and 32 bits for each number. `PartFileLaws` proves that these are exactly the parts that may be
 -- written

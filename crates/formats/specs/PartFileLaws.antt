@@ -13,7 +13,7 @@ use Rattle.formats.specs.PositionLaws.{place-drop, Tails, number-tails, 
 use Rattle.formats.specs.Positions.{extentAt}
 use Rattle.formats.specs.SequenceLaws.{through-extent, pair-next, pair-stop, pair-bad, headed-stop}
 use Rattle.formats.specs.declared.Extent.the-variants.{End, Refused}
-use Rattle.formats.specs.PartFile.{Part, signedRun, plainRun, signedList, countsOf, counts, tablesFor, partFile, PartRules}
+use Rattle.formats.specs.PartFile.{Part, signedRun, plainRun, signedList, meshCounts, counts, tablesFor, partFile, PartRules}
 
 -- ---- runs of numbers
 
@@ -80,7 +80,7 @@ module _ (n : ℕ × ℕ) where
       (λ cs. pair-tails (plainRun (3 * n .1)) (λ ks. signedList) (plainRun-tails (3 * n .1)) (λ ks. signedList-tails)))
 
   -- tables of these sizes have these counts
-  pub tablesFor-counts : (p : Part) → (tablesFor n) .valid p → countsOf p ≡ n
+  pub tablesFor-counts : (p : Part) → (tablesFor n) .valid p → meshCounts p ≡ n
   unfolding tablesFor
   tablesFor-counts p h =
       let a : length (p .coords) / 3 ≡ n .0 = omega (arith, signedRun-length (3 * n .0) (p .coords) (h .0)) in
@@ -89,11 +89,11 @@ module _ (n : ℕ × ℕ) where
 
 pub partFile-laws : Lawful partFile
 unfolding partFile
-partFile-laws = headed-laws countsOf counts tablesFor tablesFor-counts counts-laws tablesFor-laws
+partFile-laws = headed-laws meshCounts counts tablesFor tablesFor-counts counts-laws tablesFor-laws
 
 pub partFile-tails : Tails partFile
 unfolding partFile
-partFile-tails = headed-tails countsOf counts tablesFor counts-tails tablesFor-tails
+partFile-tails = headed-tails meshCounts counts tablesFor counts-tails tablesFor-tails
 
 -- ---- parts may be written exactly if they obey the rules
 
@@ -158,7 +158,7 @@ part-valid-rules p e =
 module _ (file : List ℕ) where
   pub no-vertices : (number word) .parse file ≡ refused file → extentAt partFile file 0 ≡ Refused 0
   unfolding partFile counts
-  no-vertices e = headed-stop countsOf counts tablesFor file 0 0 (pair-bad (number word) (λ v. number word) file 0 (omega arith) e)
+  no-vertices e = headed-stop meshCounts counts tablesFor file 0 0 (pair-bad (number word) (λ v. number word) file 0 (omega arith) e)
 
   module _ (v a : ℕ) (e : (number word) .parse file ≡ parsed v (drop a file)) where
     pub no-triangles : a ≤ length file → (number word) .parse (drop a file) ≡ refused (drop a file) → extentAt partFile file 0 ≡ Refused a

@@ -11,13 +11,13 @@ use Rattle.formats.specs.declared.Extent.{Extent}
 use Rattle.formats.specs.declared.Extent.the-variants.{End, Refused}
 
 -- in a file of n bytes, a number and the position after it
-abbrev pub numbered : ℕ → Parse ℕ → Number
-numbered n (parsed v r) = Value v (n - length r)
-numbered n (refused r) = Bad
+abbrev pub numberTold : ℕ → Parse ℕ → Number
+numberTold n (parsed v r) = Value v (n - length r)
+numberTold n (refused r) = Bad
 
 -- the number of at most top at a position
 unfoldable pub numberAt : ℕ → List ℕ → ℕ → Number
-numberAt top file at = numbered (length file) ((number top) .parse (drop at file))
+numberAt top file at = numberTold (length file) ((number top) .parse (drop at file))
 
 -- in a file of n bytes, the position after a value, or that of the refused one
 abbrev pub extent : {A : Type 0} → ℕ → Parse A → Extent

@@ -7,12 +7,12 @@ use native.Mathlib.Omega.{arith}
 use lib.IntN.{ℤ, natAbs}
 use lib.Signed.{_≤ℤ_, _<ℤ_}
 use Rattle.laws.specs.Integers.{up, dn, one-zero, abs-is, sum, diff, prod, up-neg, dn-neg, ext, le-in, lt-in, le-out, lt-out}
-use Rattle.laws.specs.Ring.{Ex, x, #, ⊝, _⊕_, _⊖_, _⊗_, at, eval}
+use Rattle.laws.specs.Ring.{Ex, x, #, ⊝, _⊕_, _⊖_, _⊗_, atomAt, eval}
 
 module _ (ρ : List ℤ) where
   abbrev mutual
     pub P : Ex → ℕ
-    P (x n) = up (at ρ n)
+    P (x n) = up (atomAt ρ n)
     P (# z) = up z
     P (⊝ a) = N a
     P (a ⊕ b) = P a + P b
@@ -20,7 +20,7 @@ module _ (ρ : List ℤ) where
     P (a ⊗ b) = P a * P b + N a * N b
 
     pub N : Ex → ℕ
-    N (x n) = dn (at ρ n)
+    N (x n) = dn (atomAt ρ n)
     N (# z) = dn z
     N (⊝ a) = P a
     N (a ⊕ b) = N a + N b

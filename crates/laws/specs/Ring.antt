@@ -19,13 +19,13 @@ pub data Ex : Type 0 where
   ⊝ : Ex → Ex
   _⊕_ _⊖_ _⊗_ : Ex → Ex → Ex
 
-abbrev pub at : List ℤ → ℕ → ℤ
-at [] n = pos 0
-at (a ∷ ρ) zero = a
-at (a ∷ ρ) (suc n) = at ρ n
+abbrev pub atomAt : List ℤ → ℕ → ℤ
+atomAt [] n = pos 0
+atomAt (a ∷ ρ) zero = a
+atomAt (a ∷ ρ) (suc n) = atomAt ρ n
 
 abbrev pub eval : List ℤ → Ex → ℤ
-eval ρ (x n) = at ρ n
+eval ρ (x n) = atomAt ρ n
 eval ρ (# z) = z
 eval ρ (⊝ a) = negℤ (eval ρ a)
 eval ρ (a ⊕ b) = eval ρ a +ℤ eval ρ b
@@ -117,21 +117,21 @@ eqM→ (n ∷ l) (k ∷ m) t = λ i. eqb→eq n k (and-0 (eqb n k) (eqM l m) t) 
 module _ (ρ : List ℤ) where
   abbrev evalM : List ℕ → ℤ
   evalM [] = pos 1
-  evalM (n ∷ m) = at ρ n *ℤ evalM m
+  evalM (n ∷ m) = atomAt ρ n *ℤ evalM m
 
   abbrev evalP : Poly → ℤ
   evalP none = pos 0
   evalP (term c m p) = c *ℤ evalM m +ℤ evalP p
 
-  insV-is : (n : ℕ) (m : List ℕ) → evalM (insV n m) ≡ at ρ n *ℤ evalM m
+  insV-is : (n : ℕ) (m : List ℕ) → evalM (insV n m) ≡ atomAt ρ n *ℤ evalM m
   insV-is n [] = refl
   insV-is n (k ∷ m) =
-      cond-ind (leb n k) (n ∷ k ∷ m) (k ∷ insV n m) (λ l. evalM l ≡ at ρ n *ℤ (at ρ k *ℤ evalM m)) (λ t. refl)
-      (ap (λ (z : ℤ). at ρ k *ℤ z) (insV-is n m) ∙ mul-left-comm (at ρ k) (at ρ n) (evalM m))
+      cond-ind (leb n k) (n ∷ k ∷ m) (k ∷ insV n m) (λ l. evalM l ≡ atomAt ρ n *ℤ (atomAt ρ k *ℤ evalM m)) (λ t. refl)
+      (ap (λ (z : ℤ). atomAt ρ k *ℤ z) (insV-is n m) ∙ mul-left-comm (atomAt ρ k) (atomAt ρ n) (evalM m))
 
   merge-is : (l m : List ℕ) → evalM (merge l m) ≡ evalM l *ℤ evalM m
   merge-is [] m = sym (one-mul (evalM m))
-  merge-is (n ∷ l) m = insV-is n (merge l m) ∙ ap (λ (z : ℤ). at ρ n *ℤ z) (merge-is l m) ∙ sym (mul-assoc (at ρ n) (evalM l) (evalM m))
+  merge-is (n ∷ l) m = insV-is n (merge l m) ∙ ap (λ (z : ℤ). atomAt ρ n *ℤ z) (merge-is l m) ∙ sym (mul-assoc (atomAt ρ n) (evalM l) (evalM m))
 
   insT-is : (c : ℤ) (m : List ℕ) (p : Poly) → evalP (insT c m p) ≡ c *ℤ evalM m +ℤ evalP p
   insT-is c m none = refl

@@ -139,7 +139,7 @@ module _ (m : PairedMesh) (right : Right m) (h : ℤ) where
   unfolding rings
   section-rings = trace-layer (below (m .mesh .coords) h) (m .mesh .corners) (m .pairing) (right .linked) .1 .0
 
-  rings-layer : layers.Layer (below (m .mesh .coords) h) (m .mesh .corners) (m .pairing) rings
+  rings-layer : layers.LayerContours (below (m .mesh .coords) h) (m .mesh .corners) (m .pairing) rings
   unfolding rings
   rings-layer = trace-layer (below (m .mesh .coords) h) (m .mesh .corners) (m .pairing) (right .linked) .1 .1
 

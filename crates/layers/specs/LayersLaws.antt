@@ -48,7 +48,7 @@ module _ (m : PairedMesh) (right : Right m) where
   each-rules [] w = tt
   each-rules (h ∷ hs) w = (layer-rules m right h (w 0 (omega arith)), each-rules hs (λ i l. w (suc i) (omega arith)))
 
-  rise-rules : (low : ℤ) (hs : List ℤ) → (0 < length hs → low <ℤ getD hs 0 (pos 0)) → Rising hs → rules.Rising low (map (cutLayer m) hs)
+  rise-rules : (low : ℤ) (hs : List ℤ) → (0 < length hs → low <ℤ getD hs 0 (pos 0)) → Rising hs → rules.RisingLayers low (map (cutLayer m) hs)
   unfolding cutLayer
   rise-rules low [] a r = tt
   rise-rules low (h ∷ hs) a r = (a (omega arith), rise-rules h hs (λ l. r 0 (omega arith)) (λ i l. r (suc i) (omega arith)))

@@ -17,7 +17,7 @@ use Rattle.heights.specs.Heights.{heightsTaken}
 use Rattle.heights.specs.HeightLaws.{ranged-words}
 use Rattle.heights.specs.Taking.{baseZ, heightAt, Takable}
 use Rattle.heights.specs.TakingLaws.{height-at, takable}
-use Rattle.decimals.specs.Texts.{HasRoom, Puts}
+use Rattle.decimals.specs.Texts.{TextRoom, PutsText}
 use Rattle.decimals.specs.TextLaws.{put-length, put-both, Writing, writing, next-put, all-put}
 use Rattle.lines.specs.Limits.{heldHeights, mostOutput}
 use Rattle.lines.specs.Lines.{layersLine, lineAt, linesOf, listing}
@@ -50,29 +50,29 @@ module _ {m : PairedMesh} {heights : List ℤ} {l : List ℕ} {at : ℕ} {l′ :
     pub lines-next : {z : ℤ} {q : ℕ} {n : List ℕ} → z ≡ getD (heightsTaken (m .mesh .coords) heights) k (pos 0)
         → PutsLine l′ p (lineAt m z) q n → LinesPut m heights l at n q (k + 1)
     lines-next {z} {q} {n} f v =
-        let put = next-put next (subst (λ (y : ℤ). Puts l′ p (lineAt m y) q n) f (v .puts)) in
+        let put = next-put next (subst (λ (y : ℤ). PutsText l′ p (lineAt m y) q n) f (v .puts)) in
         record {
           upto = omega arith;
           lines = subst (λ (i : ℕ). Writing l at (linesOf m heights) n q (map (lineAt m) (drop i hs))) (sym (add-one k)) put;
           short = omega (arith, g .short, v .short, v .puts .ends);
         }
 
-  pub lines-end : length (heightsTaken (m .mesh .coords) heights) ≤ k → Puts l at (linesOf m heights) p l′
+  pub lines-end : length (heightsTaken (m .mesh .coords) heights) ≤ k → PutsText l at (linesOf m heights) p l′
   lines-end h = all-put (subst (λ (zs : List ℤ). Writing l at (linesOf m heights) l′ p (map (lineAt m) zs)) (drop-of-length-le hs h) (g .lines))
 
 -- ---- the first line before them
 
-pub first-room : {l : List ℕ} (count : ℕ) → count < 2 ^ 64 → mostOutput ≤ length l → HasRoom l 0 (layersLine count)
+pub first-room : {l : List ℕ} (count : ℕ) → count < 2 ^ 64 → mostOutput ≤ length l → TextRoom l 0 (layersLine count)
 first-room count s h = record { within = omega (arith, layers-short count s) }
 
-module _ {l : List ℕ} {p : ℕ} {l′ : List ℕ} (count : ℕ) (v : Puts l 0 (layersLine count) p l′) where
+module _ {l : List ℕ} {p : ℕ} {l′ : List ℕ} (count : ℕ) (v : PutsText l 0 (layersLine count) p l′) where
   pub first-put : count < 2 ^ 64 → mostOutput ≤ length l → FirstLine l′ p
   first-put s h = record { first = omega (arith, v .ends, layers-short count s); long = omega (arith, put-length v) }
 
   pub listing-put : (m : PairedMesh) (heights : List ℤ) {q : ℕ} {n : List ℕ} → count ≡ length (heightsTaken (m .mesh .coords) heights)
-      → Puts l′ p (linesOf m heights) q n → Puts l 0 (listing m heights) q n
+      → PutsText l′ p (linesOf m heights) q n → PutsText l 0 (listing m heights) q n
   unfolding listing
-  listing-put m heights e w = put-both (subst (λ (i : ℕ). Puts l 0 (layersLine i) p l′) e v) w
+  listing-put m heights e w = put-both (subst (λ (i : ℕ). PutsText l 0 (layersLine i) p l′) e v) w
 
 -- ---- the tables of a cut keep their lengths
 

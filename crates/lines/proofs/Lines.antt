@@ -8,29 +8,29 @@ use lib.IntN.{ℤ}
 use lib.Signed.{mag}
 use Rattle.mesh.specs.Refusals.{Told, refusal}
 use Rattle.decimals.specs.DecimalLaws.{decimal-word, signed-word}
-use Rattle.decimals.specs.Texts.{HasRoom, Puts}
+use Rattle.decimals.specs.Texts.{TextRoom, PutsText}
 use Rattle.decimals.specs.TextLaws.{Writing, writing, next-room, next-put, all-put}
-use Rattle.lines.specs.Lines.{refusedWords, refusedLine, layersWords, layersLine, layerWords, layerLine}
+use Rattle.lines.specs.Lines.{refusedWords, refusedLine, layersWords, layersLine, layerLineWords, layerLine}
 use Rattle.lines.specs.Steps.{mostFirst, mostLine, mostRefused}
 
 -- ---- a line goes to a position of an output l, which has room for it and is m now: those words that are left go to p
 
 pub record Words (l : List ℕ) (at : ℕ) (line m : List ℕ) (p : ℕ) (words : List (List ℕ)) : Type 0 where
-  pub room : HasRoom l at line
+  pub room : TextRoom l at line
   pub left : Writing l at line m p words
 
-words-start : {l : List ℕ} {at : ℕ} {line : List ℕ} {words : List (List ℕ)} → HasRoom l at line → line ≡ flatten words → Words l at line l at words
+words-start : {l : List ℕ} {at : ℕ} {line : List ℕ} {words : List (List ℕ)} → TextRoom l at line → line ≡ flatten words → Words l at line l at words
 words-start h e = record { room = h; left = writing (omega (arith, h .within)) e }
 
 module _ {l : List ℕ} {at : ℕ} {line m : List ℕ} {p : ℕ} where
   module _ {w : List ℕ} {ws : List (List ℕ)} (k : Words l at line m p (w ∷ ws)) where
-    pub word-room : HasRoom m p w
+    pub word-room : TextRoom m p w
     word-room = next-room (k .left) (k .room)
 
-    pub word-put : {q : ℕ} {n : List ℕ} → Puts m p w q n → Words l at line n q ws
+    pub word-put : {q : ℕ} {n : List ℕ} → PutsText m p w q n → Words l at line n q ws
     word-put v = record { room = k .room; left = next-put (k .left) v }
 
-  pub words-put : Words l at line m p [] → Puts l at line p m
+  pub words-put : Words l at line m p [] → PutsText l at line p m
   words-put k = all-put (k .left)
 
 -- ---- how long a line is: as long as its words
@@ -60,17 +60,17 @@ pub layers-short : (count : ℕ) → count < 2 ^ 64 → length (layersLine count
 unfolding layersLine
 layers-short count h = omega (arith, total-length (layersWords count), decimal-word count h)
 
-pub layers-words : {l : List ℕ} {at : ℕ} (count : ℕ) → HasRoom l at (layersLine count) → Words l at (layersLine count) l at (layersWords count)
+pub layers-words : {l : List ℕ} {at : ℕ} (count : ℕ) → TextRoom l at (layersLine count) → Words l at (layersLine count) l at (layersWords count)
 unfolding layersLine
 layers-words count h = words-start h refl
 
 pub layer-short : (h : ℤ) (j k : ℕ) (a : ℤ) → mag h < 2 ^ 63 → j < 2 ^ 64 → k < 2 ^ 64 → mag a < 2 ^ 63 → length (layerLine h j k a) ≤ mostLine
 unfolding layerLine
 layer-short h j k a eh ej ek ea =
-    omega (arith, total-length (layerWords h j k a), signed-word h eh, decimal-word j ej, decimal-word k ek, signed-word a ea)
+    omega (arith, total-length (layerLineWords h j k a), signed-word h eh, decimal-word j ej, decimal-word k ek, signed-word a ea)
 
 -- the height and the area as the calls get them
-pub layer-words : {l : List ℕ} {at : ℕ} {h g : ℤ} (j k : ℕ) {a b : ℤ} → g ≡ h → b ≡ a → HasRoom l at (layerLine h j k a)
-    → Words l at (layerLine h j k a) l at (layerWords g j k b)
+pub layer-words : {l : List ℕ} {at : ℕ} {h g : ℤ} (j k : ℕ) {a b : ℤ} → g ≡ h → b ≡ a → TextRoom l at (layerLine h j k a)
+    → Words l at (layerLine h j k a) l at (layerLineWords g j k b)
 unfolding layerLine
-layer-words j k e f r = words-start r (λ i. flatten (layerWords (sym e i) j k (sym f i)))
+layer-words j k e f r = words-start r (λ i. flatten (layerLineWords (sym e i) j k (sym f i)))

@@ -10,6 +10,7 @@ use Rattle.laws.specs.Tables.{overwrite}
 use Rattle.laws.specs.TableLaws.{overwrite-at}
 use Rattle.mesh.specs.Corners.{largest, mostPoints}
 use Rattle.mesh.specs.Meshes.{Mesh}
+use Rattle.polygons.specs.FlatLaws.{length-ends}
 use Rattle.section.specs.Contours.{namesOf, endsFrom, endsOf}
 use Rattle.section.specs.Layers.{contourAt}
 use Rattle.points.specs.Points.{pointsOf}
@@ -18,8 +19,8 @@ use Rattle.contours.specs.Areas.{pointCount, areaOf}
 use Rattle.contours.specs.AreaLaws.{sum-same, contour-run}
 use Rattle.contours.specs.Contours.{priorEnd, ownEnd, contourOf}
 use Rattle.contours.specs.ContourLaws.{contour-of, contour-is}
-use Rattle.contours.specs.Runs.{Run}
-use Rattle.lines.specs.Limits.{entries}
+use Rattle.contours.specs.Runs.{PointRun}
+use Rattle.lines.specs.Limits.{heldEntries}
 use Rattle.lines.specs.Lines.{areaSum}
 use Rattle.lines.specs.Steps.{areasIn, Summable}
 
@@ -47,11 +48,6 @@ unfolding endsFrom
 end-at k [] i h = absurd (omega arith)
 end-at k (r ∷ rs) zero h = omega (arith, length-append r [])
 end-at k (r ∷ rs) (suc i) h = omega (arith, end-at (k + length r) rs i (omega arith), length-append r (namesOf (take (suc i) rs)))
-
-length-ends : (k : ℕ) (rs : List (List ℕ)) → length (endsFrom k rs) ≡ length rs
-unfolding endsFrom
-length-ends k [] = refl
-length-ends k (r ∷ rs) = ap suc (length-ends (k + length r) rs)
 
 -- contours that have points are no more than these
 few-contours : (rs : List (List ℕ)) → ((i : ℕ) → i < length rs → 1 ≤ length (contourAt rs i)) → length rs ≤ length (namesOf rs)
@@ -136,14 +132,14 @@ module _ (m : Mesh) (h : ℤ) (rs : List (List ℕ)) (points : List ℤ) (ends :
 
     -- and a run where the points are in range and few
     pub contour-runs : length (namesOf rs) ≤ mostPoints → ((k : ℕ) → k < length all → natAbs (getD all k (pos 0)) ≤ largest)
-        → Run (contourOf pointsAfter endsAfter i)
+        → PointRun (contourOf pointsAfter endsAfter i)
     contour-runs few ranged =
         contour-run pointsAfter endsAfter i (omega (arith, own, within))
         (λ k q.
         let b : k < length all = omega (arith, own, within, length-points m h (namesOf rs)) in
         subst (λ (z : ℤ). natAbs z ≤ largest) (sym (overwrite-at all points k (pos 0) b)) (ranged k b))
 
-    pub contour-short : length (namesOf rs) ≤ entries → pointCount (contourOf pointsAfter endsAfter i) ≤ entries
+    pub contour-short : length (namesOf rs) ≤ heldEntries → pointCount (contourOf pointsAfter endsAfter i) ≤ heldEntries
     contour-short few = omega (arith, ap length contour-here ∙ length-points m h (contourAt rs i), before-next rs i l, within)
 
   -- the sum of the areas
@@ -153,7 +149,7 @@ module _ (m : Mesh) (h : ℤ) (rs : List (List ℕ)) (points : List ℤ) (ends :
       sum-same (length rs) (λ i. areaOf (contourOf pointsAfter endsAfter i)) (λ i. areaOf (pointsOf m h (contourAt rs i)))
       (λ i l. ap areaOf (contour-here i l))
 
-  pub summable : ((i : ℕ) → i < length rs → 1 ≤ length (contourAt rs i)) → length (namesOf rs) ≤ entries
+  pub summable : ((i : ℕ) → i < length rs → 1 ≤ length (contourAt rs i)) → length (namesOf rs) ≤ heldEntries
       → ((k : ℕ) → k < length all → natAbs (getD all k (pos 0)) ≤ largest)
       → Summable pointsAfter endsAfter (length rs)
   summable some few ranged =

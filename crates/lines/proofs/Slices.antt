@@ -30,8 +30,8 @@ use Rattle.cutter.specs.CutLaws.{one-each}
 use Rattle.cutter.specs.OutlineLaws.{used-fine}
 use Rattle.cutter.specs.Outlines.{Traces}
 use Rattle.cutter.specs.SolidLaws.{crossing-climbs}
-use Rattle.decimals.specs.Texts.{HasRoom, Puts}
-use Rattle.lines.specs.Limits.{entries}
+use Rattle.decimals.specs.Texts.{TextRoom, PutsText}
+use Rattle.lines.specs.Limits.{heldEntries}
 use Rattle.lines.specs.Lines.{layerLine, areaSum, lineOf, lineAt}
 use Rattle.lines.specs.Steps.{areasIn, Summable, mostLine, PutsLine}
 use Rattle.lines.proofs.Lines.{layer-short}
@@ -40,9 +40,9 @@ use Rattle.lines.proofs.Places.{areas-here, summable}
 same-sums : {p q : List ℤ} {d e : List ℕ} {j n : ℕ} → p ≡ q → d ≡ e → j ≡ n → Summable q e n → Summable p d j
 same-sums a b c s = rw (a, b, c) s
 
-module _ {m : PairedMesh} {h : ℤ} {t t′ : CutTables} {result : Sliced} (right : Right m) (few : length (m .mesh .corners) ≤ entries)
+module _ {m : PairedMesh} {h : ℤ} {t t′ : CutTables} {result : Sliced} (right : Right m) (few : length (m .mesh .corners) ≤ heldEntries)
     (d : Traces (section m h) (m .mesh) h t result t′) where
-  all : (rs : List (List ℕ)) × ((section m h ≡ contours rs) × layers.Layer (below (m .mesh .coords) h) (m .mesh .corners) (m .pairing) rs)
+  all : (rs : List (List ℕ)) × ((section m h ≡ contours rs) × layers.LayerContours (below (m .mesh .coords) h) (m .mesh .corners) (m .pairing) rs)
   all = trace-layer (below (m .mesh .coords) h) (m .mesh .corners) (m .pairing) (right .linked)
 
   abbrev rs : List (List ℕ)
@@ -94,7 +94,7 @@ module _ {m : PairedMesh} {h : ℤ} {t t′ : CutTables} {result : Sliced} (righ
 
     -- and this line is written
     pub line-put : {a : ℤ} {output : List ℕ} {at end : ℕ} {output′ : List ℕ} → a ≡ areasIn (t′ .points) (t′ .ends) j
-        → length (layerLine h j k a) ≤ mostLine → Puts output at (layerLine h j k a) end output′ → PutsLine output at (lineAt m h) end output′
+        → length (layerLine h j k a) ≤ mostLine → PutsText output at (layerLine h j k a) end output′ → PutsLine output at (lineAt m h) end output′
     line-put {a} {output} {at} {end} {output′} f s v =
         subst (λ (l : List ℕ). PutsLine output at l end output′) (line-is f) (record { puts = v; short = s })
 
@@ -111,5 +111,5 @@ line-fits h j k a fits ej ek ea =
     let f : toZ w64 (ofZ w64 a) ≡ a = same w64 a ea in
     layer-short (toZ w32 (ofZ w32 h)) j k (toZ w64 (ofZ w64 a)) (rw e (omega (arith, fits .sfits))) ej ek (rw f ea)
 
-pub line-room : {output : List ℕ} {at : ℕ} (line : List ℕ) → length line ≤ mostLine → at + mostLine ≤ length output → HasRoom output at line
+pub line-room : {output : List ℕ} {at : ℕ} (line : List ℕ) → length line ≤ mostLine → at + mostLine ≤ length output → TextRoom output at line
 line-room line s h = record { within = omega arith }

@@ -16,8 +16,8 @@ use Rattle.contours.specs.declared.Measured.the-variants.{Area, Refused as Turn
 use Rattle.contours.specs.Areas.{pointCount, crossOf, nextPoint, sumOf, areaOf, Measures}
 use Rattle.contours.specs.AreaLaws.{sum-bound, cross-bound, run-measured, area-is}
 use Rattle.contours.specs.Contours.{contourOf}
-use Rattle.contours.specs.Runs.{largestCross, Run}
-use Rattle.lines.specs.Limits.{entries}
+use Rattle.contours.specs.Runs.{largestCross, PointRun}
+use Rattle.lines.specs.Limits.{heldEntries}
 use Rattle.lines.specs.Steps.{areasIn, Summable}
 
 -- ---- one contour
@@ -27,15 +27,15 @@ module _ {points run : List ℤ} {result : Measured} (d : Measures run result) (
   pub measured-area : {a : ℤ} → result ≡ Area a → a ≡ areaOf points
   measured-area {a} f = area-is d a f ∙ ap areaOf e
 
-  pub never-refused : {r : Refusal} → Run points → result ≡ Turned r → ⊥
+  pub never-refused : {r : Refusal} → PointRun points → result ≡ Turned r → ⊥
   never-refused {r} runs f =
-      let g : Turned r ≡ Area (areaOf run) = sym f ∙ run-measured d (subst Run (sym e) runs) in
+      let g : Turned r ≡ Area (areaOf run) = sym f ∙ run-measured d (subst PointRun (sym e) runs) in
       let z : _≡_ {A = ℕ} 0 1 = cc in omega arith
 
 -- ---- the sum
 
 -- the area of a run of few points
-area-most : (points : List ℤ) → Run points → pointCount points ≤ entries → natAbs (areaOf points) ≤ entries * largestCross
+area-most : (points : List ℤ) → PointRun points → pointCount points ≤ heldEntries → natAbs (areaOf points) ≤ heldEntries * largestCross
 unfolding areaOf
 area-most points r h =
     let n = pointCount points in
@@ -52,20 +52,20 @@ unfolding areasIn sumOf
 summed-start = record { upto = omega arith; is = refl }
 
 module _ {points : List ℤ} {ends : List ℕ} {j : ℕ} (s : Summable points ends j) where
-  sum-most : (i : ℕ) → i ≤ j → natAbs (areasIn points ends i) ≤ entries * (entries * largestCross)
+  sum-most : (i : ℕ) → i ≤ j → natAbs (areasIn points ends i) ≤ heldEntries * (heldEntries * largestCross)
   unfolding areasIn
   sum-most i h =
-      let m : i ≤ entries = omega (arith, s .few) in
+      let m : i ≤ heldEntries = omega (arith, s .few) in
       le-trans
-      (sum-bound i (entries * largestCross) (λ k. areaOf (contourOf points ends k))
+      (sum-bound i (heldEntries * largestCross) (λ k. areaOf (contourOf points ends k))
       (λ k l. area-most (contourOf points ends k) (s .each k (omega arith)) (s .short k (omega arith))))
-      (mul-le-mul-right (entries * largestCross) m)
+      (mul-le-mul-right (heldEntries * largestCross) m)
 
   module _ {sum i : ℕ} (w : Summed points ends j sum i) (h : i < j) (a : ℤ) (fits : mag a < 2 ^ 63) (e : a ≡ areaOf (contourOf points ends i)) where
-    abbrev before : Rd w64 (areasIn points ends i) (entries * (entries * largestCross))
+    abbrev before : Rd w64 (areasIn points ends i) (heldEntries * (heldEntries * largestCross))
     before = record { n = sum; is = w .is; le = sum-most i (w .upto) }
 
-    abbrev this : Rd w64 (areaOf (contourOf points ends i)) (entries * largestCross)
+    abbrev this : Rd w64 (areaOf (contourOf points ends i)) (heldEntries * largestCross)
     this = got fits e (area-most (contourOf points ends i) (s .each i h) (s .short i h))
 
     pub sum-fits : SFits w64 (toZ w64 sum +ℤ toZ w64 (ofZ w64 a))

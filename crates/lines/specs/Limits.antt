@@ -16,8 +16,8 @@ abbrev pub mostInput : ℕ
 mostInput = 8192
 
 -- the entries of its tables
-abbrev pub entries : ℕ
-entries = 768
+abbrev pub heldEntries : ℕ
+heldEntries = 768
 
 -- an output of so many bytes always has room: 28 for the first line and 92 for each of 256 others
 abbrev pub mostOutput : ℕ

@@ -46,12 +46,12 @@ unfoldable pub layersLine : ℕ → List ℕ
 layersLine count = flatten (layersWords count)
 
 -- "height, contours, points, sum of doubled areas"
-abbrev pub layerWords : ℤ → ℕ → ℕ → ℤ → List (List ℕ)
-layerWords h contours points area =
+abbrev pub layerLineWords : ℤ → ℕ → ℕ → ℤ → List (List ℕ)
+layerLineWords h contours points area =
     layerWord ∷ signedDecimal h ∷ space ∷ decimal contours ∷ space ∷ decimal points ∷ space ∷ signedDecimal area ∷ lineEnd ∷ []
 
 unfoldable pub layerLine : ℤ → ℕ → ℕ → ℤ → List ℕ
-layerLine h contours points area = flatten (layerWords h contours points area)
+layerLine h contours points area = flatten (layerLineWords h contours points area)
 
 -- ---- the layers
 

@@ -8,12 +8,12 @@ use Rattle.mesh.specs.Meshes.{PairedMesh}
 use Rattle.section.specs.Section.{Right}
 use Rattle.contours.specs.Areas.{pointCount, sumOf, areaOf}
 use Rattle.contours.specs.Contours.{contourOf}
-use Rattle.contours.specs.Runs.{Run}
+use Rattle.contours.specs.Runs.{PointRun}
 use Rattle.cutter.specs.Cut.{Lengths}
 use Rattle.cutter.specs.Outlines.{Long}
 use Rattle.heights.specs.Heights.{heightsTaken}
-use Rattle.decimals.specs.Texts.{Puts}
-use Rattle.lines.specs.Limits.{heldHeights, entries, mostOutput}
+use Rattle.decimals.specs.Texts.{PutsText}
+use Rattle.lines.specs.Limits.{heldHeights, heldEntries, mostOutput}
 
 -- ---- how many bytes a first line, another line and the line of a refusal take at most
 
@@ -34,18 +34,18 @@ areasIn points ends j = sumOf j (λ i. areaOf (contourOf points ends i))
 
 -- these contours are few, and each is a run of few points in range
 pub record Summable (points : List ℤ) (ends : List ℕ) (j : ℕ) : Type 0 where
-  pub few : j ≤ entries
-  pub each : (i : ℕ) → i < j → Run (contourOf points ends i)
-  pub short : (i : ℕ) → i < j → pointCount (contourOf points ends i) ≤ entries
+  pub few : j ≤ heldEntries
+  pub each : (i : ℕ) → i < j → PointRun (contourOf points ends i)
+  pub short : (i : ℕ) → i < j → pointCount (contourOf points ends i) ≤ heldEntries
 
 -- a mesh of n corners is small, and tables of these lengths have room for its layers
 pub record Workable (n : ℕ) (l : Lengths) : Type 0 where
-  pub few : n ≤ entries
+  pub few : n ≤ heldEntries
   pub long : Long n l
 
 -- a line is written, and is not long
 pub record PutsLine (output : List ℕ) (at : ℕ) (line : List ℕ) (end : ℕ) (output′ : List ℕ) : Type 0 where
-  pub puts : Puts output at line end output′
+  pub puts : PutsText output at line end output′
   pub short : length line ≤ mostLine
 
 -- ---- all layers

@@ -8,8 +8,8 @@ ghost use Rattle.section.specs.Section.{Right};
 ghost use Rattle.cutter.specs.Cut.{lent, lengthsOf};
 ghost use Rattle.contours.specs.Areas.{areaOf};
 ghost use Rattle.contours.specs.Contours.{contourOf};
-ghost use Rattle.contours.specs.Runs.{Run};
-ghost use Rattle.decimals.specs.Texts.{HasRoom, Puts};
+ghost use Rattle.contours.specs.Runs.{PointRun};
+ghost use Rattle.decimals.specs.Texts.{TextRoom, PutsText};
 ghost use Rattle.lines.specs.Limits.{mostOutput};
 ghost use Rattle.lines.specs.Lines.{refusedLine, layersLine, layerLine, lineAt, linesOf, listing};
 ghost use Rattle.lines.specs.Steps.{mostLine, mostRefused, areasIn, Summable, Workable, PutsLine, Listable, FirstLine};
@@ -31,7 +31,7 @@ use mesh::Refusal;
 // Writes the line of a refusal, and returns its length. All after it stays.
 pub fn write_refusal(output: &mut [u8], r: Refusal) -> usize
     requires { ⌜ mostRefused ≤ length (now output) ⌝ }
-    ensures { λ e. ⌜ Puts (output .entry .now) 0 (refusedLine (toldOf r)) e (output .exit .now) ⌝ }
+    ensures { λ e. ⌜ PutsText (output .entry .now) 0 (refusedLine (toldOf r)) e (output .exit .now) ⌝ }
 {
     let n = number(r) as u64;
     let p = place(r) as u64;
@@ -44,8 +44,8 @@ pub fn write_refusal(output: &mut [u8], r: Refusal) -> usize
 
 // Writes the first line at a position, and returns the position after it. All before and after stays, here and below.
 fn write_layers_line(output: &mut [u8], at: usize, count: usize) -> usize
-    requires { ⌜ HasRoom (now output) at (layersLine count) ⌝ }
-    ensures { λ r. ⌜ Puts (output .entry .now) at (layersLine count) r (output .exit .now) ⌝ }
+    requires { ⌜ TextRoom (now output) at (layersLine count) ⌝ }
+    ensures { λ r. ⌜ PutsText (output .entry .now) at (layersLine count) r (output .exit .now) ⌝ }
 {
     let a = write_text(output, at, b"layers ");
     let b = write_decimal(output, a, count as u64);
@@ -61,8 +61,8 @@ fn write_layer_line(
     points: usize,
     area: i64,
 ) -> usize
-    requires { ⌜ HasRoom (now output) at (layerLine h contours points area) ⌝ }
-    ensures { λ r. ⌜ Puts (output .entry .now) at (layerLine h contours points area) r (output .exit .now) ⌝ }
+    requires { ⌜ TextRoom (now output) at (layerLine h contours points area) ⌝ }
+    ensures { λ r. ⌜ PutsText (output .entry .now) at (layerLine h contours points area) r (output .exit .now) ⌝ }
 {
     let a = write_text(output, at, b"layer ");
     let b = write_signed(output, a, h as i64);
@@ -77,7 +77,7 @@ fn write_layer_line(
 
 // The area of contour j.
 fn contour_area(points: &[i32], ends: &[u32], j: usize) -> i64
-    requires { ⌜ Run (contourOf (now points) (now ends) j) ⌝ }
+    requires { ⌜ PointRun (contourOf (now points) (now ends) j) ⌝ }
     ensures { λ r. ⌜ r ≡ areaOf (contourOf (points .entry .now) (ends .entry .now) j) ⌝ }
 {
     let a = area(contour(points, ends, j));
@@ -146,7 +146,7 @@ fn list_lines(
     requires { ⌜ Listable (paired (now coords) (now corners) (now pairing)) (now heights) ⌝
         ∗ ⌜ Workable (length (now corners)) (lengthsOf (lent (now names) (now points) (now ends) (now marks))) ⌝
         ∗ ⌜ FirstLine (now output) at ⌝ }
-    ensures { λ r. ⌜ Puts (output .entry .now) at
+    ensures { λ r. ⌜ PutsText (output .entry .now) at
         (linesOf (paired (coords .entry .now) (corners .entry .now) (pairing .entry .now)) (heights .entry .now)) r (output .exit .now) ⌝ }
 {
     let n = taken_count(coords, heights);
@@ -187,7 +187,7 @@ pub fn list_layers(
     requires { ⌜ Listable (paired (now coords) (now corners) (now pairing)) (now heights) ⌝
         ∗ ⌜ Workable (length (now corners)) (lengthsOf (lent (now names) (now points) (now ends) (now marks))) ⌝
         ∗ ⌜ mostOutput ≤ length (now output) ⌝ }
-    ensures { λ r. ⌜ Puts (output .entry .now) 0
+    ensures { λ r. ⌜ PutsText (output .entry .now) 0
         (listing (paired (coords .entry .now) (corners .entry .now) (pairing .entry .now)) (heights .entry .now)) r (output .exit .now) ⌝ }
 {
     let n = taken_count(coords, heights);

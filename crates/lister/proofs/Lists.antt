@@ -12,15 +12,15 @@ use Rattle.laws.specs.TableLaws.{overwrite-none, overwrite-more}
 use Rattle.mesh.specs.Operation.{gives}
 use Rattle.mesh.specs.OperationLaws.{whole-refused, whole-fine, verdict-one, after-fine, after-kept, does-refuse, does-give}
 use Rattle.cutter.specs.Cut.{Lengths}
-use Rattle.decimals.specs.Texts.{Puts}
-use Rattle.lines.specs.Limits.{entries, mostOutput}
+use Rattle.decimals.specs.Texts.{PutsText}
+use Rattle.lines.specs.Limits.{heldEntries, mostOutput}
 use Rattle.lister.specs.declared.Listed.the-variants.{Length, Short}
 use Rattle.lister.specs.Listing.{listed, shortList, Lists}
-use Rattle.lister.specs.Steps.{ListTables}
+use Rattle.lister.specs.Steps.{ListingTables}
 
 -- tables of these lengths are long enough
-pub zeros-held : {pairing order : ℕ} {l : Lengths} → pairing ≡ entries → order ≡ entries → l .names ≡ entries → l .points ≡ 2 * entries → l .ends ≡ entries
-    → l .marks ≡ entries → ListTables pairing order l
+pub zeros-held : {pairing order : ℕ} {l : Lengths} → pairing ≡ heldEntries → order ≡ heldEntries → l .names ≡ heldEntries → l .points ≡ 2 * heldEntries
+    → l .ends ≡ heldEntries → l .marks ≡ heldEntries → ListingTables pairing order l
 zeros-held a b c d e f =
     record {
       pairing-size = a;
@@ -29,7 +29,7 @@ zeros-held a b c d e f =
     }
 
 -- a text at the front of an output
-front : {text output : List ℕ} {n : ℕ} {output′ : List ℕ} → Puts output 0 text n output′ → output′ ≡ overwrite text output
+front : {text output : List ℕ} {n : ℕ} {output′ : List ℕ} → PutsText output 0 text n output′ → output′ ≡ overwrite text output
 front {text} {output} v =
     v .is ∙ ap (λ (l : List ℕ). sets l 0 text) (sym (overwrite-none output))
     ∙ overwrite-more text [] output 0 refl (omega (arith, v .within, v .ends))
@@ -40,7 +40,7 @@ module _ {input output : List ℕ} where
       does-refuse (whole-refused (λ i. tt) _ (lt-ltb (length output) mostOutput h) ∙ verdict-one (shortList output)) refl refl
       (after-kept (λ r. false) (listed input) 0 0 output tt refl)
 
-  pub written : {n : ℕ} {output′ : List ℕ} → mostOutput ≤ length output → Puts output 0 (listed input) n output′ → Lists input output (Length n) output′
+  pub written : {n : ℕ} {output′ : List ℕ} → mostOutput ≤ length output → PutsText output 0 (listed input) n output′ → Lists input output (Length n) output′
   written {n} h v =
       let size : n ≡ length (listed input) = omega (arith, v .ends) in
       does-give (whole-fine (λ i. tt) _ (le-ltb (length output) mostOutput h) ∙ verdict-one (shortList output)) refl (ap gives size)

@@ -20,19 +20,19 @@ use Rattle.mesh.specs.Refusals.{Told, refusal, numbered}
 use Rattle.mesh.specs.Tests.{pairs}
 use Rattle.pairing.specs.Partners.{partnerOf, pairingOf}
 use Rattle.checker.specs.declared.Checked.{Checked}
-use Rattle.checker.specs.Check.{CheckTables, tests, edgeTests, checking, tellCheck, Checks}
+use Rattle.checker.specs.Check.{CheckTables, checkTests, edgeTests, checking, tellCheck, Checks}
 use Rattle.checker.specs.CheckLaws.{pairing-right}
 use Rattle.section.specs.Section.{Right}
 use Rattle.section.specs.RightLaws.{right-of}
 use Rattle.cutter.specs.Cut.{Lengths}
 use Rattle.formats.specs.PartFile.{Part}
 use Rattle.heights.specs.Heights.{heightsTaken, fallingHeight}
-use Rattle.decimals.specs.Texts.{Puts}
-use Rattle.lines.specs.Limits.{heldVertices, heldTriangles, heldHeights, entries}
+use Rattle.decimals.specs.Texts.{PutsText}
+use Rattle.lines.specs.Limits.{heldVertices, heldTriangles, heldHeights, heldEntries}
 use Rattle.lines.specs.Lines.{refusedLine, listing}
 use Rattle.lines.specs.Steps.{Workable, Listable}
 use Rattle.lister.specs.Listing.{partMesh, pairedPart, beyond, limits, checks, partRefusals, bytesOf}
-use Rattle.lister.specs.Steps.{ListTables, PartTested, partListed}
+use Rattle.lister.specs.Steps.{ListingTables, PartTested, partListed}
 
 pub front-length : {A : Type 0} (n : ℕ) (t : List A) → n ≤ length t → n ≡ length (take n t)
 front-length n t h = omega (arith, length-take n t)
@@ -82,9 +82,9 @@ module _ (p : Part) where
   limit-stop e = record { is = verdict-stop (limits p) _ (whole-refused (refusal 1) (beyond p) e) refl; pairs = apart }
 
   module _ {t t′ : CheckTables} {result : Checked} (e : beyond p ≡ false) (k : Checks (partMesh p) t result t′)
-      (lp : length (t .pairing) ≡ entries) (lo : length (t .order) ≡ entries) where
+      (lp : length (t .pairing) ≡ heldEntries) (lo : length (t .order) ≡ heldEntries) where
     same : verdict (checking (partMesh p, t) .refusals) ≡ verdict (checks p)
-    same = λ i. verdict (tests (partMesh p) (lp i) (lo i) ++ edgeTests (p .corners))
+    same = λ i. verdict (checkTests (partMesh p) (lp i) (lo i) ++ edgeTests (p .corners))
 
     pub check-stop : {r : Told} → tellCheck result ≡ refuses r → PartTested p (t .pairing) (refuses r) (t′ .pairing)
     check-stop {r} g =
@@ -123,7 +123,7 @@ module _ (p : Part) where
     -- it can be listed
     pub record ListablePart : Type 0 where
       pub listable : Listable (paired (p .coords) (p .corners) (take (length (p .corners)) pairing′)) (p .heights)
-      pub few : length (p .corners) ≤ entries
+      pub few : length (p .corners) ≤ heldEntries
 
     go : None (partRefusals p) → ListablePart
     unfolding pairingOf
@@ -141,11 +141,11 @@ module _ (p : Part) where
     pub listable-part : ListablePart
     listable-part = go (fine-none (partRefusals p) (sym (t .is) ∙ nothing))
 
-    pub pairing-room : length pairing′ ≡ length pairing → length pairing ≡ entries → length (p .corners) ≤ length pairing′
+    pub pairing-room : length pairing′ ≡ length pairing → length pairing ≡ heldEntries → length (p .corners) ≤ length pairing′
     pairing-room e g = omega (arith, listable-part .few)
 
     -- the tables have room
-    pub workable : {order n : ℕ} {l : Lengths} → ListTables n order l → Workable (length (p .corners)) l
+    pub workable : {order n : ℕ} {l : Lengths} → ListingTables n order l → Workable (length (p .corners)) l
     workable s =
         let few = listable-part .few in
         let long = s .long in
@@ -160,13 +160,13 @@ module _ (p : Part) where
         }
 
     pub put-listing : {l : List ℕ} {e : ℕ} {m : List ℕ}
-        → Puts l 0 (listing (paired (p .coords) (p .corners) (take (length (p .corners)) pairing′)) (p .heights)) e m → Puts l 0 (partListed p) e m
+        → PutsText l 0 (listing (paired (p .coords) (p .corners) (take (length (p .corners)) pairing′)) (p .heights)) e m → PutsText l 0 (partListed p) e m
     unfolding partListed
     put-listing {l} {e} {m} w =
-        subst (λ (u : List ℕ). Puts l 0 u e m)
+        subst (λ (u : List ℕ). PutsText l 0 u e m)
         ((λ i. listing (paired (p .coords) (p .corners) (front i)) (p .heights)) ∙ ap bytesOf (then-fine (sym (t .is) ∙ nothing))) w
 
   pub put-refusal : {pairing : List ℕ} {f : Finding Told} {pairing′ : List ℕ} {r : Told} {l : List ℕ} {e : ℕ} {m : List ℕ} → PartTested p pairing f pairing′
-      → f ≡ refuses r → Puts l 0 (refusedLine r) e m → Puts l 0 (partListed p) e m
+      → f ≡ refuses r → PutsText l 0 (refusedLine r) e m → PutsText l 0 (partListed p) e m
   unfolding partListed
-  put-refusal {l = l} {e = e} {m = m} t g w = subst (λ (u : List ℕ). Puts l 0 u e m) (ap bytesOf (then-refused _ (sym (t .is) ∙ g))) w
+  put-refusal {l = l} {e = e} {m = m} t g w = subst (λ (u : List ℕ). PutsText l 0 u e m) (ap bytesOf (then-refused _ (sym (t .is) ∙ g))) w

@@ -28,8 +28,8 @@ use Rattle.parts.specs.Parts.{part, PartSizes, partSizesOf, partRoom, partIn, p
 use Rattle.parts.specs.PartLaws.{room-of, broken-inside, broken-verdict, held-part, short-verdict, fine-verdict, read-written}
 use Rattle.heights.specs.Heights.{heightsTaken}
 use Rattle.heights.specs.HeightLaws.{taken-given}
-use Rattle.decimals.specs.Texts.{Puts}
-use Rattle.lines.specs.Limits.{mostInput, entries}
+use Rattle.decimals.specs.Texts.{PutsText}
+use Rattle.lines.specs.Limits.{mostInput, heldEntries}
 use Rattle.lines.specs.Lines.{refusedLine, listing}
 use Rattle.lister.specs.Listing.{pairedPart, beyond, longInput, limits, partRefusals, refusalsOf, bytesOf, listed}
 use Rattle.lister.specs.Steps.{heldSizes, frontOf, PartRead, partListed, limited, Takes}
@@ -48,7 +48,7 @@ opens input h = whole-fine (refusal 1) _ (le-ltb mostInput (length input) h)
 
 -- ---- a part that has no room is beyond the limits
 
-few-heights : (coords heights : List ℤ) → length (heightsTaken coords heights) ≤ entries → length heights ≤ entries
+few-heights : (coords heights : List ℤ) → length (heightsTaken coords heights) ≤ heldEntries → length heights ≤ heldEntries
 few-heights coords heights h = ⊎-elim (λ l. omega (arith, ap length (taken-given coords heights l))) (λ l. omega arith) (split-lt 0 (length heights))
 
 no-room : (p : Part) → PartRules p → partRoom (partSizesOf p) heldSizes ≡ false → beyond p ≡ true
@@ -133,16 +133,16 @@ unfolding Takes
 part-read input result tables k e = subst (λ (a : Taken). Takes input a tables) e k
 
 pub put-part : {input : List ℕ} {v t n : ℕ} {tables : Part} {l : List ℕ} {end : ℕ} {m : List ℕ} → PartRead input v t n tables
-    → Puts l 0 (partListed (frontOf v t n tables)) end m → Puts l 0 (listed input) end m
+    → PutsText l 0 (partListed (frontOf v t n tables)) end m → PutsText l 0 (listed input) end m
 unfolding listed partListed
 put-part {input} {l = l} {end = end} {m = m} r w =
     let p : Part = partIn input in
     let all = join-next (longInput input ∷ form input (partOf input) ∷ []) (partRefusals p) refl (r .opens) refl in
-    subst (λ (a : List ℕ). Puts l 0 a end m) (ap partListed (r .is) ∙ (λ i. bytesOf (all i then gives (listing (pairedPart p) (p .heights))))) w
+    subst (λ (a : List ℕ). PutsText l 0 a end m) (ap partListed (r .is) ∙ (λ i. bytesOf (all i then gives (listing (pairedPart p) (p .heights))))) w
 
 pub put-stop : (input : List ℕ) (result : Taken) (tables : Part) → Takes input result tables → {r : Refusal} {l : List ℕ} {end : ℕ} {m : List ℕ}
-    → result ≡ Stopped r → Puts l 0 (refusedLine (toldOf r)) end m → Puts l 0 (listed input) end m
+    → result ≡ Stopped r → PutsText l 0 (refusedLine (toldOf r)) end m → PutsText l 0 (listed input) end m
 unfolding Takes listed
 put-stop input result tables k {r} {l} {end} {m} e w =
     let said : verdict (refusalsOf input) ≡ refuses (toldOf r) = subst (λ (a : Taken). Takes input a tables) e k in
-    subst (λ (a : List ℕ). Puts l 0 a end m) (ap bytesOf (then-refused _ said)) w
+    subst (λ (a : List ℕ). PutsText l 0 a end m) (ap bytesOf (then-refused _ said)) w

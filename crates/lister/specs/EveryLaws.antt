@@ -17,7 +17,7 @@ use Rattle.mesh.specs.OperationLaws.{None, more, done, Nowhere, none-fine, fine
 use Rattle.mesh.specs.OrderTableLaws.{ordered-rank}
 use Rattle.mesh.specs.Refusals.{Told}
 use Rattle.mesh.specs.Tests.{size, range, vertex, triangle, pairs, orders}
-use Rattle.checker.specs.Check.{CheckTables, checkTables, roomFor, tests, edgeTests, checking, Checks}
+use Rattle.checker.specs.Check.{CheckTables, checkTables, checkRoomFor, checkTests, edgeTests, checking, Checks}
 use Rattle.checker.specs.CheckLaws.{Promise, promise}
 use Rattle.checker.specs.declared.Checked.the-variants.{Accepted}
 use Rattle.section.specs.Section.{Right}
@@ -31,14 +31,14 @@ use Rattle.formats.specs.LayerFile.{mostLayers}
 use Rattle.formats.specs.PartFile.{Part, partOf}
 use Rattle.formats.specs.WholeFiles.{form}
 use Rattle.parts.specs.Parts.{partIn}
-use Rattle.lines.specs.Limits.{heldVertices, heldTriangles, heldHeights, entries}
+use Rattle.lines.specs.Limits.{heldVertices, heldTriangles, heldHeights, heldEntries}
 use Rattle.lister.specs.Listing.{partMesh, longInput, beyond, limits, checks, refusalsOf}
 
 -- ---- every refusal
 
 -- the tables that the check leaves, of so many zeros
 abbrev pub zeros : List ℕ
-zeros = replicate entries 0
+zeros = replicate heldEntries 0
 
 abbrev pub checkedTables : Part → CheckTables
 checkedTables p = leftBy (checking (partMesh p, checkTables zeros zeros))
@@ -49,7 +49,7 @@ checkedPart p = ordered (p .coords) (p .corners) (checkedTables p .pairing) (che
 -- the refusals of All layers but 14, with these tables and work tables of so many entries
 abbrev pub layersBut14 : Part → List (Condition Told)
 layersBut14 p =
-    layersTests (checkedPart p) (p .heights) (lengths entries (2 * entries) entries entries) entries
+    layersTests (checkedPart p) (p .heights) (lengths heldEntries (2 * heldEntries) heldEntries heldEntries) heldEntries
     ++ map usedAt (climbed (checkedPart p) zeros (heightsTaken (p .coords) (p .heights)))
 
 -- "Input size comes first, then 13, these limits, the check, and the refusals of All layers but 14"
@@ -69,11 +69,11 @@ module _ (p : Part) (l : Nowhere (limits p)) (c : None (checks p)) where
   abbrev hs : List ℤ
   hs = heightsTaken (p .coords) (p .heights)
 
-  sized : length zeros ≡ entries
-  sized = length-replicate {A = ℕ} entries 0
+  sized : length zeros ≡ heldEntries
+  sized = length-replicate {A = ℕ} heldEntries 0
 
   passes : verdict (checking (partMesh p, checkTables zeros zeros) .refusals) ≡ fine
-  passes = (λ i. verdict (tests (partMesh p) (sized i) (sized i) ++ edgeTests (p .corners))) ∙ none-fine (checks p) c
+  passes = (λ i. verdict (checkTests (partMesh p) (sized i) (sized i) ++ edgeTests (p .corners))) ∙ none-fine (checks p) c
 
   checked : Checks (partMesh p) (checkTables zeros zeros) Accepted (checkedTables p)
   checked = record { answers = then-fine passes; leaves = refl }
@@ -81,11 +81,11 @@ module _ (p : Part) (l : Nowhere (limits p)) (c : None (checks p)) where
   promised : Promise checked
   promised = promise checked refl
 
-  sizes : (length (p .corners) ≤ entries) × (vertexCount (p .coords) ≤ entries)
-  unfolding roomFor
+  sizes : (length (p .corners) ≤ heldEntries) × (vertexCount (p .coords) ≤ heldEntries)
+  unfolding checkRoomFor
   sizes = go c
     where
-      go : None (checks p) → (length (p .corners) ≤ entries) × (vertexCount (p .coords) ≤ entries)
+      go : None (checks p) → (length (p .corners) ≤ heldEntries) × (vertexCount (p .coords) ≤ heldEntries)
       go (more s (more m rest)) =
           let r = and-parts _ _ (not-false _ (m 0 (omega arith))) in
           (leb-true _ _ (r .0), leb-true _ _ (r .1))
@@ -115,19 +115,19 @@ module _ (p : Part) (l : Nowhere (limits p)) (c : None (checks p)) where
       used-never (checkedPart p) zeros right (λ i h. ordered-rank (p .coords) (checkedTables p .order) i (not-false _ (ordered-right i h)) h)
       (omega (arith, sizes .0, sized)) hs (nowhere-rising hs (fine-nowhere (fallingHeight hs) e))
 
-  room-there : workRoomFor (length (p .corners)) (lengths entries (2 * entries) entries entries) entries ≡ true
+  room-there : workRoomFor (length (p .corners)) (lengths heldEntries (2 * heldEntries) heldEntries heldEntries) heldEntries ≡ true
   unfolding workRoomFor cutRoom
   room-there =
       let z = sizes .0 in
-      let one = le-leb (length (p .corners)) entries z in
-      and-of (and-of (and-of (and-of one (le-leb (2 * length (p .corners)) (2 * entries) (omega arith))) one) one) one
+      let one = le-leb (length (p .corners)) heldEntries z in
+      and-of (and-of (and-of (and-of one (le-leb (2 * length (p .corners)) (2 * heldEntries) (omega arith))) one) one) one
 
   -- the refusals of All layers before 12
   abbrev sooner : List (Condition Told)
   sooner =
       size (partMesh p)
       ∷ tooManyHeights (p .coords) (p .heights)
-      ∷ workRoom (length (p .corners)) (lengths entries (2 * entries) entries entries) entries
+      ∷ workRoom (length (p .corners)) (lengths heldEntries (2 * heldEntries) heldEntries heldEntries) heldEntries
       ∷ range (p .coords)
       ∷ vertex (vertexCount (p .coords)) (p .corners)
       ∷ triangle (p .corners)

@@ -9,12 +9,12 @@ use Rattle.mesh.specs.Meshes.{Mesh, mesh, PairedMesh, paired}
 use Rattle.mesh.specs.Operation.{Answer, gives, refuses, Condition, whole, after, Operation, answerOf, Does}
 use Rattle.mesh.specs.Refusals.{Told, refusal}
 use Rattle.pairing.specs.Partners.{pairingOf}
-use Rattle.checker.specs.Check.{tests, edgeTests}
+use Rattle.checker.specs.Check.{checkTests, edgeTests}
 use Rattle.formats.specs.PartFile.{Part, partOf}
 use Rattle.formats.specs.WholeFiles.{form}
 use Rattle.parts.specs.Parts.{partIn}
 use Rattle.heights.specs.Heights.{heightsTaken, fallingHeight}
-use Rattle.lines.specs.Limits.{heldVertices, heldTriangles, heldHeights, mostInput, entries, mostOutput}
+use Rattle.lines.specs.Limits.{heldVertices, heldTriangles, heldHeights, mostInput, heldEntries, mostOutput}
 use Rattle.lines.specs.Lines.{refusedLine, listing}
 use Rattle.lister.specs.declared.Listed.{Listed}
 use Rattle.lister.specs.declared.Listed.the-variants.{Length, Short}
@@ -45,7 +45,7 @@ limits p = whole (refusal 1) (beyond p)
 
 -- the check, into two tables of so many entries
 abbrev pub checks : Part → List (Condition Told)
-checks p = tests (partMesh p) entries entries ++ edgeTests (p .corners)
+checks p = checkTests (partMesh p) heldEntries heldEntries ++ edgeTests (p .corners)
 
 -- of the refusals of All layers 12 is left: the limits rule out 1, the tables 9, and a mesh that Check accepts 2, 3, 4, 7, 8 and 16 (EveryLaws)
 abbrev pub partRefusals : Part → List (Condition Told)

@@ -14,7 +14,7 @@ use Rattle.cutter.specs.Outlines.{Long}
 use Rattle.formats.specs.PartFile.{Part, partOf}
 use Rattle.formats.specs.WholeFiles.{form}
 use Rattle.parts.specs.Parts.{part, PartSizes, partSizes, partIn}
-use Rattle.lines.specs.Limits.{entries}
+use Rattle.lines.specs.Limits.{heldEntries}
 use Rattle.lines.specs.Lines.{listing}
 use Rattle.lister.specs.Listing.{pairedPart, longInput, partRefusals, refusalsOf, bytesOf}
 use Rattle.lister.specs.declared.internal.Taken.{Taken}
@@ -24,13 +24,13 @@ use Rattle.lister.specs.declared.internal.Taken.the-variants.{Counts, Re
 
 -- the entries of those that a part is read into
 abbrev pub heldSizes : PartSizes
-heldSizes = partSizes entries entries entries
+heldSizes = partSizes heldEntries heldEntries heldEntries
 
 -- those of Check have so many, and those of Cut have room for so many corners
-pub record ListTables (pairing order : ℕ) (l : Lengths) : Type 0 where
-  pub pairing-size : pairing ≡ entries
-  pub order-size : order ≡ entries
-  pub long : Long entries l
+pub record ListingTables (pairing order : ℕ) (l : Lengths) : Type 0 where
+  pub pairing-size : pairing ≡ heldEntries
+  pub order-size : order ≡ heldEntries
+  pub long : Long heldEntries l
 
 -- ---- a part
 

@@ -4,12 +4,12 @@ ghost use Prim.Native.Nat.{_≤_};
 ghost use lib.ListN.{length};
 ghost use Rattle.mesh.specs.Refusals.{toldOf, tellVerdict};
 ghost use Rattle.cutter.specs.Cut.{lent, lengthsOf};
-ghost use Rattle.decimals.specs.Texts.{Puts};
+ghost use Rattle.decimals.specs.Texts.{PutsText};
 ghost use Rattle.parts.specs.Parts.{part, partSizesOf};
-ghost use Rattle.lines.specs.Limits.{mostOutput, entries};
+ghost use Rattle.lines.specs.Limits.{mostOutput, heldEntries};
 ghost use Rattle.lister.specs.Listing.{listed};
 ghost use Rattle.lister.specs.Listing.{beyond as Listing·beyond};
-ghost use Rattle.lister.specs.Steps.{heldSizes, ListTables, PartTested, partListed, Takes};
+ghost use Rattle.lister.specs.Steps.{heldSizes, ListingTables, PartTested, partListed, Takes};
 ghost use Rattle.lister.specs.Steps.{limited as Steps·limited};
 use answers::number;
 use checker::Checked;
@@ -59,7 +59,7 @@ fn part_test(
     pairing: &mut [u32],
     order: &mut [u32],
 ) -> Verdict
-    requires { ⌜ (length (now pairing) ≡ entries) × (length (now order) ≡ entries) ⌝ }
+    requires { ⌜ (length (now pairing) ≡ heldEntries) × (length (now order) ≡ heldEntries) ⌝ }
     ensures { λ r. ⌜ PartTested (part (coords .entry .now) (corners .entry .now) (heights .entry .now))
         (pairing .entry .now) (tellVerdict r) (pairing .exit .now) ⌝ }
 {
@@ -86,9 +86,9 @@ fn list_part(
     marks: &mut [u32],
     output: &mut [u8],
 ) -> usize
-    requires { ⌜ ListTables (length (now pairing)) (length (now order)) (lengthsOf (lent (now names) (now points) (now ends) (now marks))) ⌝
+    requires { ⌜ ListingTables (length (now pairing)) (length (now order)) (lengthsOf (lent (now names) (now points) (now ends) (now marks))) ⌝
         ∗ ⌜ mostOutput ≤ length (now output) ⌝ }
-    ensures { λ r. ⌜ Puts (output .entry .now) 0
+    ensures { λ r. ⌜ PutsText (output .entry .now) 0
         (partListed (part (coords .entry .now) (corners .entry .now) (heights .entry .now))) r (output .exit .now) ⌝ }
 {
     let v = part_test(coords, corners, heights, pairing, order);
@@ -151,9 +151,9 @@ pub fn list_with(
     output: &mut [u8],
 ) -> usize
     requires { ⌜ partSizesOf (part (now coords) (now corners) (now heights)) ≡ heldSizes ⌝
-        ∗ ⌜ ListTables (length (now pairing)) (length (now order)) (lengthsOf (lent (now names) (now points) (now ends) (now marks))) ⌝
+        ∗ ⌜ ListingTables (length (now pairing)) (length (now order)) (lengthsOf (lent (now names) (now points) (now ends) (now marks))) ⌝
         ∗ ⌜ mostOutput ≤ length (now output) ⌝ }
-    ensures { λ r. ⌜ Puts (output .entry .now) 0 (listed (input .entry .now)) r (output .exit .now) ⌝ }
+    ensures { λ r. ⌜ PutsText (output .entry .now) 0 (listed (input .entry .now)) r (output .exit .now) ⌝ }
 {
     let a = take_part(input, coords, corners, heights);
     match a {

@@ -22,7 +22,7 @@ use Rattle.parts.specs.declared.internal.Layout.{Layout}
 use Rattle.parts.specs.declared.internal.Found.{Found}
 use Rattle.parts.specs.declared.internal.Found.the-variants.{Whole, Broken}
 use Rattle.parts.specs.declared.Parted.the-variants.{Counts, Refused as Turned}
-use Rattle.parts.specs.Layouts.{valuesOf, Stands, Fits, partAt, Laid, Finds}
+use Rattle.parts.specs.Layouts.{valuesOf, TablesStand, Fits, partAt, Laid, Finds}
 use Rattle.parts.specs.Parts.{part, PartSizes, partSizes, partSizesOf, partRoom, partIn, partCounts, fillsPart, ReadsPart}
 use Rattle.parts.specs.PartLaws.{room-parts, held-part, broken-verdict, short-verdict, fine-verdict, fills-fine, refused-keeps}
 
@@ -44,11 +44,11 @@ module _ (n t : PartSizes) where
 -- ---- the tables have the partSizes that were counted
 
 module _ {file : List ℕ} {run : Run} where
-  signed-size : Stands signedRun file run → length (valuesOf signedRun file run) ≡ run .count
+  signed-size : TablesStand signedRun file run → length (valuesOf signedRun file run) ≡ run .count
   unfolding signedRun
   signed-size s = parsed-length (alike (signed word)) stay (run .count) tt (drop (run .at) file) (valuesOf signedRun file run) (s .rest) (s .parses)
 
-  plain-size : Stands plainRun file run → length (valuesOf plainRun file run) ≡ run .count
+  plain-size : TablesStand plainRun file run → length (valuesOf plainRun file run) ≡ run .count
   unfolding plainRun
   plain-size s = parsed-length (alike (number word)) stay (run .count) tt (drop (run .at) file) (valuesOf plainRun file run) (s .rest) (s .parses)
 

@@ -5,7 +5,7 @@ use Prim.Native.Nat.{ℕ, _*_, _<_, _≤_}
 use lib.ListN.{length, drop, drop-of-length-le}
 use Rattle.formats.specs.Formats.{parsed, Format, broken}
 use Rattle.formats.specs.Numbers.{word, number}
-use Rattle.formats.specs.PartFile.{signedRun, plainRun, signedList, countsOf, counts, tablesFor, partFile, partOf}
+use Rattle.formats.specs.PartFile.{signedRun, plainRun, signedList, meshCounts, counts, tablesFor, partFile, partOf}
 use Rattle.formats.specs.PartFileLaws.{signedRun-tails, plainRun-tails, partFile-tails, no-vertices, no-triangles, coords-stop, corners-stop}
 use Rattle.formats.specs.Positions.{numberAt, extentAt}
 use Rattle.formats.specs.PositionLaws.{Tails, took, not-took, passed, file-refused, file-left-over}
@@ -68,7 +68,7 @@ module _ (file : List ℕ) where
     -- after the counts the tables decide
     after-counts : extentAt partFile file 0 ≡ extentAt (tablesFor told) file at
     unfolding partFile
-    after-counts = headed-next countsOf counts tablesFor file 0 told at (k .parses)
+    after-counts = headed-next meshCounts counts tablesFor file 0 told at (k .parses)
 
     pub coords-broken : {i : ℕ} → extentAt (plainRun coords) file at ≡ Refused i → partOf file ≡ broken i
     unfolding partOf

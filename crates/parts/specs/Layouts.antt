@@ -12,7 +12,7 @@ use Rattle.parts.specs.declared.internal.Found.the-variants.{Whole, Brok
 
 -- ---- runs
 
--- the values that were parsed; it is asked of runs that stand in the file (`Stands`), so the empty list decides nothing
+-- the values that were parsed; it is asked of runs that stand in the file (`TablesStand`), so the empty list decides nothing
 abbrev pub values : {A : Type 0} → Parse (List A) → List A
 values (parsed xs rest) = xs
 values (refused rest) = []
@@ -22,13 +22,13 @@ unfoldable pub valuesOf : {A : Type 0} → (ℕ → Format (List A)) → List �
 valuesOf F file run = values ((F (run .count)) .parse (drop (run .at) file))
 
 -- a run is as it should be
-pub record Stands {A : Type 0} (F : ℕ → Format (List A)) (file : List ℕ) (run : Run) : Type 0 where
+pub record TablesStand {A : Type 0} (F : ℕ → Format (List A)) (file : List ℕ) (run : Run) : Type 0 where
   pub rest : List ℕ
   pub parses : (F (run .count)) .parse (drop (run .at) file) ≡ parsed (valuesOf F file run) rest
 
 -- and a table has room for it
 pub record Fits {A : Type 0} (F : ℕ → Format (List A)) (file : List ℕ) (run : Run) (table : List A) : Type 0 where
-  pub stands : Stands F file run
+  pub stands : TablesStand F file run
   pub room : run .count ≤ length table
 
 -- ---- the first pass
@@ -56,9 +56,9 @@ partAt file l = record
 
 -- the whole file was passed
 pub record Laid (file : List ℕ) (l : Layout) : Type 0 where
-  pub coords-stand : Stands signedRun file (l .coords)
-  pub corners-stand : Stands plainRun file (l .corners)
-  pub heights-stand : Stands signedRun file (l .heights)
+  pub coords-stand : TablesStand signedRun file (l .coords)
+  pub corners-stand : TablesStand plainRun file (l .corners)
+  pub heights-stand : TablesStand signedRun file (l .heights)
   pub is : partOf file ≡ holds (partAt file l)
 
 -- what the first pass answers

@@ -7,7 +7,7 @@ use lib.ListN.{length}
 use lib.IntN.{ℤ, pos}
 use Rattle.mesh.specs.Operation.{Answer, gives, refuses, Finding, Condition, whole, after, Operation, Does}
 use Rattle.mesh.specs.Refusals.{Told, refusal, numbered, toldOf}
-use Rattle.formats.specs.PartFile.{Part, countsOf, partOf}
+use Rattle.formats.specs.PartFile.{Part, meshCounts, partOf}
 use Rattle.formats.specs.WholeFiles.{form, held}
 use Rattle.parts.specs.declared.Parted.{Parted}
 use Rattle.parts.specs.declared.Parted.the-variants.{Counts, Refused as Turned}
@@ -54,7 +54,7 @@ partTests file t = form file (partOf file) ∷ noPartRoom (partIn file) t ∷ []
 
 -- the counts of vertices, triangles and heights
 abbrev pub partCounts : Part → ℕ × ℕ × ℕ
-partCounts p = (countsOf p .0, countsOf p .1, length (p .heights))
+partCounts p = (meshCounts p .0, meshCounts p .1, length (p .heights))
 
 -- the part in the first entries of the tables; after a refusal all as before
 abbrev pub fillsPart : Part → Part → Finding Told → Part

@@ -28,7 +28,7 @@ use Rattle.checking.specs.AnswerLaws.{told-parsed}
 use Rattle.formats.specs.WholeFileLaws.{held-is}
 use Rattle.reader.specs.Reading.{layersIn, layerAt, Entries, entries, entriesOf, layerRoom, layerHasRoom, readingTests, fillsLayer, ReadsLayer}
 use Rattle.reader.specs.ReadingLaws.{verdict-short, verdict-fine, refused-keeps}
-use Rattle.reader.specs.Places.{Stands, lastLayers, Searched, Ready, contoursFrom, FillLayer, filledLayer}
+use Rattle.reader.specs.Places.{LayerStands, lastLayers, Searched, Ready, contoursFrom, FillLayer, filledLayer}
 use Rattle.reader.specs.declared.Place.{Place}
 use Rattle.reader.specs.declared.Search.the-variants.{Found, Missing, Broken}
 use Rattle.reader.specs.declared.Reading.the-variants.{Layer as Read, Refused as Turned}
@@ -77,7 +77,7 @@ module _ (file : List ℕ) {n start : ℕ} (e : numberAt mostLayers file 0 ≡ V
       pub holding : layersOf file ≡ holds ls
       pub counted : length ls ≡ n
       pub there : i < length ls
-      pub place : Stands file (layerAt ls i) p
+      pub place : LayerStands file (layerAt ls i) p
 
     pub searched-found : {p : Place} → Searched file i (lastLayers n lowest file start) (Found p) → Held p
     searched-found {p} w = by (lastLayers n lowest file start) refl w
@@ -117,7 +117,7 @@ module _ {file : List ℕ} {i : ℕ} (n : Entries) where
         record {
           passed = verdict-fine file i n (h .holding) (h .there) (sym same-room ∙ t);
           counted = sym (h .counted) ∙ ap length s;
-          place = subst (λ (ls : List Layer). Stands file (layerAt ls i) p) s (h .place);
+          place = subst (λ (ls : List Layer). LayerStands file (layerAt ls i) p) s (h .place);
           points-long = subst (λ (ls : List Layer). 2 * pointTotal (layerAt ls i .contours) ≤ n .points) s long;
           ends-long = subst (λ (ls : List Layer). length (layerAt ls i .contours) ≤ n .ends) s wide;
         }

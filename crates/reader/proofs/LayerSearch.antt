@@ -14,13 +14,13 @@ use Rattle.formats.specs.Positions.{extentAt, ParsedAt}
 use Rattle.formats.specs.PositionLaws.{stopped}
 use Rattle.formats.specs.SequenceLaws.{parse-split, parsed-length}
 use Rattle.formats.specs.declared.Extent.the-variants.{End, Refused}
-use Rattle.checking.specs.Answers.{heightAt, countsAt, levelsAt, final}
+use Rattle.checking.specs.Answers.{heightToldAt, countsAt, levelsAt, final}
 use Rattle.checking.specs.AnswerLaws.{height-read, height-word, Off, Counted, counts-read, levels-read, final-off, height-inside, layer-read}
 use Rattle.checking.specs.declared.Height.the-variants.{Above}
 use Rattle.checking.specs.declared.Counts.the-variants.{End as CountsEnd}
 use Rattle.checking.specs.declared.Levels.the-variants.{End as LevelsEnd}
 use Rattle.reader.specs.Reading.{layerAt}
-use Rattle.reader.specs.Places.{Stands, lastLayers, Searched}
+use Rattle.reader.specs.Places.{LayerStands, lastLayers, Searched}
 use Rattle.reader.specs.declared.Place.{Place}
 use Rattle.reader.specs.declared.Search.{Search}
 use Rattle.reader.specs.declared.Search.the-variants.{Found, Missing, Broken}
@@ -71,7 +71,7 @@ module _ (more : ℕ) (low : ℤ) (file : List ℕ) (at : ℕ) where
         searched-off (final (sequence layer heightOf (suc more) low)) file at 0 e
         (record { rest = s .0; parses = after-first ∙ simp q; place = s .2 })
 
-    first-stands : (e : ℕ) (s : Place) → extentAt (final (sequence layer heightOf more (l .height))) file next ≡ End e → Stands file l s
+    first-stands : (e : ℕ) (s : Place) → extentAt (final (sequence layer heightOf more (l .height))) file next ≡ End e → LayerStands file l s
         → Searched file 0 (lastLayers (suc more) low file at) (Found s)
     first-stands e s f t =
         let q = extent-end (final (sequence layer heightOf more (l .height))) file next e f in
@@ -80,7 +80,7 @@ module _ (more : ℕ) (low : ℤ) (file : List ℕ) (at : ℕ) where
         subst (λ (d : Parse (List Layer)). Searched file 0 d (Found s)) (sym v) (omega arith, t)
 
 -- the same by what the code has read: the height z, and the counts of contours and points
-module _ (more : ℕ) (low : ℤ) (file : List ℕ) (at : ℕ) (h : at ≤ length file) {z : ℤ} {j : ℕ} (e : heightAt low file at ≡ Above z j)
+module _ (more : ℕ) (low : ℤ) (file : List ℕ) (at : ℕ) (h : at ≤ length file) {z : ℤ} {j : ℕ} (e : heightToldAt low file at ≡ Above z j)
     {next k m : ℕ} (f : countsAt file j ≡ CountsEnd next k m) where
   body : (cs : List (List Point)) × Counted file j cs next k m
   body = counts-read file j (height-inside low file at h z j e) next k m f
@@ -154,7 +154,7 @@ module _ (n i : ℕ) (low : ℤ) (file : List ℕ) (at : ℕ) where
       by k (parsed ys r) (Found p) w =
           let g : layerAt ys 0 ≡ layerAt (xs ++ ys) i =
           sym (getD-append-add xs ys 0 (record { height = pos 0; contours = [] })) ∙ ap (layerAt (xs ++ ys)) (add-zero (length xs) ∙ k) in
-          (omega (arith, w .0, length-append xs ys), subst (λ (l : Layer). Stands file l p) g (w .1))
+          (omega (arith, w .0, length-append xs ys), subst (λ (l : Layer). LayerStands file l p) g (w .1))
 
   -- the same by what the code has read: the position and the height after the first i layers
   module _ (h : at ≤ length file) {next : ℕ} {z : ℤ} (e : levelsAt i low file at ≡ LevelsEnd next z) where

@@ -24,7 +24,7 @@ use Rattle.reader.specs.declared.Location.{Location}
 use Rattle.reader.specs.declared.Location.the-variants.{At, Refused as Turned}
 
 -- a place is that of a layer
-pub record Stands (file : List ℕ) (l : Layer) (p : Place) : Type 0 where
+pub record LayerStands (file : List ℕ) (l : Layer) (p : Place) : Type 0 where
   pub height : p .height ≡ l .height
   pub word : Word (l .height)
   pub contours : p .contours ≡ length (l .contours)
@@ -40,7 +40,7 @@ lastLayers n low file at = (final (sequence layer heightOf n low)) .parse (drop 
 -- what a search for layer i answers, where the layers of the file are parsed so
 abbrev pub Searched : List ℕ → ℕ → Parse (List Layer) → Search → Type 0
 Searched file i (refused r) s = s ≡ Broken (length file - length r)
-Searched file i (parsed ls r) (Found p) = (i < length ls) × Stands file (layerAt ls i) p
+Searched file i (parsed ls r) (Found p) = (i < length ls) × LayerStands file (layerAt ls i) p
 Searched file i (parsed ls r) Missing = length ls ≤ i
 Searched file i (parsed ls r) (Broken q) = ⊥
 
@@ -48,7 +48,7 @@ Searched file i (parsed ls r) (Broken q) = ⊥
 pub record Ready (file : List ℕ) (i : ℕ) (n : Entries) (count : ℕ) (p : Place) : Type 0 where
   pub passed : verdict (readingTests file i n) ≡ fine
   pub counted : count ≡ length (layersIn file)
-  pub place : Stands file (layerAt (layersIn file) i) p
+  pub place : LayerStands file (layerAt (layersIn file) i) p
   pub points-long : 2 * pointTotal (layerAt (layersIn file) i .contours) ≤ n .points
   pub ends-long : length (layerAt (layersIn file) i .contours) ≤ n .ends
 

@@ -12,6 +12,7 @@ use Rattle.laws.specs.Booleans.{clash, is-true, is-false, and-parts, split-lt}
 use Rattle.laws.specs.Tables.{overwrite}
 use Rattle.laws.specs.TableLaws.{length-snoc, overwrite-none, length-overwrite, overwrite-snoc, overwrite-more}
 use Rattle.mesh.specs.Meshes.{PairedMesh}
+use Rattle.polygons.specs.FlatLaws.{length-ends}
 use Rattle.section.specs.Section.{below, rising, Among, Right}
 use Rattle.section.specs.Rings.{Ring}
 use Rattle.section.specs.Contours.{member, contours, namesOf as flat, traceTo, trace, endsFrom, endsOf}
@@ -33,11 +34,6 @@ ends-snoc k (q ∷ rs) r =
     (ends-snoc (k + length q) rs r
     ∙ (let e : k + length q + length (flat rs) + length r ≡ k + length (q ++ flat rs) + length r = omega (arith, length-append q (flat rs)) in
     ap (λ (x : ℕ). endsFrom (k + length q) rs ++ (x ∷ [])) e))
-
-length-ends : (k : ℕ) (rs : List (List ℕ)) → length (endsFrom k rs) ≡ length rs
-unfolding endsFrom
-length-ends k [] = refl
-length-ends k (r ∷ rs) = ap suc (length-ends (k + length r) rs)
 
 -- ---- corners that do not rise start no contour
 

@@ -16,10 +16,10 @@ use Rattle.mesh.specs.TestLaws.{next-below}
 use Rattle.section.specs.Section.{below, rising, risingIn, successor, Crossing, Right}
 use Rattle.section.specs.SectionLaws.{next-thrice, next-triangle, falling-parts, rising-of, risingIn-is, pair-falls, crossing-ring}
 use Rattle.section.specs.Rings.{iterate, Ring}
-use Rattle.section.specs.Contours.{member}
+use Rattle.section.specs.Contours.{placesOf, member}
 use Rattle.section.specs.OrbitLaws.{orbit, length-orbit, orbit-snoc, walk-closes}
 use Rattle.section.specs.LayerLaws.{crosses, leads-on}
-use Rattle.rounds.specs.Rounds.{successorAt, placesOf, roundOf, stamped, Roundable, Rounded}
+use Rattle.rounds.specs.Rounds.{successorAt, roundOf, stamped, Roundable, Rounded}
 use Rattle.rounds.proofs.Stamps.{length-stamped, stamped-join}
 
 -- ---- the successor of a crossing

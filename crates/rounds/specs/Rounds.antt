@@ -9,17 +9,13 @@ use lib.IntN.{ℤ}
 use Rattle.laws.specs.Tables.{overwrite}
 use Rattle.mesh.specs.Meshes.{PairedMesh}
 use Rattle.section.specs.Section.{below, successor, Crossing, Right}
-use Rattle.section.specs.Contours.{Way, closed, met, walk, contours, namesOf, trace, endsOf}
+use Rattle.section.specs.Contours.{placesOf, walk, contours, namesOf, trace, endsOf}
 use Rattle.active.specs.Lists.{CornerSet, Stands, activeAt}
 use Rattle.active.specs.Levels.{Kept}
 
 -- the successor of a crossing of height h
 abbrev pub successorAt : PairedMesh → ℤ → ℕ → ℕ
 successorAt m h = successor (below (m .mesh .coords) h) (m .mesh .corners) (m .pairing)
-
-abbrev pub placesOf : Way → List ℕ
-placesOf (closed cs) = cs
-placesOf (met p) = []
 
 -- the ring of height h from `start`: a walk by itself
 unfoldable pub roundOf : PairedMesh → ℤ → ℕ → List ℕ

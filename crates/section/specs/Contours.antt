@@ -33,6 +33,11 @@ walk next start (suc n) c used =
     cond (eqb (next c) start) (closed (c ∷ []))
     (cond (member (next c) (c ∷ used)) (met (next c)) (onward c rest))
 
+-- the corners of a closed walk; where it met a used crossing, none
+abbrev pub placesOf : Way → List ℕ
+placesOf (closed cs) = cs
+placesOf (met p) = []
+
 -- ---- the contours
 
 -- all contours, or refusal 16's crossing

@@ -18,7 +18,7 @@ use Rattle.section.specs.Rings.{iterate, Ring}
 pub use Rattle.section.specs.Rings.{Leads}
 use Rattle.section.specs.RingLaws.{ring-of}
 use Rattle.section.specs.Contours.{member, contours, stuck, namesOf, traceAt, traceTo, trace}
-use Rattle.section.specs.Layers.{first, Contour, contourAt, Distinct, Layer}
+use Rattle.section.specs.Layers.{first, Contour, contourAt, Distinct, LayerContours}
 use Rattle.section.specs.OrbitLaws.{member-none, member-join, at-member, distinct-few, orbit, iterate-add, length-orbit, getD-orbit, orbit-at, at-orbit}
 use Rattle.section.specs.OrbitLaws.{walk-closes, next-in, distinct-ring}
 
@@ -264,7 +264,7 @@ module _ (passed : VertexSet) (corners pairing : List ℕ) (linked : Linked corn
         moves = two-crossings passed corners pairing linked;
       }
 
-  pub trace-layer : (rs : List (List ℕ)) × ((trace passed corners pairing ≡ contours rs) × Layer passed corners pairing rs)
+  pub trace-layer : (rs : List (List ℕ)) × ((trace passed corners pairing ≡ contours rs) × LayerContours passed corners pairing rs)
   unfolding trace
   trace-layer =
       let a = trace-all (rising passed corners) (successor passed corners pairing) (length corners) leads-on in

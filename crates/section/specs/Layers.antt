@@ -27,7 +27,7 @@ abbrev pub Distinct : List ℕ → Type 0
 Distinct l = (i j : ℕ) → i < j → j < length l → getD l i 0 ≡ getD l j 0 → ⊥
 
 -- the contours of the section: each is a ring, by first corner, of crossings only, with every crossing once
-pub record Layer (passed : VertexSet) (corners pairing : List ℕ) (rs : List (List ℕ)) : Type 0 where
+pub record LayerContours (passed : VertexSet) (corners pairing : List ℕ) (rs : List (List ℕ)) : Type 0 where
   pub each : (i : ℕ) → i < length rs → Contour (successor passed corners pairing) (contourAt rs i)
   pub ascend : (i j : ℕ) → i < j → j < length rs → first (contourAt rs i) < first (contourAt rs j)
   pub only : (x : ℕ) → member x (namesOf rs) ≡ true → Crossing passed corners x

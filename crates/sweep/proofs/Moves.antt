@@ -29,7 +29,7 @@ use Rattle.mesh.specs.Tests.{pairOf}
 use Rattle.mesh.specs.RankLaws.{lower-sum}
 use Rattle.section.specs.Section.{VertexSet, below, under, ringEntry}
 use Rattle.section.specs.Contours.{member}
-use Rattle.sweep.specs.Sweep.{Sweep, meshOf, pairingOf, passedAt, touches, relinked, mayRise, risenTo}
+use Rattle.sweep.specs.Sweep.{Sweep, meshOf, sweepPairing, passedAt, touches, relinked, mayRise, risenTo}
 use Rattle.sweep.specs.Operations.{linkedAt, wrongRing, passedHigh, notAbove}
 use Rattle.sweep.specs.Places.{heightBehind, numberBehind, wrongFor, InOrder, Placed}
 use Rattle.sweep.specs.SweepLaws.{entry-same, passed-under, earlier-below}
@@ -148,19 +148,19 @@ module _ (s : Sweep) (p : Placed (s .ordered) (s .passed)) where
   abbrev behind : VertexSet
   behind = under (meshOf s .coords) (heightBehind (meshOf s .coords) (s .ordered .order) (s .passed)) (numberBehind (s .ordered .order) (s .passed))
 
-  least-is : least (length (meshOf s .corners)) (wrongFor behind (meshOf s .corners) (pairingOf s) (s .ring))
+  least-is : least (length (meshOf s .corners)) (wrongFor behind (meshOf s .corners) (sweepPairing s) (s .ring))
       ≡ least (length (meshOf s .corners)) (wrongRing s .fits)
   least-is =
-      least-same (length (meshOf s .corners)) (wrongFor behind (meshOf s .corners) (pairingOf s) (s .ring)) (wrongRing s .fits)
+      least-same (length (meshOf s .corners)) (wrongFor behind (meshOf s .corners) (sweepPairing s) (s .ring)) (wrongRing s .fits)
       (λ c l. unfold wrongFor linkedAt in (ap (λ (x : ℕ). not (ltb c (length (s .ring)) && eqb (getD (s .ring) c 0) x))
-      (entry-same behind (passedAt (s .ordered .order) (s .passed)) (meshOf s .coords) (meshOf s .corners) (pairingOf s) (p .right .named) (p .right .linked)
+      (entry-same behind (passedAt (s .ordered .order) (s .passed)) (meshOf s .coords) (meshOf s .corners) (sweepPairing s) (p .right .named) (p .right .linked)
       (λ v m. passed-behind (s .ordered) (s .passed) v p m) c l)))
 
   module _ {h : ℤ} {k c : ℕ} (eh : h ≡ heightBehind (meshOf s .coords) (s .ordered .order) (s .passed)) (ek : k ≡ numberBehind (s .ordered .order) (s .passed))
-      (ec : c ≡ least (length (meshOf s .corners)) (wrongFor (under (meshOf s .coords) h k) (meshOf s .corners) (pairingOf s) (s .ring))) where
+      (ec : c ≡ least (length (meshOf s .corners)) (wrongFor (under (meshOf s .coords) h k) (meshOf s .corners) (sweepPairing s) (s .ring))) where
     found : c ≡ least (length (meshOf s .corners)) (wrongRing s .fits)
     found =
-        ec ∙ (λ i. least (length (meshOf s .corners)) (wrongFor (under (meshOf s .coords) (eh i) (ek i)) (meshOf s .corners) (pairingOf s) (s .ring)))
+        ec ∙ (λ i. least (length (meshOf s .corners)) (wrongFor (under (meshOf s .coords) (eh i) (ek i)) (meshOf s .corners) (sweepPairing s) (s .ring)))
         ∙ least-is
 
     pub ring-refused : c < length (meshOf s .corners) → refuses (refusal 11 c) ≡ test (wrongRing s)

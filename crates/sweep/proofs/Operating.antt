@@ -38,20 +38,20 @@ use Rattle.sweep.specs.declared.Stepping.the-variants.{Stepped, Top, Ref
 use Rattle.sweep.specs.declared.SweepTest.{SweepTest}
 use Rattle.sweep.specs.declared.Rise.{Rise}
 use Rattle.sweep.specs.declared.Rise.the-variants.{Layer, Refused as Unrisen}
-use Rattle.sweep.specs.Sweep.{Sweep, meshOf, pairingOf, passedAt, freshRing, touches, relinked, stepRing}
+use Rattle.sweep.specs.Sweep.{Sweep, meshOf, sweepPairing, passedAt, freshRing, touches, relinked, stepRing}
 use Rattle.sweep.specs.SweepLaws.{entry-same, passed-under, count-few, risen-is}
 use Rattle.sweep.specs.Operations.{at, unlessRefused, tooMany, startTests, Starts, stepTests, passes, top, Steps}
 use Rattle.sweep.specs.Operations.{risenPassed, risenTable, risenSection, riseTests, Rises}
-use Rattle.sweep.specs.SweepTests.{conditionOf}
+use Rattle.sweep.specs.SweepTests.{sweepCondition}
 use Rattle.sweep.specs.Places.{Placed, StepTested, RiseTested, Lifts}
 use Rattle.sweep.specs.AnswerLaws.{step-tested, rise-passed}
 use Rattle.sweep.specs.RiseLaws.{rise-from}
 use Rattle.sweep.proofs.Moves.{held, back}
 
 -- a test by name is the test of its condition
-pub tests-as : (s : Sweep) (h : ℤ) {which named : SweepTest} {f : Finding Told} → which ≡ named → f ≡ test (conditionOf named s h)
-    → f ≡ test (conditionOf which s h)
-tests-as s h e t = t ∙ ap (λ (w : SweepTest). test (conditionOf w s h)) (sym e)
+pub tests-as : (s : Sweep) (h : ℤ) {which named : SweepTest} {f : Finding Told} → which ≡ named → f ≡ test (sweepCondition named s h)
+    → f ≡ test (sweepCondition which s h)
+tests-as s h e t = t ∙ ap (λ (w : SweepTest). test (sweepCondition w s h)) (sym e)
 
 -- what 8 and 10 establish on a right mesh
 pub placed-of : (m : OrderedMesh) (n : ℕ) → Right (m .paired) → {f g : Finding Told} → f ≡ test (orders (m .paired .mesh .coords) (m .order)) → f ≡ fine
@@ -116,13 +116,13 @@ module _ (s : Sweep) {f : Finding Told} (e : f ≡ verdict (stepTests (s .ordere
 
       -- the entries for the vertices before the place behind the next one are those for one more of the order
       relinked-is : {z : ℤ} {k v : ℕ} → v ≡ getD (s .ordered .order) (s .passed) 0 → z ≡ zOf (meshOf s .coords) v → k ≡ v + 1
-          → refill (length (meshOf s .corners)) (relinked (under (meshOf s .coords) z k) (meshOf s .corners) (pairingOf s) v (s .ring)) (s .ring)
+          → refill (length (meshOf s .corners)) (relinked (under (meshOf s .coords) z k) (meshOf s .corners) (sweepPairing s) v (s .ring)) (s .ring)
           ≡ stepRing s
       unfolding stepRing relinked
       relinked-is {z} {k} {v} ev ez ek =
           let coords = meshOf s .coords in
           let corners = meshOf s .corners in
-          let pairing = pairingOf s in
+          let pairing = sweepPairing s in
           let order = s .ordered .order in
           let right = step-passed .placed .right in
           let next = passedAt order (suc (s .passed)) in
@@ -134,7 +134,7 @@ module _ (s : Sweep) {f : Finding Told} (e : f ≡ verdict (stepTests (s .ordere
           ∙ sym (passed-under coords order (step-passed .placed .ranked) (s .passed) u next-there m)) c l))
 
       pub steps-taken : {z : ℤ} {k v : ℕ} {ring′ : List ℕ} → v ≡ getD (s .ordered .order) (s .passed) 0 → z ≡ zOf (meshOf s .coords) v → k ≡ v + 1
-          → ring′ ≡ refill (length (meshOf s .corners)) (relinked (under (meshOf s .coords) z k) (meshOf s .corners) (pairingOf s) v (s .ring)) (s .ring)
+          → ring′ ≡ refill (length (meshOf s .corners)) (relinked (under (meshOf s .coords) z k) (meshOf s .corners) (sweepPairing s) v (s .ring)) (s .ring)
           → Steps s (Stepped (at (s .passed + 1))) ring′
       unfolding unlessRefused
       steps-taken ev ez ek q =
@@ -181,11 +181,11 @@ module _ (s : Sweep) (h : ℤ) (r : RiseTested s h) where
   right = r .placed .right
 
   abbrev entry : ℕ → ℕ
-  entry = ringEntry (under (meshOf s .coords) h 0) (meshOf s .corners) (pairingOf s)
+  entry = ringEntry (under (meshOf s .coords) h 0) (meshOf s .corners) (sweepPairing s)
 
   -- the ring table in one pass, and its copy in the marks
   module _ (marks : List ℕ) {ring₁ marks₁ : List ℕ}
-      (er : ring₁ ≡ refill (length (meshOf s .corners)) (ringEntry (under (meshOf s .coords) h 0) (meshOf s .corners) (pairingOf s)) (s .ring))
+      (er : ring₁ ≡ refill (length (meshOf s .corners)) (ringEntry (under (meshOf s .coords) h 0) (meshOf s .corners) (sweepPairing s)) (s .ring))
       (em : marks₁ ≡ refill (length (meshOf s .corners)) (λ c. getD ring₁ c 0) marks) where
     copied : marks₁ ≡ refill (length (meshOf s .corners)) entry marks
     copied =
@@ -200,7 +200,7 @@ module _ (s : Sweep) (h : ℤ) (r : RiseTested s h) where
         let coords = meshOf s .coords in
         let corners = meshOf s .corners in
         let ranked = r .placed .ranked in
-        er ∙ ap (λ (p : ℕ → Bool). refill (length corners) (ringEntry p corners (pairingOf s)) (s .ring)) (sym (below-under coords h))
+        er ∙ ap (λ (p : ℕ → Bool). refill (length corners) (ringEntry p corners (sweepPairing s)) (s .ring)) (sym (below-under coords h))
         ∙ sym (risen-is (s .ordered) ranked h (right .linked) (right .named) (vertexCount coords) (s .passed) (s .ring) (r .table)
         (rise-from s h r) (omega (arith, count-few coords (s .ordered .order) ranked h)))
 

@@ -23,7 +23,7 @@ use Rattle.sweep.specs.declared.Stepping.{Stepping}
 use Rattle.sweep.specs.declared.Stepping.the-variants.{Stepped, Top, Refused as Unstepped}
 use Rattle.sweep.specs.declared.Rise.{Rise}
 use Rattle.sweep.specs.declared.Rise.the-variants.{Layer, Refused as Unrisen}
-use Rattle.sweep.specs.Sweep.{Sweep, meshOf, pairingOf, passedAt, freshRing, stepRing, risenTo, risenRing}
+use Rattle.sweep.specs.Sweep.{Sweep, meshOf, sweepPairing, passedAt, freshRing, stepRing, risenTo, risenRing}
 
 -- the state with so many passed
 abbrev pub at : ℕ → State
@@ -52,7 +52,7 @@ shortRing corners ring = whole (λ i. refusal 11 ring) (ltb ring (length corners
 unfoldable pub linkedAt : Sweep → ℕ → Bool
 linkedAt s c =
     ltb c (length (s .ring))
-    && eqb (getD (s .ring) c 0) (ringEntry (passedAt (s .ordered .order) (s .passed)) (meshOf s .corners) (pairingOf s) c)
+    && eqb (getD (s .ring) c 0) (ringEntry (passedAt (s .ordered .order) (s .passed)) (meshOf s .corners) (sweepPairing s) c)
 
 abbrev pub wrongRing : Sweep → Condition Told
 wrongRing s = record { tells = refusal 11; places = length (meshOf s .corners); fits = λ c. not (linkedAt s c) }

@@ -16,7 +16,7 @@ use Rattle.cutter.specs.Cut.{CutTables, lengthsOf, used, section, contoursOf, c
 use Rattle.cutter.specs.declared.Sliced.the-variants.{Layer as Cut}
 use Rattle.sweep.specs.declared.State.{State}
 use Rattle.sweep.specs.declared.Rise.the-variants.{Layer, Refused as Unrisen}
-use Rattle.sweep.specs.Sweep.{Sweep, sweep, meshOf, pairingOf, passedAt, RingAt, countBelow}
+use Rattle.sweep.specs.Sweep.{Sweep, sweep, meshOf, sweepPairing, passedAt, RingAt, countBelow}
 use Rattle.sweep.specs.SweepLaws.{entry-same, count-few, passed-below, passed-count, risen-to, risen-right}
 use Rattle.sweep.specs.Operations.{at, unlessRefused, risenPassed, risenTable, risenSection, riseTests, layering, Rises}
 use Rattle.sweep.specs.Places.{RiseTested}
@@ -48,9 +48,9 @@ module _ (s : Sweep) (h : ℤ) (r : RiseTested s h) where
       let coords = meshOf s .coords in
       let corners = meshOf s .corners in
       let order = s .ordered .order in
-      table-trace (below coords h) corners (pairingOf s) (r .placed .right .linked) (risenTable s h)
+      table-trace (below coords h) corners (sweepPairing s) (r .placed .right .linked) (risenTable s h)
       (λ c l. rise-table .entries c l
-      ∙ entry-same (passedAt order (countBelow coords h)) (below coords h) coords corners (pairingOf s) (r .placed .right .named) (r .placed .right .linked)
+      ∙ entry-same (passedAt order (countBelow coords h)) (below coords h) coords corners (sweepPairing s) (r .placed .right .named) (r .placed .right .linked)
       (passed-below coords order (r .placed .ranked) h) c l)
 
 -- ---- Layer against Cut

@@ -26,8 +26,8 @@ sweep m ring n = record { ordered = m; ring = ring; passed = n }
 abbrev pub meshOf : Sweep → Mesh
 meshOf s = s .ordered .paired .mesh
 
-abbrev pub pairingOf : Sweep → List ℕ
-pairingOf s = s .ordered .paired .pairing
+abbrev pub sweepPairing : Sweep → List ℕ
+sweepPairing s = s .ordered .paired .pairing
 
 -- the passed vertices: the first n of the order
 unfoldable pub passedAt : List ℕ → ℕ → VertexSet
@@ -41,7 +41,7 @@ freshRing corners ring = refill (length corners) (λ c. noCorner) ring
 pub record RingAt (s : Sweep) : Type 0 where
   pub long : length (meshOf s .corners) ≤ length (s .ring)
   pub entries : (c : ℕ) → c < length (meshOf s .corners)
-      → getD (s .ring) c 0 ≡ ringEntry (passedAt (s .ordered .order) (s .passed)) (meshOf s .corners) (pairingOf s) c
+      → getD (s .ring) c 0 ≡ ringEntry (passedAt (s .ordered .order) (s .passed)) (meshOf s .corners) (sweepPairing s) c
 
 -- ---- a vertex step
 
@@ -60,7 +60,7 @@ unfoldable pub stepRing : Sweep → List ℕ
 stepRing s =
     let next = getD (s .ordered .order) (s .passed) 0 in
     let passed = passedAt (s .ordered .order) (suc (s .passed)) in
-    refill (length (meshOf s .corners)) (relinked passed (meshOf s .corners) (pairingOf s) next (s .ring)) (s .ring)
+    refill (length (meshOf s .corners)) (relinked passed (meshOf s .corners) (sweepPairing s) next (s .ring)) (s .ring)
 
 abbrev pub stepped : Sweep → Sweep
 stepped s = sweep (s .ordered) (stepRing s) (suc (s .passed))

@@ -28,7 +28,7 @@ use Rattle.section.specs.Section.{VertexSet, below, under, rising, risingIn, su
 use Rattle.section.specs.SectionLaws.{next-triangle, turned}
 use Rattle.section.specs.Contours.{member}
 use Rattle.section.specs.OrbitLaws.{member-join, member-one}
-use Rattle.sweep.specs.Sweep.{Sweep, sweep, meshOf, pairingOf, stepped, passedAt, RingAt, touches, relinked, stepRing, mayRise, risenTo, risenRing}
+use Rattle.sweep.specs.Sweep.{Sweep, sweep, meshOf, sweepPairing, stepped, passedAt, RingAt, touches, relinked, stepRing, mayRise, risenTo, risenRing}
 use Rattle.sweep.specs.Sweep.{countBelow}
 
 -- ---- an entry depends only on the vertices of the paired corner's triangle
@@ -93,7 +93,7 @@ module _ (s : Sweep) where
   corners = meshOf s .corners
 
   abbrev pairing : List ℕ
-  pairing = pairingOf s
+  pairing = sweepPairing s
 
   abbrev order : List ℕ
   order = s .ordered .order
@@ -106,9 +106,9 @@ module _ (s : Sweep) where
   passed = passedAt (s .ordered .order) (suc (s .passed))
 
   abbrev entry : ℕ → ℕ
-  entry = relinked passed (meshOf s .corners) (pairingOf s) next (s .ring)
+  entry = relinked passed (meshOf s .corners) (sweepPairing s) next (s .ring)
 
-  pub step-right : Linked (meshOf s .corners) (pairingOf s) → s .passed < length (s .ordered .order) → RingAt s → RingAt (stepped s)
+  pub step-right : Linked (meshOf s .corners) (sweepPairing s) → s .passed < length (s .ordered .order) → RingAt s → RingAt (stepped s)
   unfolding stepRing relinked
   step-right linked l r =
       record {
@@ -134,7 +134,7 @@ module _ (s : Sweep) where
     step-past c l = refill-past (length corners) entry (s .ring) c 0 l
 
     -- a step leaves every entry whose paired corner's triangle does not touch its vertex
-    pub step-keeps : (c : ℕ) → touches (meshOf s .corners) (triangleOf (pairOf (pairingOf s) c)) (getD (s .ordered .order) (s .passed) 0) ≡ false
+    pub step-keeps : (c : ℕ) → touches (meshOf s .corners) (triangleOf (pairOf (sweepPairing s) c)) (getD (s .ordered .order) (s .passed) 0) ≡ false
         → getD (stepRing s) c 0 ≡ getD (s .ring) c 0
     unfolding stepRing relinked
     step-keeps c e =

@@ -13,15 +13,15 @@ use Rattle.sweep.specs.Operations.{tooMany, wrongRing, notAbove}
 use Rattle.sweep.specs.Places.{InOrder, Placed}
 
 -- the condition that each one tests, of a rise to h
-abbrev pub conditionOf : SweepTest → Sweep → ℤ → Condition Told
-conditionOf (Mesh which) s h = meshTests.conditionOf which (s .ordered)
-conditionOf Passed s h = tooMany (meshOf s .coords) (s .passed)
-conditionOf Ring s h = wrongRing s
-conditionOf Height s h = notAbove (meshOf s .coords) (s .ordered .order) (s .passed) h
+abbrev pub sweepCondition : SweepTest → Sweep → ℤ → Condition Told
+sweepCondition (Mesh which) s h = meshTests.meshCondition which (s .ordered)
+sweepCondition Passed s h = tooMany (meshOf s .coords) (s .passed)
+sweepCondition Ring s h = wrongRing s
+sweepCondition Height s h = notAbove (meshOf s .coords) (s .ordered .order) (s .passed) h
 
 -- what it asks: 7 is tested after 1, 11 after all of the mesh and 10, 12 after 8 and 10
-abbrev pub Askable : SweepTest → Sweep → Type 0
-Askable (Mesh which) s = meshTests.Askable which (length (meshOf s .corners))
-Askable Passed s = Unit {0}
-Askable Ring s = Placed (s .ordered) (s .passed)
-Askable Height s = (s .passed ≤ vertexCount (meshOf s .coords)) × InOrder (meshOf s .coords) (s .ordered .order)
+abbrev pub SweepAskable : SweepTest → Sweep → Type 0
+SweepAskable (Mesh which) s = meshTests.MeshAskable which (length (meshOf s .corners))
+SweepAskable Passed s = Unit {0}
+SweepAskable Ring s = Placed (s .ordered) (s .passed)
+SweepAskable Height s = (s .passed ≤ vertexCount (meshOf s .coords)) × InOrder (meshOf s .coords) (s .ordered .order)

@@ -5,7 +5,7 @@ ghost use Rattle.mesh.specs.Operation.{test};
 ghost use Rattle.mesh.specs.Refusals.{tellVerdict};
 ghost use Rattle.sweep.specs.Sweep.{sweep};
 ghost use Rattle.sweep.specs.Operations.{tooMany};
-ghost use Rattle.sweep.specs.SweepTests.{conditionOf, Askable};
+ghost use Rattle.sweep.specs.SweepTests.{sweepCondition, SweepAskable};
 use crate::SweepTest;
 use crate::internal::height_test;
 use crate::internal::ring_test;
@@ -33,8 +33,8 @@ pub fn one_test(
     n: usize,
     h: i32,
 ) -> Verdict
-    requires { ⌜ Askable which (sweep (ordered (now coords) (now corners) (now pairing) (now order)) (now ring) n) ⌝ }
-    ensures { λ r. ⌜ tellVerdict r ≡ test (conditionOf which
+    requires { ⌜ SweepAskable which (sweep (ordered (now coords) (now corners) (now pairing) (now order)) (now ring) n) ⌝ }
+    ensures { λ r. ⌜ tellVerdict r ≡ test (sweepCondition which
         (sweep (ordered (coords .entry .now) (corners .entry .now) (pairing .entry .now) (order .entry .now)) (ring .entry .now) n) h) ⌝ }
 {
     match which {

@@ -4,7 +4,8 @@ use Rattle.mesh.specs.Meshes.{OrderedMesh}
 use Rattle.mesh.specs.Operation.{Finding, test}
 use Rattle.mesh.specs.Refusals.{Told}
 use Rattle.tables.specs.declared.MeshTest.{MeshTest}
-use Rattle.tables.specs.MeshTests.{conditionOf}
+use Rattle.tables.specs.MeshTests.{meshCondition}
 
-pub tests-as : (m : OrderedMesh) {which named : MeshTest} {f : Finding Told} → which ≡ named → f ≡ test (conditionOf named m) → f ≡ test (conditionOf which m)
-tests-as m e t = t ∙ ap (λ (w : MeshTest). test (conditionOf w m)) (sym e)
+pub tests-as : (m : OrderedMesh) {which named : MeshTest} {f : Finding Told} → which ≡ named → f ≡ test (meshCondition named m)
+    → f ≡ test (meshCondition which m)
+tests-as m e t = t ∙ ap (λ (w : MeshTest). test (meshCondition w m)) (sym e)

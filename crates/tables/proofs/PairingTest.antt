@@ -13,12 +13,12 @@ use Rattle.laws.specs.Booleans.{split-lt}
 use Rattle.mesh.specs.Corners.{triangleCount, nextCorner, startOf, endOf}
 use Rattle.mesh.specs.Tests.{Whole, pairOf, unpaired}
 use Rattle.mesh.specs.TestLaws.{reverse-of, Paired, pairedAt-of}
-use Rattle.tables.specs.Meeting.{Meets, Thrice, Met}
+use Rattle.tables.specs.Meeting.{MeetsVertex, Thrice, Met}
 
 module _ (corners pairing : List ℕ) where
   -- the code's reads and comparisons
   pub meets-of : (c v d e : ℕ) → d ≡ pairOf pairing c → d < length corners → getD corners d 0 ≡ v → e ≡ getD pairing d 0 → eqb c e ≡ true
-      → Meets corners pairing c v
+      → MeetsVertex corners pairing c v
   meets-of c v d e p l s q b =
       record { corner = omega arith; start = ap (startOf corners) (sym p) ∙ s; back = ap (pairOf pairing) (sym p) ∙ sym q ∙ sym (eqb-true c e b) }
 
@@ -29,16 +29,17 @@ module _ (corners pairing : List ℕ) where
   pub met-more : (t : ℕ) → Met corners pairing t → t < triangleCount corners → Thrice corners pairing t → Met corners pairing (t + 1)
   met-more t m l s = record { upto = omega arith; meets = λ c h. ⊎-elim (λ k. m .meets c k) (λ k. by c h k (c % 3) refl) (split-lt c (3 * t)) }
     where
-      at : {i j c : ℕ} → i ≡ c → j ≡ nextCorner c → Meets corners pairing i (getD corners j 0) → Meets corners pairing c (endOf corners c)
-      at {i} {j} {c} e f p = subst (λ (k : ℕ). Meets corners pairing c (getD corners k 0)) f (subst (λ (k : ℕ). Meets corners pairing k (getD corners j 0)) e p)
+      at : {i j c : ℕ} → i ≡ c → j ≡ nextCorner c → MeetsVertex corners pairing i (getD corners j 0) → MeetsVertex corners pairing c (endOf corners c)
+      at {i} {j} {c} e f p =
+          subst (λ (k : ℕ). MeetsVertex corners pairing c (getD corners k 0)) f (subst (λ (k : ℕ). MeetsVertex corners pairing k (getD corners j 0)) e p)
 
-      by : (c : ℕ) → c < 3 * (t + 1) → 3 * t ≤ c → (k : ℕ) → c % 3 ≡ k → Meets corners pairing c (endOf corners c)
+      by : (c : ℕ) → c < 3 * (t + 1) → 3 * t ≤ c → (k : ℕ) → c % 3 ≡ k → MeetsVertex corners pairing c (endOf corners c)
       by c h g zero e = at (omega arith) (omega arith) (s .first)
       by c h g (suc zero) e = at (omega arith) (omega arith) (s .second)
       by c h g (suc (suc k)) e = at (omega arith) (omega arith) (s .third)
 
   -- the other half of a corner's test is its partner's
-  pub met-paired : ((c : ℕ) → c < length corners → Meets corners pairing c (endOf corners c)) → length corners ≤ length pairing
+  pub met-paired : ((c : ℕ) → c < length corners → MeetsVertex corners pairing c (endOf corners c)) → length corners ≤ length pairing
       → (c : ℕ) → c < length corners → Paired corners pairing c
   met-paired h w c l =
       let p = h c l in

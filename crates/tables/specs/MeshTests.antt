@@ -11,22 +11,22 @@ use Rattle.tables.specs.declared.MeshTest.{MeshTest}
 use Rattle.tables.specs.declared.MeshTest.the-variants.{Size, Range, Vertex, Triangle, Pairing, Order}
 
 -- the condition that each one tests
-abbrev pub conditionOf : MeshTest → OrderedMesh → Condition Told
-conditionOf Size m = size (m .paired .mesh)
-conditionOf Range m = range (m .paired .mesh .coords)
-conditionOf Vertex m = vertex (vertexCount (m .paired .mesh .coords)) (m .paired .mesh .corners)
-conditionOf Triangle m = triangle (m .paired .mesh .corners)
-conditionOf Pairing m = pairs (m .paired .mesh .corners) (m .paired .pairing)
-conditionOf Order m = orders (m .paired .mesh .coords) (m .order)
+abbrev pub meshCondition : MeshTest → OrderedMesh → Condition Told
+meshCondition Size m = size (m .paired .mesh)
+meshCondition Range m = range (m .paired .mesh .coords)
+meshCondition Vertex m = vertex (vertexCount (m .paired .mesh .coords)) (m .paired .mesh .corners)
+meshCondition Triangle m = triangle (m .paired .mesh .corners)
+meshCondition Pairing m = pairs (m .paired .mesh .corners) (m .paired .pairing)
+meshCondition Order m = orders (m .paired .mesh .coords) (m .order)
 
 -- what it asks of a table of n corners: 7 is tested after 1
-abbrev pub Askable : MeshTest → ℕ → Type 0
-Askable Size n = Unit {0}
-Askable Range n = Unit {0}
-Askable Vertex n = Unit {0}
-Askable Triangle n = Unit {0}
-Askable Pairing n = Whole n
-Askable Order n = Unit {0}
+abbrev pub MeshAskable : MeshTest → ℕ → Type 0
+MeshAskable Size n = Unit {0}
+MeshAskable Range n = Unit {0}
+MeshAskable Vertex n = Unit {0}
+MeshAskable Triangle n = Unit {0}
+MeshAskable Pairing n = Whole n
+MeshAskable Order n = Unit {0}
 
 -- 2, 3, 4 and 7
 abbrev pub contentTests : PairedMesh → List (Condition Told)

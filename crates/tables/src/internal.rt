@@ -8,7 +8,7 @@ ghost use Rattle.mesh.specs.Corners.{triangleCount};
 ghost use Rattle.mesh.specs.Operation.{Nowhere, test};
 ghost use Rattle.mesh.specs.Refusals.{tellVerdict};
 ghost use Rattle.mesh.specs.Tests.{Whole, reverse, pairedAt, unpaired, pairs};
-ghost use Rattle.tables.specs.Meeting.{Meets, Thrice};
+ghost use Rattle.tables.specs.Meeting.{MeetsVertex, Thrice};
 use mesh::Refusal;
 use mesh::Verdict;
 use mesh::internal::next_corner;
@@ -66,7 +66,7 @@ fn first_unpaired(corners: &[u32], pairing: &[u32]) -> usize
 // Whether corner c is paired with a corner that starts at vertex v and is paired back.
 fn meets(corners: &[u32], pairing: &[u32], c: usize, v: u32) -> bool
     requires { ⌜ (c < length (now corners)) × (length (now corners) ≤ length (now pairing)) ⌝ }
-    ensures { λ r. ⌜ (r ≡ true → Meets (now (corners .entry)) (now (pairing .entry)) c v) ⌝ }
+    ensures { λ r. ⌜ (r ≡ true → MeetsVertex (now (corners .entry)) (now (pairing .entry)) c v) ⌝ }
 {
     let d = wide(pairing[c]);
     if corners.len() <= d {

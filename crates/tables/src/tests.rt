@@ -5,7 +5,7 @@ ghost use Rattle.mesh.specs.Meshes.{paired, ordered};
 ghost use Rattle.mesh.specs.Operation.{test, verdict};
 ghost use Rattle.mesh.specs.Refusals.{tellVerdict};
 ghost use Rattle.mesh.specs.Tests.{Whole};
-ghost use Rattle.tables.specs.MeshTests.{conditionOf, Askable, contentTests, openingTests};
+ghost use Rattle.tables.specs.MeshTests.{meshCondition, MeshAskable, contentTests, openingTests};
 use crate::MeshTest;
 use crate::internal::pairing_test;
 use crate::ordering::order_test;
@@ -24,9 +24,9 @@ pub fn one_test(
     pairing: &[u32],
     order: &[u32],
 ) -> Verdict
-    requires { ⌜ Askable which (length (now corners)) ⌝ }
+    requires { ⌜ MeshAskable which (length (now corners)) ⌝ }
     ensures { λ r. ⌜ tellVerdict r
-        ≡ test (conditionOf which (ordered (coords .entry .now) (corners .entry .now) (pairing .entry .now) (order .entry .now))) ⌝ }
+        ≡ test (meshCondition which (ordered (coords .entry .now) (corners .entry .now) (pairing .entry .now) (order .entry .now))) ⌝ }
 {
     match which {
         MeshTest::Size => size_test(coords, corners),

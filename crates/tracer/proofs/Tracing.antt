@@ -12,6 +12,7 @@ use lib.Seq.{sets}
 use Rattle.laws.specs.Booleans.{clash, is-false, and-parts}
 use Rattle.laws.specs.Tables.{overwrite}
 use Rattle.laws.specs.TableLaws.{length-snoc, overwrite-none, length-overwrite, overwrite-snoc, overwrite-more}
+use Rattle.polygons.specs.FlatLaws.{length-ends}
 use Rattle.section.specs.Section.{noCorner, Among}
 use Rattle.section.specs.Rings.{iterate, Ring, Leads}
 use Rattle.section.specs.Contours.{member, Traced, contours, namesOf as flat, traceTo, endsFrom, endsOf}
@@ -35,11 +36,6 @@ ends-snoc k (q ∷ rs) r =
     (ends-snoc (k + length q) rs r
     ∙ (let e : k + length q + length (flat rs) + length r ≡ k + length (q ++ flat rs) + length r = omega (arith, length-append q (flat rs)) in
     ap (λ (x : ℕ). endsFrom (k + length q) rs ++ (x ∷ [])) e))
-
-length-ends : (k : ℕ) (rs : List (List ℕ)) → length (endsFrom k rs) ≡ length rs
-unfolding endsFrom
-length-ends k [] = refl
-length-ends k (r ∷ rs) = ap suc (length-ends (k + length r) rs)
 
 -- ---- two tables with the same links along a way
 

@@ -11,10 +11,10 @@ use Rattle.laws.specs.Booleans.{is-false}
 use Rattle.laws.specs.TableLaws.{sets-snoc}
 use Rattle.section.specs.Section.{noCorner}
 use Rattle.section.specs.Rings.{iterate, Ring}
-use Rattle.section.specs.Contours.{member}
+use Rattle.section.specs.Contours.{placesOf, member}
 use Rattle.section.specs.Links.{linkOf}
 use Rattle.section.specs.OrbitLaws.{orbit, length-orbit, orbit-snoc, orbit-at, walk-closes}
-use Rattle.tracer.specs.Walks.{placesOf, ringOf, strike, Walkable}
+use Rattle.tracer.specs.Walks.{ringOf, strike, Walkable}
 use Rattle.tracer.proofs.Strikes.{length-strike, strike-join, strike-other}
 
 pub ring-is : (links : List ℕ) (start : ℕ) (r : Ring (linkOf links) (length links) start)

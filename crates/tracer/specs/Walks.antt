@@ -5,13 +5,8 @@ use mathlib.Core.List.{List, [], _∷_}
 use lib.ListN.{length, getD, set}
 use Rattle.section.specs.Section.{noCorner}
 use Rattle.section.specs.Rings.{iterate, Ring, Leads}
-use Rattle.section.specs.Contours.{Way, closed, met, walk}
+use Rattle.section.specs.Contours.{placesOf, walk}
 use Rattle.section.specs.Links.{hasLink, linkOf}
-
--- the corners of a closed walk; where it met a used crossing, none
-abbrev pub placesOf : Way → List ℕ
-placesOf (closed cs) = cs
-placesOf (met p) = []
 
 -- the ring from `start`: a walk by itself
 unfoldable pub ringOf : List ℕ → ℕ → List ℕ

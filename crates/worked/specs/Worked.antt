@@ -116,19 +116,19 @@ abbrev ready : OrderedMesh
 ready = ordered (P .coords) (P .corners) pairing (0 ∷ 1 ∷ 2 ∷ 3 ∷ [])
 
 tables : withTables P ≡ ready
-unfolding withTables verdict _then_ test some least after overwrite tabulate sizesFit check.roomFor outOfRange namesNone namesTwice twin doubledAt openAt
+unfolding withTables verdict _then_ test some least after overwrite tabulate sizesFit check.checkRoomFor outOfRange namesNone namesTwice twin doubledAt openAt
     reverse pairingOf partnerOf orderOf orderUpTo place before
 tables = refl
 
 -- ---- piece by piece
 
 P-accepted : checkedAs P ≡ paired pairing
-unfolding checkedAs verdict _then_ test some least after overwrite tabulate sizesFit check.roomFor outOfRange namesNone namesTwice twin doubledAt openAt
+unfolding checkedAs verdict _then_ test some least after overwrite tabulate sizesFit check.checkRoomFor outOfRange namesNone namesTwice twin doubledAt openAt
     reverse pairingOf partnerOf
 P-accepted = refl
 
 P-opened : checkedAs opened ≡ refused 6 1
-unfolding checkedAs verdict _then_ test some least sizesFit check.roomFor outOfRange namesNone namesTwice twin doubledAt openAt reverse
+unfolding checkedAs verdict _then_ test some least sizesFit check.checkRoomFor outOfRange namesNone namesTwice twin doubledAt openAt reverse
 P-opened = refl
 
 one-passed : passedAs ready 1 ≡ rings ((0 ∷ 6 ∷ 3 ∷ []) ∷ [])

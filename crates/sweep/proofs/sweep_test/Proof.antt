@@ -8,7 +8,7 @@ use Rattle.mesh.specs.OperationLaws.{verdict-stop, verdict-next, verdict-one}
 use Rattle.mesh.specs.Refusals.{tellVerdict}
 use Rattle.sweep.specs.declared.SweepTest.the-variants.{Height}
 use Rattle.sweep.specs.Sweep.{Sweep, sweep}
-use Rattle.sweep.specs.SweepTests.{conditionOf}
+use Rattle.sweep.specs.SweepTests.{sweepCondition}
 use Rattle.sweep.specs.Places.{Placed}
 use Rattle.sweep.proofs.Moves.{back}
 use Rattle.sweep.proofs.Operating.{placed-of}
@@ -90,7 +90,7 @@ returns-4 c =
     verdict-next _ _ (at-order .before .before .one-test .ensures) (ap tellVerdict (at-order .enum-told2 .given .1))
     (verdict-next _ _ (at-passed .before .before .one-test2 .ensures) (ap tellVerdict (at-passed .enum-told4 .given .1))
     (verdict-next _ _ (at-ring .before .before .one-test3 .ensures) (ap tellVerdict (at-ring .enum-told6 .given .1))
-    (c .one-test4 .ensures ∙ ap (λ (z : ℤ). test (conditionOf Height (sweepOf start) z)) (back (start .fits .h)) ∙ verdict-one _)))
+    (c .one-test4 .ensures ∙ ap (λ (z : ℤ). test (sweepCondition Height (sweepOf start) z)) (back (start .fits .h)) ∙ verdict-one _)))
 
 pub sweep-test-spec : {M : Type 1} → statement M
 sweep-test-spec =

@@ -7,7 +7,7 @@ use mir.Val.{toZ, ofZ}
 use mir.ValLaws.{toZ-ofZ}
 use Rattle.laws.specs.Machine.{same}
 use Rattle.formats.specs.LayerFile.{layer, heightOf}
-use Rattle.checking.specs.Answers.{heightAt, levelsAt}
+use Rattle.checking.specs.Answers.{heightToldAt, levelsAt}
 use Rattle.checking.specs.declared.Height.the-variants.{Above}
 use Rattle.checking.specs.declared.Levels.{Levels}
 use Rattle.checking.specs.declared.Levels.the-variants.{End, Refused}
@@ -52,7 +52,7 @@ returns c =
 height : (c : tie.After-known-told Inv-loop μ-loop)
     → let at-loop = c .before .before .before .before .before in
     let start = at-loop .before .before in
-    heightAt (toZ w64 (at-loop .loop .last)) (start .args .file .now) (at-loop .loop .i)
+    heightToldAt (toZ w64 (at-loop .loop .last)) (start .args .file .now) (at-loop .loop .i)
     ≡ Above (c .before .h .given .0 .0) (c .before .h .given .0 .1 .0)
 height c = sym (c .before .before .before .read-height .ensures) ∙ c .before .h .given .1
 

@@ -8,7 +8,7 @@ use mir.Val.{toZ, ofZ}
 use mir.ValLaws.{toZ-ofZ}
 use denote.Ref.{now}
 use Rattle.laws.specs.Machine.{fit, cast, cast-ok}
-use Rattle.lines.specs.Lines.{layerWords, layerLine}
+use Rattle.lines.specs.Lines.{layerLineWords, layerLine}
 use Rattle.lines.proofs.Lines.{Words, layer-words, word-room, word-put, words-put}
 use borrow.Author.Needs.{needs}
 use Rattle.lines.proofs.internal.write_layer_line.Statement.{statement}
@@ -26,7 +26,7 @@ abbrev Left : tie.Start → ℕ → List ℕ → ℕ → Type 0
 Left s k m p =
     let a = s .args in
     Words (now (a .output)) (a .at) (layerLine (a .h) (a .contours) (a .points) (a .area)) m p
-    (drop k (layerWords (height s) (a .contours) (a .points) (area s)))
+    (drop k (layerLineWords (height s) (a .contours) (a .points) (area s)))
 
 left-0 : (s : tie.Start) → Left s 0 (now (s .args .output)) (s .args .at)
 left-0 s =

@@ -5,7 +5,7 @@ use lib.IntN.{ℤ}
 use mir.Syntax.{w64}
 use mir.ValLaws.{toZ-ofZ}
 use Rattle.laws.specs.Machine.{same}
-use Rattle.checking.specs.Answers.{heightAt, countsAt}
+use Rattle.checking.specs.Answers.{heightToldAt, countsAt}
 use Rattle.checking.specs.AnswerLaws.{height-inside, layer-no-height, layer-no-contours}
 use Rattle.checking.specs.declared.Height.the-variants.{Above}
 use Rattle.checking.specs.declared.Counts.the-variants.{End}
@@ -25,9 +25,9 @@ enum-told c = search needs
 
 -- what `read_height` answered, of `low` as it was given
 answer : (c : tie.After-read-height)
-    → heightAt (c .before .before .args .low) (c .before .before .args .file .now) (c .before .before .args .at) ≡ c .read-height .result
+    → heightToldAt (c .before .before .args .low) (c .before .before .args .file .now) (c .before .before .args .at) ≡ c .read-height .result
 answer c =
-    sym (c .read-height .ensures ∙ ap (λ (z : ℤ). heightAt z (c .before .before .args .file .now) (c .before .before .args .at))
+    sym (c .read-height .ensures ∙ ap (λ (z : ℤ). heightToldAt z (c .before .before .args .file .now) (c .before .before .args .at))
     (toZ-ofZ w64 (c .before .before .args .low) (c .before .before .fits .low)))
 
 returns : tie.Need-returns
@@ -39,7 +39,7 @@ returns c =
 -- the height read
 height : (c : tie.After-known-told)
     → let start = c .before .before .before .before .before in
-    heightAt (start .args .low) (start .args .file .now) (start .args .at)
+    heightToldAt (start .args .low) (start .args .file .now) (start .args .at)
     ≡ Above (c .before .h .given .0 .0) (c .before .h .given .0 .1 .0)
 height c = answer (c .before .before .before) ∙ c .before .h .given .1
 

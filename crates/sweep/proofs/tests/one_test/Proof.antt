@@ -7,7 +7,7 @@ use Rattle.mesh.specs.Operation.{test}
 use Rattle.sweep.specs.declared.SweepTest.{SweepTest}
 use Rattle.sweep.specs.declared.SweepTest.the-variants.{Height}
 use Rattle.sweep.specs.Sweep.{Sweep, sweep}
-use Rattle.sweep.specs.SweepTests.{conditionOf, Askable}
+use Rattle.sweep.specs.SweepTests.{sweepCondition, SweepAskable}
 use Rattle.sweep.proofs.Moves.{back}
 use Rattle.sweep.proofs.Operating.{tests-as}
 use borrow.Author.Needs.{needs}
@@ -25,7 +25,7 @@ enum-known-which c = search needs
 one-test-requires : tie.Need-one-test-requires
 one-test-requires c κs =
     let start = c .before .before .before .before .before .before .before in
-    subst (λ (w : SweepTest). Askable w (sweepOf start)) (c .before .which .given .1) (start .pre)
+    subst (λ (w : SweepTest). SweepAskable w (sweepOf start)) (c .before .which .given .1) (start .pre)
 
 enum-told : tie.Need-enum-told
 enum-told c = search needs
@@ -39,7 +39,7 @@ enum-told-2 c = search needs
 ring-test-requires : tie.Need-ring-test-requires
 ring-test-requires c κs =
     let start = c .before .before .before .before .before .before in
-    subst (λ (w : SweepTest). Askable w (sweepOf start)) (c .enum-told2 .given .1) (start .pre)
+    subst (λ (w : SweepTest). SweepAskable w (sweepOf start)) (c .enum-told2 .given .1) (start .pre)
 
 enum-told-3 : tie.Need-enum-told-3
 enum-told-3 c = search needs
@@ -47,7 +47,7 @@ enum-told-3 c = search needs
 height-test-requires : tie.Need-height-test-requires
 height-test-requires c κs =
     let start = c .before .before .before .before .before .before in
-    subst (λ (w : SweepTest). Askable w (sweepOf start)) (c .enum-told3 .given .1) (start .pre)
+    subst (λ (w : SweepTest). SweepAskable w (sweepOf start)) (c .enum-told3 .given .1) (start .pre)
 
 returns : tie.Need-returns
 returns c =
@@ -68,7 +68,7 @@ returns-4 : tie.Need-returns-4
 returns-4 c =
     let start = c .before .before .before .before .before .before .before in
     tests-as (sweepOf start) (start .args .h) (c .before .enum-told3 .given .1)
-    (c .height-test .ensures ∙ ap (λ (z : ℤ). test (conditionOf Height (sweepOf start) z)) (back (start .fits .h)))
+    (c .height-test .ensures ∙ ap (λ (z : ℤ). test (sweepCondition Height (sweepOf start) z)) (back (start .fits .h)))
 
 pub one-test-spec : {M : Type 1} → statement M
 one-test-spec =

@@ -4,7 +4,7 @@ use mathlib.Core.Path.{subst}
 use lib.ListN.{length}
 use Rattle.mesh.specs.Meshes.{OrderedMesh, ordered}
 use Rattle.tables.specs.declared.MeshTest.{MeshTest}
-use Rattle.tables.specs.MeshTests.{Askable}
+use Rattle.tables.specs.MeshTests.{MeshAskable}
 use Rattle.tables.proofs.Openings.{tests-as}
 use borrow.Author.Needs.{needs}
 use Rattle.tables.proofs.tests.one_test.Statement.{statement}
@@ -43,7 +43,7 @@ enum-told-5 c = search needs
 pairing-test-requires : tie.Need-pairing-test-requires
 pairing-test-requires c κs =
     let start = c .before .before .before .before .before in
-    subst (λ (w : MeshTest). Askable w (length (now (start .args .corners)))) (c .enum-told5 .given .1) (start .pre)
+    subst (λ (w : MeshTest). MeshAskable w (length (now (start .args .corners)))) (c .enum-told5 .given .1) (start .pre)
 
 enum-told-6 : tie.Need-enum-told-6
 enum-told-6 c = search needs
