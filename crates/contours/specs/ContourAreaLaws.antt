@@ -13,7 +13,7 @@ use Rattle.contours.specs.Areas.{pointCount, xOf, yOf, crossOf, sumOf, a
 use Rattle.contours.specs.AreaLaws.{sum-same, area-none, area-closed}
 use Rattle.contours.specs.Contours.{contourOf}
 use Rattle.contours.specs.PolygonLaws.{contour-polygon}
-use Rattle.contours.specs.ContourAreas.{crossPoints, areaFrom, contourArea}
+use Rattle.polygons.specs.ContourAreas.{crossPoints, areaFrom, contourArea}
 
 sum-front : (n : ℕ) (f : ℕ → ℤ) → sumOf (suc n) f ≡ f zero +ℤ sumOf n (λ i. f (suc i))
 unfolding sumOf

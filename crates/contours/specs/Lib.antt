@@ -5,6 +5,5 @@ pub mod Areas
 pub mod Runs
 pub mod AreaLaws
 pub mod PolygonLaws
-pub mod ContourAreas
 pub mod ContourAreaLaws
 pub mod Worked

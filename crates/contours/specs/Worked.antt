@@ -8,7 +8,7 @@ use Rattle.mesh.specs.Operation.{Answer, gives, refuses, test, _then_, verdict,
 use Rattle.mesh.specs.Refusals.{refusal}
 use Rattle.mesh.specs.Tests.{outOfRange}
 use Rattle.polygons.specs.Flat.{pointsIn}
-use Rattle.contours.specs.ContourAreas.{crossPoints, areaFrom, contourArea}
+use Rattle.polygons.specs.ContourAreas.{crossPoints, areaFrom, contourArea}
 use Rattle.contours.specs.Areas.{crossOf, nextPoint, sumOf, areaOf, runFits, measuring}
 use Rattle.contours.specs.Contours.{priorEnd, isContour, spanOf, firstOf, contourOf}
 

@@ -1,4 +1,5 @@
--- Layers as data: contours as lists of points, the tables of points and ends that hold them, and back. No function of the product.
+-- Layers as data: contours as lists of points, the tables of points and ends that hold them and back, and areas. No function of the product.
 pub mod Flat
 pub mod FlatLaws
+pub mod ContourAreas
 pub mod Worked
