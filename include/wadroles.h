@@ -56,6 +56,12 @@
 extern "C" {
 #endif
 
+/* The version. Until 1.0 a change of behaviour or of a file raises the minor
+ * number. */
+#define WADROLES_VERSION_MAJOR 0
+#define WADROLES_VERSION_MINOR 1
+#define WADROLES_VERSION_PATCH 0
+
 /* The most vertices and triangles a mesh may have. */
 #define WADROLES_MAX_VERTICES 32768
 #define WADROLES_MAX_TRIANGLES 65536

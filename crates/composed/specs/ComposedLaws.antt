@@ -15,25 +15,25 @@ use Rattle.mesh.specs.Operation.{Answer, gives, refuses, Finding, fine, Conditi
 use Rattle.mesh.specs.OperationLaws.{Nowhere, First, here, later, None, more, done, apart, same-refusal, fine-nowhere, refused-first, none-fine}
 use Rattle.mesh.specs.OperationLaws.{verdict-join, join-next, given-exactly, refused-verdict}
 use Rattle.mesh.specs.Refusals.{Told, refusal, numbered}
-use Rattle.checker.specs.Check.{CheckTables, checking, tellCheck, Checks}
-use Rattle.checker.specs.CheckLaws.{promise}
-use Rattle.checker.specs.declared.Checked.{Checked}
-use Rattle.formats.specs.LayerFile.{mostLayers}
-use Rattle.cutter.specs.Cut.{CutTables, lengthsOf, roomFor, used}
+use Rattle.check_mesh.specs.Check.{CheckTables, checking, tellCheck, Checks}
+use Rattle.check_mesh.specs.CheckLaws.{check-promise}
+use Rattle.check_mesh.specs.declared.CheckAnswer.{CheckAnswer}
+use Rattle.file_formats.specs.LayerFile.{mostLayers}
+use Rattle.cut.specs.Cut.{CutTables, lengthsOf, cutRoomFor, used}
 use Rattle.sweep.specs.Sweep.{sweep, RingAt}
-use Rattle.sweep.specs.Operations.{stepTests, tellStep, Steps, risenSection, riseTests, tellRise, Rises}
-use Rattle.sweep.specs.declared.Stepping.{Stepping}
-use Rattle.sweep.specs.declared.Rise.{Rise}
+use Rattle.sweep.specs.Operations.{stepTests, tellStep, Steps, risenSection, riseTests, tellLayer, Rises}
+use Rattle.sweep.specs.declared.StepAnswer.{StepAnswer}
+use Rattle.sweep.specs.declared.LayerAnswer.{LayerAnswer}
 use Rattle.sweep.specs.AnswerLaws.{rise-passed}
-use Rattle.heights.specs.Heights.{heightsTaken, tooManyHeights, fallingHeight}
-use Rattle.heights.specs.HeightLaws.{Rising, rising-nowhere}
-use Rattle.layers.specs.AllLayers.{cutFile, sweptFile, climbed, WorkTables, workRoomFor, layersTests, usedAt, shortOutput, filing}
-use Rattle.layers.specs.ClimbLaws.{swept-is-cut, used-never}
-use Rattle.layers.specs.LayersLaws.{file-tested}
-use Rattle.claim.specs.FileClaim.{rightTests}
-use Rattle.claim.specs.ClaimLaws.{start-keeps, run-keeps}
-use Rattle.claim.specs.RunLaws.{mesh-tested, start-tests, step-fine, rise-fine, never-used}
-use Rattle.claim.specs.FileLaws.{cut-given-room, linked-none, work-parts}
+use Rattle.all_heights.specs.Heights.{heightsTaken, tooManyHeights, fallingHeight}
+use Rattle.all_heights.specs.HeightLaws.{RisingHeights, rising-nowhere}
+use Rattle.all_sweep.specs.AllLayers.{cutFile, sweptFile, climbed, WorkTables, workRoomFor, layersTests, usedAt, shortOutput, filing}
+use Rattle.all_sweep.specs.ClimbLaws.{swept-is-cut, used-never}
+use Rattle.all_sweep.specs.LayersLaws.{file-tested}
+use Rattle.demand_three.specs.FileClaim.{rightTests}
+use Rattle.demand_three.specs.ClaimLaws.{start-keeps, run-keeps}
+use Rattle.demand_three.specs.RunLaws.{mesh-tested, start-tests, step-fine, rise-fine, never-used}
+use Rattle.demand_three.specs.FileLaws.{cut-given-room, linked-none, work-parts}
 use Rattle.composed.specs.Composed.{RefusedOnly, withLeft, Composed, AfterCheck}
 use Rattle.composed.specs.PairLaws.{another-corner}
 
@@ -88,7 +88,8 @@ module _ (m : OrderedMesh) (right : None (rightTests m)) where
   corners = m .paired .mesh .corners
 
   -- Step: 10 or 11
-  step-left : {ring : List ℕ} {n : ℕ} {result : Stepping} {ring′ : List ℕ} → Steps (sweep m ring n) result ring′ → RefusedOnly (10 ∷ 11 ∷ []) (tellStep result)
+  step-left : {ring : List ℕ} {n : ℕ} {result : StepAnswer} {ring′ : List ℕ} → Steps (sweep m ring n) result ring′
+      → RefusedOnly (10 ∷ 11 ∷ []) (tellStep result)
   step-left {ring} {n} d =
       only-verdict d (10 ∷ 11 ∷ []) (λ r. refused-either (λ r. numbered (10 ∷ 11 ∷ []) r ≡ true) (stepTests m (length ring) n) (go right))
     where
@@ -97,8 +98,8 @@ module _ (m : OrderedMesh) (right : None (rightTests m)) where
           (inl s, (inl r, (inl v, (inl x, (inl p, (inl o, (inr (λ i. refl), (inr (λ i. refl), tt))))))))
 
   -- Layer with room: 10, 11 or 12. Where these pass, so does 16
-  rise-left : {ring : List ℕ} {n : ℕ} {h : ℤ} {u u′ : CutTables} {result : Rise} {ring′ : List ℕ} → Rises (sweep m ring n) h u result ring′ u′
-      → roomFor (length (m .paired .mesh .corners)) (lengthsOf u) ≡ true → RefusedOnly (10 ∷ 11 ∷ 12 ∷ []) (tellRise result)
+  rise-left : {ring : List ℕ} {n : ℕ} {h : ℤ} {u u′ : CutTables} {result : LayerAnswer} {ring′ : List ℕ} → Rises (sweep m ring n) h u result ring′ u′
+      → cutRoomFor (length (m .paired .mesh .corners)) (lengthsOf u) ≡ true → RefusedOnly (10 ∷ 11 ∷ 12 ∷ []) (tellLayer result)
   rise-left {ring} {n} {h} {u} d room =
       let s = sweep m ring n in
       only-verdict d (10 ∷ 11 ∷ 12 ∷ []) (λ r. join-either (λ r. numbered (10 ∷ 11 ∷ 12 ∷ []) r ≡ true)
@@ -141,7 +142,7 @@ module _ (m : OrderedMesh) (right : None (rightTests m)) where
     few-nowhere : length hs ≤ mostLayers → Nowhere (tooManyHeights coords heights)
     few-nowhere few i l = le-ltb mostLayers (length hs) few
 
-    short-nowhere : Rising hs → length (cutFile (m .paired) hs) ≤ length output → Nowhere (shortOutput (length output) file)
+    short-nowhere : RisingHeights hs → length (cutFile (m .paired) hs) ≤ length output → Nowhere (shortOutput (length output) file)
     short-nowhere above long i l =
         let placed = mesh-tested m right in
         let ring = work-parts (length corners) (lengthsOf (w .cut)) (length (w .ring)) room .1 in
@@ -150,14 +151,14 @@ module _ (m : OrderedMesh) (right : None (rightTests m)) where
 
 -- ---- after Check
 
-module _ {m : Mesh} {t t′ : CheckTables} {checked : Checked} (c : Checks m t checked t′) (e : tellCheck checked ≡ gives tt) where
+module _ {m : Mesh} {t t′ : CheckTables} {checked : CheckAnswer} (c : Checks m t checked t′) (e : tellCheck checked ≡ gives tt) where
   -- the tests that Check and its tables pass
   pub checked-right : None (rightTests (withLeft m t′))
   checked-right = go (given-exactly c .0 e)
     where
       go : None (checking (m, t) .refusals) → None (rightTests (withLeft m t′))
       go (more s (more r (more x (more y (more z rest))))) =
-          let p = promise c e in
+          let p = check-promise c e in
           more s (more x (more y (more z (more (fine-nowhere _ (sym (p .pairing-fine))) (more (fine-nowhere _ (sym (p .order-fine))) done)))))
 
   pub composed : Composed m t′

@@ -12,21 +12,21 @@ use Rattle.mesh.specs.Operation.{gives, fine, verdict, after}
 use Rattle.mesh.specs.OperationLaws.{then-fine, given-verdict, left-given}
 use Rattle.polygons.specs.Flat.{FlatLayer, numbersOf, endsOf, pointTotal}
 use Rattle.polygons.specs.FlatLaws.{length-points, length-ends}
-use Rattle.cutter.specs.declared.Sliced.the-variants.{Layer as Cut}
-use Rattle.cutter.specs.Cut.{CutTables, section, contoursOf, Cuts}
-use Rattle.reader.specs.declared.Reading.{Reading}
-use Rattle.reader.specs.Reading.{layerAt, entriesOf, readingTests, layerCounts, fillsLayer, tellReading, ReadsLayer}
-use Rattle.reader.specs.ReadingLaws.{verdict-fine, room-of, Gives}
-use Rattle.formats.specs.Formats.{holds}
-use Rattle.formats.specs.LayerFile as files
-use Rattle.formats.specs.LayerFile.{layersOf}
-use Rattle.formats.specs.WholeFileLaws.{held-is}
-use Rattle.heights.specs.Heights.{heightsTaken}
-use Rattle.heights.specs.HeightLaws.{ranged-words}
-use Rattle.layers.specs.AllLayers.{crossingAt, drawn, cutLayer}
-use Rattle.layers.specs.CutLayerLaws.{drawn-points, drawn-ends, drawn-total}
-use Rattle.layers.specs.LayersLaws.{filed-tested, filed-cut, filed-reads-back}
-use Rattle.claim.specs.FileLaws.{file-claim}
+use Rattle.cut.specs.declared.CutAnswer.the-variants.{Layer}
+use Rattle.cut.specs.Cut.{CutTables, section, contoursOf, Cuts}
+use Rattle.read_layer.specs.declared.ReadLayerAnswer.{ReadLayerAnswer}
+use Rattle.read_layer.specs.Reading.{layerAt, entriesOf, readingTests, layerCounts, fillsLayer, tellReadLayer, ReadsLayer}
+use Rattle.read_layer.specs.ReadingLaws.{verdict-fine, room-of, Gives}
+use Rattle.file_formats.specs.Formats.{holds}
+use Rattle.file_formats.specs.LayerFile as files
+use Rattle.file_formats.specs.LayerFile.{layersOf}
+use Rattle.file_formats.specs.WholeFileLaws.{held-or-is}
+use Rattle.all_heights.specs.Heights.{heightsTaken}
+use Rattle.all_heights.specs.HeightLaws.{ranged-words}
+use Rattle.all_sweep.specs.AllLayers.{crossingAt, drawn, cutLayer}
+use Rattle.all_sweep.specs.CutLayerLaws.{drawn-points, drawn-ends, drawn-total}
+use Rattle.all_sweep.specs.LayersLaws.{all-layers-tested, all-layers-cut, all-layers-reads-back}
+use Rattle.demand_three.specs.FileLaws.{file-claim}
 use Rattle.composed.specs.ReadBack.{ReadsCut, ReadBack}
 
 -- ---- tables with the same front
@@ -49,7 +49,7 @@ pub record LayerLeft (m : PairedMesh) (h : ℤ) (t′ : CutTables) (j k : ℕ) :
   pub points : take (2 * k) (t′ .points) ≡ numbersOf (flatten (cutLayer m h .contours))
   pub ends : take j (t′ .ends) ≡ endsOf (cutLayer m h .contours)
 
-pub layer-left : {m : PairedMesh} {h : ℤ} {t t′ : CutTables} {j k : ℕ} → Cuts m h t (Cut j k) t′ → LayerLeft m h t′ j k
+pub layer-left : {m : PairedMesh} {h : ℤ} {t t′ : CutTables} {j k : ℕ} → Cuts m h t (Layer j k) t′ → LayerLeft m h t′ j k
 unfolding cutLayer after
 layer-left {m} {h} {t} {t′} {j} {k} c =
     let rs = contoursOf (section m h) in
@@ -73,7 +73,7 @@ layer-left {m} {h} {t} {t′} {j} {k} c =
 
 -- what Read layer left where it gave this layer
 module _ {m : PairedMesh} {h : ℤ} {cut : CutTables} {j k : ℕ} (left : LayerLeft m h cut j k) where
-  pub reads-cut : {n : ℕ} {u u′ : FlatLayer} {result : Reading} → tellReading result ≡ gives (n, h, j, k) → u′ ≡ fillsLayer (cutLayer m h) u fine
+  pub reads-cut : {n : ℕ} {u u′ : FlatLayer} {result : ReadLayerAnswer} → tellReadLayer result ≡ gives (n, h, j, k) → u′ ≡ fillsLayer (cutLayer m h) u fine
       → ReadsCut n h j k cut u result u′
   unfolding after
   reads-cut {n} {u} {u′} says filled =
@@ -91,10 +91,10 @@ module _ {m : PairedMesh} {h : ℤ} {cut : CutTables} {j k : ℕ} (left : LayerL
       }
 
 -- from a file that holds these layers, with room for layer i, it is read
-held-read : {file : List ℕ} {ls : List files.Layer} {i : ℕ} {u u′ : FlatLayer} {result : Reading} (d : ReadsLayer file i u result u′)
+held-read : {file : List ℕ} {ls : List files.Layer} {i : ℕ} {u u′ : FlatLayer} {result : ReadLayerAnswer} (d : ReadsLayer file i u result u′)
     → layersOf file ≡ holds ls → verdict (readingTests file i (entriesOf u)) ≡ fine → Gives d ls
 held-read {i = i} {u = u} d e v =
-    let same = held-is [] e in
+    let same = held-or-is [] e in
     record {
       answered = d .answers ∙ sym (then-fine v) ∙ (λ s. gives (layerCounts (same s) i));
       filled = d .leaves ∙ (λ s. fillsLayer (layerAt (same s) i) u (v s));
@@ -116,9 +116,9 @@ pub reads-back : ReadBack
 reads-back m heights w w′ output output′ n words f i l t t′ j k c u u′ result points ends d =
     let hs = heightsTaken (m .paired .mesh .coords) heights in
     let ls = map (cutLayer (m .paired)) hs in
-    let coords = ranged-words (m .paired .mesh .coords) (filed-tested f {n = n} refl .right .inside) in
-    let file = file-claim m heights w w′ output output′ n f .bytes ∙ sym (filed-cut f {n = n} refl) in
-    let holds-them = ap layersOf file ∙ filed-reads-back f {n = n} refl coords words in
+    let coords = ranged-words (m .paired .mesh .coords) (all-layers-tested f {n = n} refl .right .inside) in
+    let file = file-claim m heights w w′ output output′ n f .bytes ∙ sym (all-layers-cut f {n = n} refl) in
+    let holds-them = ap layersOf file ∙ all-layers-reads-back f {n = n} refl coords words in
     let at = layer-of-height (m .paired) hs i l in
     let left = layer-left c in
     let total = ap (λ (x : files.Layer). pointTotal (x .contours)) at ∙ left .total in

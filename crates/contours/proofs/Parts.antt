@@ -1,4 +1,4 @@
--- Where a contour lies, at each return of `part_of`: the code's previous end s and own end e against the definitions.
+-- Where a contour lies, at each return of `contour_part`: the code's previous end s and own end e against the definitions.
 use Prim.Native.Nat.{ℕ, _+_, _-_, _*_, _≤_, _<_}
 use mathlib.Core.Path.{_≡_, refl, sym}
 use mathlib.Core.Bool.{Bool, true, false}

@@ -17,7 +17,7 @@ use Rattle.contours.specs.AreaLaws.{sum-bound, area-none, area-closed, c
 use Rattle.contours.specs.Runs.{largestCross, PointRun}
 
 -- the bits x and y stand for point i
-pub record Held (points : List ℤ) (i x y : ℕ) : Type 0 where
+pub record PointHeld (points : List ℤ) (i x y : ℕ) : Type 0 where
   pub x-is : toZ w32 x ≡ xOf points i
   pub y-is : toZ w32 y ≡ yOf points i
 
@@ -25,10 +25,10 @@ pub record Held (points : List ℤ) (i x y : ℕ) : Type 0 where
 abbrev pub stepOf : List ℤ → ℕ → ℤ
 stepOf points i = crossOf points i (i + 1)
 
-pub record Summed (points : List ℤ) (last x y sum k : ℕ) : Type 0 where
+pub record CrossesSummed (points : List ℤ) (last x y sum k : ℕ) : Type 0 where
   pub some : last + 1 ≡ pointCount points
   pub upto : k ≤ last
-  pub held : Held points k x y
+  pub held : PointHeld points k x y
   pub sum-is : toZ w64 sum ≡ sumOf k (stepOf points)
 
 pub area-empty : (points : List ℤ) → length points ≡ 0 → pos 0 ≡ areaOf points
@@ -37,25 +37,26 @@ area-empty (z ∷ points) e = absurd (omega arith)
 
 module _ {points : List ℤ} (r : PointRun points) where
   -- a point that was loaded
-  pub loaded : (i : ℕ) → Held points i (ofZ w32 (xOf points i)) (ofZ w32 (yOf points i))
+  pub loaded : (i : ℕ) → PointHeld points i (ofZ w32 (xOf points i)) (ofZ w32 (yOf points i))
   loaded i = record { x-is = same-in w32 (xOf points i) largest (r .ranged (2 * i)) tt; y-is = same-in w32 (yOf points i) largest (r .ranged (2 * i + 1)) tt }
 
-  pub held-x : {i x y : ℕ} → Held points i x y → natAbs (toZ w32 x) ≤ largest
+  pub held-x : {i x y : ℕ} → PointHeld points i x y → natAbs (toZ w32 x) ≤ largest
   held-x {i} h = rw (h .x-is) (r .ranged (2 * i))
 
-  pub held-y : {i x y : ℕ} → Held points i x y → natAbs (toZ w32 y) ≤ largest
+  pub held-y : {i x y : ℕ} → PointHeld points i x y → natAbs (toZ w32 y) ≤ largest
   held-y {i} h = rw (h .y-is) (r .ranged (2 * i + 1))
 
-  pub start : {last : ℕ} → last + 1 ≡ pointCount points → Summed points last (ofZ w32 (xOf points 0)) (ofZ w32 (yOf points 0)) 0 0
+  pub start : {last : ℕ} → last + 1 ≡ pointCount points → CrossesSummed points last (ofZ w32 (xOf points 0)) (ofZ w32 (yOf points 0)) 0 0
   unfolding sumOf
   start e = record { some = e; upto = omega arith; held = loaded 0; sum-is = refl }
 
   -- the cross product of two points that are held
-  cross-is : {i m x y u v : ℕ} → Held points i x y → Held points m u v → {z : ℤ} → z ≡ toZ w32 x *ℤ toZ w32 v -ℤ toZ w32 u *ℤ toZ w32 y → z ≡ crossOf points i m
+  cross-is : {i m x y u v : ℕ} → PointHeld points i x y → PointHeld points m u v → {z : ℤ} → z ≡ toZ w32 x *ℤ toZ w32 v -ℤ toZ w32 u *ℤ toZ w32 y
+      → z ≡ crossOf points i m
   unfolding crossOf
   cross-is a b e = e ∙ (λ t. a .x-is t *ℤ b .y-is t -ℤ b .x-is t *ℤ a .y-is t)
 
-  module _ {last x y sum k : ℕ} (s : Summed points last x y sum k) where
+  module _ {last x y sum k : ℕ} (s : CrossesSummed points last x y sum k) where
     sum-le : natAbs (sumOf k (stepOf points)) ≤ mostPoints * largestCross
     sum-le =
         let few : k ≤ mostPoints = omega (arith, r .few, s .some, s .upto) in
@@ -77,8 +78,8 @@ module _ {points : List ℤ} (r : PointRun points) where
       added = add whole more tt .is
 
       -- a turn: the next point
-      pub again : {u v : ℕ} (b : Held points (k + 1) u v) → z ≡ toZ w32 x *ℤ toZ w32 v -ℤ toZ w32 u *ℤ toZ w32 y → k < last
-          → Summed points last u v (ofZ w64 (toZ w64 sum +ℤ toZ w64 (ofZ w64 z))) (k + 1)
+      pub again : {u v : ℕ} (b : PointHeld points (k + 1) u v) → z ≡ toZ w32 x *ℤ toZ w32 v -ℤ toZ w32 u *ℤ toZ w32 y → k < last
+          → CrossesSummed points last u v (ofZ w64 (toZ w64 sum +ℤ toZ w64 (ofZ w64 z))) (k + 1)
       unfolding sumOf
       again b e l =
           record {
@@ -89,7 +90,7 @@ module _ {points : List ℤ} (r : PointRun points) where
           }
 
       -- the end: closed round
-      pub closed : {u v : ℕ} (b : Held points 0 u v) → z ≡ toZ w32 x *ℤ toZ w32 v -ℤ toZ w32 u *ℤ toZ w32 y → last ≤ k
+      pub closed : {u v : ℕ} (b : PointHeld points 0 u v) → z ≡ toZ w32 x *ℤ toZ w32 v -ℤ toZ w32 u *ℤ toZ w32 y → last ≤ k
           → toZ w64 (ofZ w64 (toZ w64 sum +ℤ toZ w64 (ofZ w64 z))) ≡ areaOf points
       closed b e g =
           added ∙ ap (λ (y : ℤ). sumOf k (stepOf points) +ℤ y) (cross-is (s .held) b e) ∙ area-closed points k (omega (arith, s .some, s .upto))

@@ -19,8 +19,8 @@ use Rattle.mesh.specs.Refusals.{Told}
 use Rattle.mesh.specs.RefusalLaws.{refusalOf, refusal-once}
 use Rattle.mesh.specs.Tests.{outOfRange}
 use Rattle.mesh.specs.TestLaws.{in-range}
-use Rattle.contours.specs.declared.Measured.{Measured}
-use Rattle.contours.specs.declared.Measured.the-variants.{Area, Refused as Turned}
+use Rattle.contours.specs.declared.AreaAnswer.{AreaAnswer}
+use Rattle.contours.specs.declared.AreaAnswer.the-variants.{Area, Refused}
 use Rattle.contours.specs.Areas.{mostPoints, pointCount, xOf, yOf, crossOf, nextPoint, sumOf, areaOf, runFits, measuring, tellArea, Measures}
 use Rattle.contours.specs.Contours.{priorEnd, ownEnd, spanOf, contourOf}
 use Rattle.contours.specs.ContourLaws.{span-there, span-contour, span-even, length-contour, contour-at}
@@ -151,11 +151,11 @@ contour-run points ends j few ranged =
 
 pub area-recovers : Recovers tellArea
 area-recovers = record {
-  back = elim [ gives a ↦ Area a | refuses r ↦ Turned (refusalOf r) ];
-  once = elim [ Area a ↦ refl | Turned r ↦ ap Turned (refusal-once r) ];
+  back = elim [ gives a ↦ Area a | refuses r ↦ Refused (refusalOf r) ];
+  once = elim [ Area a ↦ refl | Refused r ↦ ap Refused (refusal-once r) ];
 }
 
-module _ {points : List ℤ} {result : Measured} (d : Measures points result) where
+module _ {points : List ℤ} {result : AreaAnswer} (d : Measures points result) where
   -- refused exactly if a listed condition holds, the first that fits, at the least place; measured exactly if none does; and one answer only
   pub area-refused : (r : Told) → (tellArea result ≡ refuses r) ↔ First (measuring points .refusals) r
   area-refused = refused-exactly d
@@ -163,7 +163,7 @@ module _ {points : List ℤ} {result : Measured} (d : Measures points result) wh
   pub area-given : (tellArea result ≡ gives (areaOf points)) ↔ None (measuring points .refusals)
   area-given = given-exactly d
 
-  pub area-only : {other : Measured} → Measures points other → result ≡ other
+  pub area-only : {other : AreaAnswer} → Measures points other → result ≡ other
   area-only e = only-outcome area-recovers d e .0
 
   pub run-measured : PointRun points → result ≡ Area (areaOf points)

@@ -1,4 +1,5 @@
--- "Area" of document 01: the doubled signed area of a run of points (two numbers for each, x and y), its refusals in order, and what is answered.
+-- Area (AREA-1 to AREA-4): the doubled signed area of a run of points (two
+-- numbers for each, x and y), its refusals in order, and what is answered.
 use Prim.Native.Nat.{ℕ, zero, suc, _+_, _*_, _/_}
 use mathlib.Core.Bool.{not, cond}
 use mathlib.Core.List.{List, [], _∷_}
@@ -10,10 +11,10 @@ unfoldable pub use Rattle.polygons.specs.Flat.{runFits}
 use Rattle.mesh.specs.Operation.{Answer, gives, refuses, Condition, whole, Operation, Does}
 use Rattle.mesh.specs.Refusals.{Told, refusal, toldOf}
 use Rattle.mesh.specs.Tests.{range}
-use Rattle.contours.specs.declared.Measured.{Measured}
-use Rattle.contours.specs.declared.Measured.the-variants.{Area, Refused as Turned}
+use Rattle.contours.specs.declared.AreaAnswer.{AreaAnswer}
+use Rattle.contours.specs.declared.AreaAnswer.the-variants.{Area, Refused}
 
--- ---- the area
+-- ---- the area: twice the signed area by the shoelace formula (AREA-1)
 
 -- the number of points of a run
 abbrev pub pointCount : List ℤ → ℕ
@@ -40,27 +41,27 @@ unfoldable pub sumOf : ℕ → (ℕ → ℤ) → ℤ
 sumOf zero f = pos 0
 sumOf (suc n) f = sumOf n f +ℤ f n
 
--- the sum over each point and the next, closed round
+-- the sum over each point and the next, closed round (AREA-1)
 unfoldable pub areaOf : List ℤ → ℤ
 areaOf points = sumOf (pointCount points) (λ i. crossOf points i (nextPoint (pointCount points) i))
 
 -- ---- its refusals
 
--- 1: odd length or more than 98,304 points, place 0
-abbrev pub run : List ℤ → Condition Told
-run points = whole (refusal 1) (not (runFits (length points)))
+-- 1: odd length or more points than LIMIT-6, place 0 (AREA-3)
+abbrev pub runSize : List ℤ → Condition Told
+runSize points = whole (refusal 1) (not (runFits (length points)))
 
 -- ---- Area as a whole
 
--- its refusals in order: 1, and 2, a number out of coordinate range; its value; it is lent no table
+-- its refusals in order (AREA-2): 1, and 2, a number out of coordinate range (AREA-4); its value; it is lent no table
 abbrev pub measuring : List ℤ → Operation Told ℤ Unit
-measuring points = record { refusals = run points ∷ range points ∷ []; values = areaOf points; leaves = λ v. tt }
+measuring points = record { refusals = runSize points ∷ range points ∷ []; values = areaOf points; leaves = λ v. tt }
 
 -- what its answer says
-abbrev pub tellArea : Measured → Answer Told ℤ
+abbrev pub tellArea : AreaAnswer → Answer Told ℤ
 tellArea (Area a) = gives a
-tellArea (Turned r) = refuses (toldOf r)
+tellArea (Refused r) = refuses (toldOf r)
 
 -- the contract of Area
-abbrev pub Measures : List ℤ → Measured → Type 0
+abbrev pub Measures : List ℤ → AreaAnswer → Type 0
 Measures points result = Does measuring tellArea points result tt

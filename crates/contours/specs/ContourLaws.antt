@@ -1,4 +1,5 @@
--- Laws of contours: a contour lies within the table, has the numbers that stand there, and is empty exactly as document 01 says.
+-- Laws of contours: a contour lies within the table, has the numbers that
+-- stand there (CONTOUR-1), and is empty exactly as CONTOUR-3 to CONTOUR-5 say.
 use Prim.Native.Nat.{ℕ, zero, suc, _+_, _-_, _*_, _%_, _≤_, _<_}
 use mathlib.Core.Path.{_≡_, refl, sym, ap, _∙_}
 use mathlib.Core.Bool.{Bool, true, false, cond}
@@ -9,40 +10,41 @@ use lib.ListN.{length, getD, take, drop, length-take, length-drop}
 use lib.Seq.{getD-take, getD-drop}
 use lib.IntN.{ℤ}
 use Rattle.laws.specs.Booleans.{clash, and-parts, and-of, is-false}
+use Rattle.polygons.specs.Flat.{endBefore}
 use Rattle.contours.specs.Contours.{priorEnd, ownEnd, isContour, spanOf, firstOf, contourOf}
 
 pub prior-later : (ends : List ℕ) (j : ℕ) → 0 < j → getD ends (j - 1) 0 ≡ priorEnd ends j
-unfolding priorEnd
+unfolding endBefore
 prior-later ends zero h = absurd (omega arith)
 prior-later ends (suc j) h = let e : suc j - 1 ≡ j = omega arith in ap (λ (i : ℕ). getD ends i 0) e
 
 module _ (n : ℕ) (ends : List ℕ) (j : ℕ) where
   -- what makes a contour
-  pub record Contour : Type 0 where
+  pub record HasContour : Type 0 where
     pub there : j < length ends
     pub rises : priorEnd ends j ≤ ownEnd ends j
     pub within : 2 * ownEnd ends j ≤ n
 
-  pub contour-parts : isContour n ends j ≡ true → Contour
+  pub contour-parts : isContour n ends j ≡ true → HasContour
   unfolding isContour
   contour-parts e =
       let p = and-parts _ _ e in
       let q = and-parts _ _ (p .0) in
       record { there = ltb-true _ _ (q .0); rises = leb-true _ _ (q .1); within = leb-true _ _ (p .1) }
 
-  pub contour-of : Contour → isContour n ends j ≡ true
+  pub contour-of : HasContour → isContour n ends j ≡ true
   unfolding isContour
   contour-of c = and-of (and-of (lt-ltb _ _ (c .there)) (le-leb _ _ (c .rises))) (le-leb _ _ (c .within))
 
-  pub not-contour : (Contour → ⊥) → isContour n ends j ≡ false
+  pub not-contour : (HasContour → ⊥) → isContour n ends j ≡ false
   not-contour h = is-false (isContour n ends j) (λ e. h (contour-parts e))
 
   -- how many numbers it has, and where
-  pub span-there : Contour → spanOf n ends j ≡ 2 * (ownEnd ends j - priorEnd ends j)
+  pub span-there : HasContour → spanOf n ends j ≡ 2 * (ownEnd ends j - priorEnd ends j)
   unfolding spanOf
   span-there c = ap (λ (b : Bool). cond b (2 * (ownEnd ends j - priorEnd ends j)) 0) (contour-of c)
 
-  pub span-none : (Contour → ⊥) → spanOf n ends j ≡ 0
+  pub span-none : (HasContour → ⊥) → spanOf n ends j ≡ 0
   unfolding spanOf
   span-none h = ap (λ (b : Bool). cond b (2 * (ownEnd ends j - priorEnd ends j)) 0) (not-contour h)
 
@@ -55,10 +57,10 @@ module _ (n : ℕ) (ends : List ℕ) (j : ℕ) where
   first-none e = ap (λ (b : Bool). cond b (2 * priorEnd ends j) 0) (le-ltb 0 (spanOf n ends j) (omega arith))
 
   -- only a contour has numbers
-  pub span-contour : 0 < spanOf n ends j → Contour
+  pub span-contour : 0 < spanOf n ends j → HasContour
   span-contour h = by (isContour n ends j) refl
     where
-      by : (b : Bool) → isContour n ends j ≡ b → Contour
+      by : (b : Bool) → isContour n ends j ≡ b → HasContour
       by true e = contour-parts e
       by false e = absurd (omega (arith, span-none (λ c. clash (contour-of c) e)))
 

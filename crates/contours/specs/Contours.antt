@@ -1,21 +1,23 @@
--- "Contour j" of document 01: where it lies in a table of points (two numbers for each, x and y), and what it holds. An end counts points.
-use Prim.Native.Nat.{ℕ, zero, suc, _-_, _*_}
+-- Contour j (CONTOUR-1 to CONTOUR-5): where it lies in a table of points
+-- (two numbers for each, x and y), and what it holds. An end counts points.
+use Prim.Native.Nat.{ℕ, _-_, _*_}
 use mathlib.Core.Bool.{Bool, cond, _&&_}
 use mathlib.Core.List.{List}
 use lib.Dec.{ltb, leb}
 use lib.ListN.{length, getD, take, drop}
 use lib.IntN.{ℤ}
+use Rattle.polygons.specs.Flat.{endBefore}
 
--- the previous end, 0 for the first contour; where j has no end it decides nothing, since `isContour` asks for that first
-unfoldable pub priorEnd : List ℕ → ℕ → ℕ
-priorEnd ends zero = 0
-priorEnd ends (suc j) = getD ends j 0
+-- the previous end, 0 for the first contour (CONTOUR-2); where j has
+-- no end it decides nothing, since `isContour` asks for that first
+abbrev pub priorEnd : List ℕ → ℕ → ℕ
+priorEnd ends j = endBefore 0 ends j
 
 -- its own end, likewise
 abbrev pub ownEnd : List ℕ → ℕ → ℕ
 ownEnd ends j = getD ends j 0
 
--- j has an end, and the two ends neither fall nor pass a table of n numbers
+-- j has an end (CONTOUR-3), and the two ends neither fall (CONTOUR-4) nor pass a table of n numbers (CONTOUR-5)
 unfoldable pub isContour : ℕ → List ℕ → ℕ → Bool
 isContour n ends j = ltb j (length ends) && leb (priorEnd ends j) (ownEnd ends j) && leb (2 * ownEnd ends j) n
 
@@ -27,6 +29,6 @@ spanOf n ends j = cond (isContour n ends j) (2 * (ownEnd ends j - priorEnd ends 
 unfoldable pub firstOf : ℕ → List ℕ → ℕ → ℕ
 firstOf n ends j = cond (ltb 0 (spanOf n ends j)) (2 * priorEnd ends j) 0
 
--- contour j: the part of the points from there, or the empty part
+-- contour j: the part of the points from there (CONTOUR-1), or the empty part (CONTOUR-3 to CONTOUR-5)
 unfoldable pub contourOf : List ℤ → List ℕ → ℕ → List ℤ
 contourOf points ends j = take (spanOf (length points) ends j) (drop (firstOf (length points) ends j) points)

@@ -7,30 +7,23 @@ use native.Mathlib.Omega.{arith}
 use lib.ListN.{length, getD, take, drop, length-drop}
 use lib.Seq.{length-take-le}
 use lib.IntN.{ℤ}
-use Rattle.polygons.specs.Flat.{FlatLayer, numbersOf, pointsIn, polygonsOf, endBefore, isLayer}
-use Rattle.polygons.specs.FlatLaws.{Tested, layer-parts, row-points, contour-in, end-rises}
+use Rattle.polygons.specs.Flat.{FlatLayer, numbersOf, pointsIn, polygonsOf, isLayer}
+use Rattle.polygons.specs.FlatLaws.{FlatTested, layer-parts, row-points, contour-in, end-rises}
 use Rattle.contours.specs.Contours.{priorEnd, ownEnd, contourOf}
 use Rattle.contours.specs.ContourLaws.{contour-of, contour-is}
-
-same-prior : (ends : List ℕ) (j : ℕ) → endBefore 0 ends j ≡ priorEnd ends j
-unfolding endBefore priorEnd
-same-prior ends zero = refl
-same-prior ends (suc j) = refl
 
 pub contour-polygon : (t : FlatLayer) → isLayer t ≡ true → (j : ℕ) → j < length (t .ends)
     → contourOf (t .points) (t .ends) j ≡ numbersOf (getD (polygonsOf t) j [])
 contour-polygon t e j h =
     let w = layer-parts t e in
     let r = end-rises 0 (t .ends) (w .rising) j h in
-    let p : endBefore 0 (t .ends) j ≡ priorEnd (t .ends) j = same-prior (t .ends) j in
     let from = priorEnd (t .ends) j in
     let end = ownEnd (t .ends) j in
     let within : 2 * end ≤ length (t .points) = omega (arith, r .1, w .last) in
-    let rises : from ≤ end = omega (arith, r .0, p) in
+    let rises : from ≤ end = omega (arith, r .0) in
     let row = take (2 * (end - from)) (drop (2 * from) (t .points)) in
     let left : length (drop (2 * from) (t .points)) ≡ length (t .points) - 2 * from = length-drop (2 * from) (t .points) in
     let size : length row ≡ 2 * (end - from) = length-take-le (2 * (end - from)) (drop (2 * from) (t .points)) (omega arith) in
     contour-is (t .points) (t .ends) j (contour-of (length (t .points)) (t .ends) j (record { there = h; rises = rises; within = within }))
     ∙ sym (row-points (end - from) row size .0)
-    ∙ ap (λ (b : ℕ). numbersOf (pointsIn (take (2 * (end - b)) (drop (2 * b) (t .points))))) (sym p)
     ∙ ap numbersOf (sym (contour-in (t .points) 0 (t .ends) j h))

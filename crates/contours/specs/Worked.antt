@@ -1,4 +1,5 @@
--- Worked values: the areas of document 01's part P at heights 5 and 10, and contours of small tables, by computation from the definitions.
+-- Worked values: the areas of part P at heights 5 (WORKED-7) and 10,
+-- and contours of small tables, by computation from the definitions.
 use mathlib.Core.Path.{_≡_, refl}
 use mathlib.Core.List.{List, [], _∷_}
 use Prim.Native.Nat.{ℕ}
@@ -7,10 +8,10 @@ use Rattle.laws.specs.Least.{least, some}
 use Rattle.mesh.specs.Operation.{Answer, gives, refuses, test, _then_, verdict, answerOf}
 use Rattle.mesh.specs.Refusals.{refusal}
 use Rattle.mesh.specs.Tests.{outOfRange}
-use Rattle.polygons.specs.Flat.{pointsIn}
+use Rattle.polygons.specs.Flat.{pointsIn, endBefore}
 use Rattle.polygons.specs.ContourAreas.{crossPoints, areaFrom, contourArea}
 use Rattle.contours.specs.Areas.{crossOf, nextPoint, sumOf, areaOf, runFits, measuring}
-use Rattle.contours.specs.Contours.{priorEnd, isContour, spanOf, firstOf, contourOf}
+use Rattle.contours.specs.Contours.{isContour, spanOf, firstOf, contourOf}
 
 -- ---- areas
 
@@ -66,44 +67,44 @@ abbrev ends : List ℕ
 ends = 3 ∷ 5 ∷ []
 
 first-contour : contourOf points ends 0 ≡ pos 10 ∷ pos 11 ∷ pos 20 ∷ pos 21 ∷ pos 30 ∷ pos 31 ∷ []
-unfolding contourOf firstOf spanOf isContour priorEnd
+unfolding contourOf firstOf spanOf isContour endBefore
 first-contour = refl
 
 second-contour : contourOf points ends 1 ≡ pos 40 ∷ pos 41 ∷ pos 50 ∷ pos 51 ∷ []
-unfolding contourOf firstOf spanOf isContour priorEnd
+unfolding contourOf firstOf spanOf isContour endBefore
 second-contour = refl
 
 -- it starts at position 6
 second-first : firstOf 10 ends 1 ≡ 6
-unfolding firstOf spanOf isContour priorEnd
+unfolding firstOf spanOf isContour endBefore
 second-first = refl
 
 -- j has no end
 without-end : contourOf points ends 2 ≡ []
-unfolding contourOf firstOf spanOf isContour priorEnd
+unfolding contourOf firstOf spanOf isContour endBefore
 without-end = refl
 
 -- the ends fall
 falling : contourOf points (3 ∷ 2 ∷ []) 1 ≡ []
-unfolding contourOf firstOf spanOf isContour priorEnd
+unfolding contourOf firstOf spanOf isContour endBefore
 falling = refl
 
 -- the ends are one: an empty part, at position 0
 level : firstOf 10 (3 ∷ 3 ∷ []) 1 ≡ 0
-unfolding firstOf spanOf isContour priorEnd
+unfolding firstOf spanOf isContour endBefore
 level = refl
 
 -- its own end passes the table
 past : contourOf points (3 ∷ 6 ∷ []) 1 ≡ []
-unfolding contourOf firstOf spanOf isContour priorEnd
+unfolding contourOf firstOf spanOf isContour endBefore
 past = refl
 
 -- the largest end there is
 far-past : contourOf points (4294967295 ∷ []) 0 ≡ []
-unfolding contourOf firstOf spanOf isContour priorEnd
+unfolding contourOf firstOf spanOf isContour endBefore
 far-past = refl
 
 -- the last point of a table of odd length lacks its y
 half-point : contourOf (pos 10 ∷ pos 11 ∷ pos 20 ∷ []) (2 ∷ []) 0 ≡ []
-unfolding contourOf firstOf spanOf isContour priorEnd
+unfolding contourOf firstOf spanOf isContour endBefore
 half-point = refl

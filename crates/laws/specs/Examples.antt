@@ -14,17 +14,17 @@ use Rattle.laws.specs.Linear.{le-by}
 use Rattle.laws.specs.Floor.{floor-shift}
 
 -- the least number above 2, and none above 9 below 5
-found : least 5 (λ i. ltb 2 i) ≡ 3
+least-found : least 5 (λ i. ltb 2 i) ≡ 3
 unfolding least
-found = refl
+least-found = refl
 
-missing : least 5 (λ i. ltb 9 i) ≡ 5
+least-missing : least 5 (λ i. ltb 9 i) ≡ 5
 unfolding least
-missing = refl
+least-missing = refl
 
-counted : count 10 (λ i. ltb i 4) ≡ 4
+count-found : count 10 (λ i. ltb i 4) ≡ 4
 unfolding count
-counted = refl
+count-found = refl
 
 kept-behind : overwrite (tabulate 2 (λ i. i + 7)) (1 ∷ 2 ∷ 3 ∷ []) ≡ 7 ∷ 8 ∷ 3 ∷ []
 unfolding overwrite tabulate
@@ -38,11 +38,11 @@ shear : (a b c d : ℤ) → (a +ℤ c) *ℤ d -ℤ c *ℤ (b +ℤ d) ≡ a *ℤ 
 shear a b c d = ring (a ∷ b ∷ c ∷ d ∷ []) ((x 0 ⊕ x 2) ⊗ x 3 ⊖ x 2 ⊗ (x 1 ⊕ x 3)) (x 0 ⊗ x 3 ⊖ x 2 ⊗ x 1) tt
 
 -- floor division goes down for negative numbers
-down : shrZ (negsuc 0) 2 ≡ negsuc 0
-down = refl
+floor-down : shrZ (negsuc 0) 2 ≡ negsuc 0
+floor-down = refl
 
 shifted : (z : ℤ) → shrZ (z +ℤ pos 5 *ℤ pos 3) 3 ≡ shrZ z 3 +ℤ pos 5
 shifted z = floor-shift z 3 (pos 5) (omega arith)
 
-ordered : (a : ℤ) → (a -ℤ pos 1) ≤ℤ a
-ordered a = le-by (a ∷ []) (x 0 ⊖ # (pos 1)) (x 0) (omega arith)
+one-less : (a : ℤ) → (a -ℤ pos 1) ≤ℤ a
+one-less a = le-by (a ∷ []) (x 0 ⊖ # (pos 1)) (x 0) (omega arith)

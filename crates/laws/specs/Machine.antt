@@ -78,8 +78,8 @@ module _ {w : Width} {x y : ℤ} {B C : ℕ} (r : Rd w x B) (s : Rd w y C) where
   pub sub-le : natAbs (x -ℤ y) ≤ B + C
   sub-le = omega (arith, abs-sub x y, r .le, s .le)
 
-  pub mul-le : natAbs (x *ℤ y) ≤ B * C
-  mul-le = subst (λ (k : ℕ). k ≤ B * C) (sym (abs-mul x y)) (mul-le-mul (r .le) (s .le))
+  pub mul-bound : natAbs (x *ℤ y) ≤ B * C
+  mul-bound = subst (λ (k : ℕ). k ≤ B * C) (sym (abs-mul x y)) (mul-le-mul (r .le) (s .le))
 
   pub add-ok : T (ltb (B + C) (2 ^ hbits w)) → SFits w (toZ w (r .n) +ℤ toZ w (s .n))
   add-ok t = ok (λ i. r .is i +ℤ s .is i) add-le t
@@ -94,10 +94,10 @@ module _ {w : Width} {x y : ℤ} {B C : ℕ} (r : Rd w x B) (s : Rd w y C) where
   sub t = put (λ i. r .is i -ℤ s .is i) sub-le t
 
   pub mul-ok : T (ltb (B * C) (2 ^ hbits w)) → SFits w (toZ w (r .n) *ℤ toZ w (s .n))
-  mul-ok t = ok (λ i. r .is i *ℤ s .is i) mul-le t
+  mul-ok t = ok (λ i. r .is i *ℤ s .is i) mul-bound t
 
   abbrev pub mul : T (ltb (B * C) (2 ^ hbits w)) → Rd w (x *ℤ y) (B * C)
-  mul t = put (λ i. r .is i *ℤ s .is i) mul-le t
+  mul t = put (λ i. r .is i *ℤ s .is i) mul-bound t
 
   -- what a test computed, of the integers
   pub lt-is : {b : Bool} → ltZ (toZ w (r .n)) (toZ w (s .n)) ≡ b → ltZ x y ≡ b

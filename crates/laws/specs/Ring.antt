@@ -147,8 +147,8 @@ module _ (ρ : List ℤ) where
   addP-is none q = sym (+ℤ-idl (evalP q))
   addP-is (term c m p) q = insT-is c m (addP p q) ∙ ap (λ (z : ℤ). c *ℤ evalM m +ℤ z) (addP-is p q) ∙ sym (+ℤ-assoc (c *ℤ evalM m) (evalP p) (evalP q))
 
-  step : (c d m l p q : ℤ) → (c *ℤ d) *ℤ (m *ℤ l) +ℤ ((c *ℤ m) *ℤ p +ℤ q) ≡ (c *ℤ m) *ℤ (d *ℤ l +ℤ p) +ℤ q
-  step c d m l p q =
+  mulT-step : (c d m l p q : ℤ) → (c *ℤ d) *ℤ (m *ℤ l) +ℤ ((c *ℤ m) *ℤ p +ℤ q) ≡ (c *ℤ m) *ℤ (d *ℤ l +ℤ p) +ℤ q
+  mulT-step c d m l p q =
       ap (λ (z : ℤ). z +ℤ ((c *ℤ m) *ℤ p +ℤ q)) swap ∙ sym (+ℤ-assoc ((c *ℤ m) *ℤ (d *ℤ l)) ((c *ℤ m) *ℤ p) q)
       ∙ ap (λ (z : ℤ). z +ℤ q) (sym (mul-add (c *ℤ m) (d *ℤ l) p))
     where
@@ -160,7 +160,7 @@ module _ (ρ : List ℤ) where
   mulT-is c m (term d l p) q =
       insT-is (c *ℤ d) (merge m l) (mulT c m p q)
       ∙ (λ i. (c *ℤ d) *ℤ merge-is m l i +ℤ mulT-is c m p q i)
-      ∙ step c d (evalM m) (evalM l) (evalP p) (evalP q)
+      ∙ mulT-step c d (evalM m) (evalM l) (evalP p) (evalP q)
 
   mulP-is : (p q : Poly) → evalP (mulP p q) ≡ evalP p *ℤ evalP q
   mulP-is none q = sym (zero-*ℤ (evalP q))

@@ -11,15 +11,15 @@ use mir.ValLaws.{toZ-ofZ}
 use Rattle.laws.specs.Integers.{ext, diff, lt-in}
 
 -- a number below zero is -k - 1, and -1 less it is k
-pub record Below (z : ℤ) : Type 0 where
+pub record Negative (z : ℤ) : Type 0 where
   pub k : ℕ
   pub small : k < 2 ^ 63
   pub from : z ≡ negsuc k
   pub minus-is : negsuc 0 -ℤ toZ w64 (ofZ w64 z) ≡ pos k
 
-pub below : (z : ℤ) → SFits w64 z → z <ℤ pos 0 → Below z
-below (pos n) f h = absurd (omega (arith, lt-in h))
-below (negsuc n) f h =
+pub negative : (z : ℤ) → SFits w64 z → z <ℤ pos 0 → Negative z
+negative (pos n) f h = absurd (omega (arith, lt-in h))
+negative (negsuc n) f h =
     record {
       k = n;
       small = f .sfits;
@@ -29,7 +29,7 @@ below (negsuc n) f h =
           ap (λ (z : ℤ). negsuc 0 -ℤ z) (toZ-ofZ w64 (negsuc n) f) ∙ e;
     }
 
-module _ {z : ℤ} (b : Below z) where
+module _ {z : ℤ} (b : Negative z) where
   pub below-fits : SFits w64 (negsuc 0 -ℤ toZ w64 (ofZ w64 z))
   below-fits = subst (SFits w64) (sym (b .minus-is)) (record { sfits = b .small })
 
@@ -37,15 +37,15 @@ module _ {z : ℤ} (b : Below z) where
   below-is = toZ-ofZ w64 (negsuc 0 -ℤ toZ w64 (ofZ w64 z)) below-fits ∙ b .minus-is
 
 -- any other is k
-pub record Above (z : ℤ) : Type 0 where
+pub record NonNegative (z : ℤ) : Type 0 where
   pub k : ℕ
   pub small : k < 2 ^ 63
   pub from : z ≡ pos k
   pub is : toZ w64 (ofZ w64 z) ≡ pos k
 
-pub above : (z : ℤ) → SFits w64 z → pos 0 ≤ℤ z → Above z
-above (negsuc n) f h = absurd (h .le)
-above (pos n) f h = record { k = n; small = f .sfits; from = refl; is = toZ-ofZ w64 (pos n) f }
+pub non-negative : (z : ℤ) → SFits w64 z → pos 0 ≤ℤ z → NonNegative z
+non-negative (negsuc n) f h = absurd (h .le)
+non-negative (pos n) f h = record { k = n; small = f .sfits; from = refl; is = toZ-ofZ w64 (pos n) f }
 
 -- a number that is not negative may be cast to an unsigned one
 pub plain-ok : {z : ℤ} {k : ℕ} → z ≡ pos k → k < 2 ^ 63 → T (nonNeg z) × Fits w64 (natAbs z)

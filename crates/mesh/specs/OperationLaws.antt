@@ -1,6 +1,6 @@
--- What holds of every operation: it refuses exactly if a listed condition holds, the first in order, at its least place; it gives its values exactly if none
--- does;
--- and the outcome that its contract allows is the only one. Below them the laws by which a function that runs tests in order meets a verdict.
+-- What holds of every operation: it refuses exactly if a listed condition holds, the first in order, at its
+-- least place; it gives its values exactly if none does (RESULT-4); and the outcome that its contract allows
+-- is the only one (WRONG-1). Below them the laws by which a function that runs tests in order meets a verdict.
 use Prim.Native.Nat.{ℕ, zero, suc, _≤_, _<_}
 use mathlib.Core.Path.{_≡_, refl, sym, ap, _∙_, subst}
 use mathlib.Core.Bool.{Bool, true, false, cond}

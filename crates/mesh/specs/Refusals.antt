@@ -1,4 +1,4 @@
--- Refusals as document 01 tells them, by number and place, and what an enum's cases tell.
+-- Refusals by number and place (CALL-4, REFUSAL-1 to REFUSAL-16), and what an enum's cases tell (FORM-8).
 use Prim.Native.Nat.{ℕ}
 use mathlib.Core.Bool.{Bool, false, _||_}
 use mathlib.Core.List.{List, [], _∷_}
@@ -10,7 +10,7 @@ use Rattle.mesh.specs.declared.Refusal.the-variants.{Output, Layer, Used
 use Rattle.mesh.specs.declared.Verdict.{Verdict}
 use Rattle.mesh.specs.declared.Verdict.the-variants.{Fine, Refused}
 
--- document 01's number and place
+-- a refusal's number and place (CALL-4)
 pub record Told : Type 0 where
   pub number : ℕ
   pub place : ℕ
@@ -23,7 +23,7 @@ abbrev pub numbered : List ℕ → Told → Bool
 numbered [] r = false
 numbered (n ∷ ns) r = eqb (r .number) n || numbered ns r
 
--- ---- the enums
+-- ---- the enums: each case has the number of its rule, REFUSAL-1 to REFUSAL-16 (FORM-8)
 
 abbrev pub numberOf : Refusal → ℕ
 numberOf (Size p) = 1

@@ -15,7 +15,7 @@ use Rattle.laws.specs.Booleans.{clash, is-true, is-false, from-T, same-test, an
 use Rattle.laws.specs.Integers.{up, dn, abs-is, one-zero, le-in, lt-in, lt-out}
 use Rattle.laws.specs.Machine.{same}
 use Rattle.mesh.specs.Corners.{mostVertices, mostTriangles, largest, vertexCount, triangleCount, nextCorner, startOf, endOf}
-use Rattle.mesh.specs.Tests.{sizesFit, Whole, outOfRange, namesNone, namesTwice, pairOf, reverse, pairedAt, unpaired}
+use Rattle.mesh.specs.Tests.{sizesFit, WholeTriangles, outOfRange, namesNone, namesTwice, pairOf, reverse, pairedAt, unpaired}
 pub use Rattle.mesh.specs.Tests.{Paired}
 
 -- ---- 1
@@ -45,7 +45,7 @@ module _ (a b : ℕ) where
       let r = and-parts _ _ (q .0) in
       (eqb-true (a % 3) 0 (r .0), eqb-true (b % 3) 0 (r .1), leb-true (a / 3) mostVertices (q .1), leb-true (b / 3) mostTriangles (p .1))
 
-  pub sizes-whole : sizesFit a b ≡ true → Whole b
+  pub sizes-whole : sizesFit a b ≡ true → WholeTriangles b
   sizes-whole e = let p = sizes-parts e in record { threes = p .1; few = omega arith }
 
 -- ---- 2

@@ -1,11 +1,14 @@
 // Meshes: why a call is refused, and the tests of tables that every operation shares.
 
-pub mod internal;
+pub mod limits;
+pub mod numbers;
+pub mod refusals;
 pub mod tests;
+pub mod unchecked;
 
-// Why a call is refused, by the numbers of document 01. Each case holds its place.
+// Why a call is refused: case n is REFUSAL-n, with the place inside (FORM-7).
 pub enum Refusal {
-    // 1: a table's length is no multiple of three, or a count is above its limit.
+    // 1: a length or a count does not fit.
     Size(usize),
     // 2: a number is out of coordinate range.
     Range(usize),
@@ -17,15 +20,15 @@ pub enum Refusal {
     Doubled(usize),
     // 6: a corner's reverse edge occurs nowhere.
     Open(usize),
-    // 7: a corner is not paired rightly.
+    // 7: the pairing is missing an entry or wrong.
     Pairing(usize),
-    // 8: the order table is wrong.
+    // 8: the order is missing an entry or wrong.
     Order(usize),
-    // 9: a table to be written is too short.
+    // 9: a lent table is too short.
     Room(usize),
-    // 10: more vertices are passed than there are.
+    // 10: more are passed than there are vertices.
     Passed(usize),
-    // 11: the ring table is not as defined.
+    // 11: the ring table is too short or wrong.
     Ring(usize),
     // 12: a height is not above what came before.
     Height(usize),
@@ -33,9 +36,9 @@ pub enum Refusal {
     File(usize),
     // 14: the output is shorter than the file.
     Output(usize),
-    // 15: there is no such layer.
+    // 15: the file has no such layer.
     Layer(usize),
-    // 16: a walk met a crossing already used.
+    // 16: a walk meets a used crossing, not its start.
     Used(usize),
 }
 

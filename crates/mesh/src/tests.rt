@@ -1,22 +1,25 @@
 // The tests of tables that several operations share. Each answers a verdict, the least place first.
 ghost use mathlib.Core.Path.{_≡_};
 ghost use mathlib.Core.Bool.{true};
-ghost use mathlib.Core.List.{[], _∷_};
-ghost use Prim.Native.Nat.{ℕ, _+_, _*_, _/_, _<_};
+ghost use Prim.Native.Nat.{_+_, _*_, _/_, _<_};
 ghost use lib.ListN.{length};
 ghost use Rattle.laws.specs.Least.{least};
-ghost use Rattle.mesh.specs.Corners.{vertexCount, triangleCount};
+ghost use Rattle.mesh.specs.Corners.{triangleCount};
 ghost use Rattle.mesh.specs.Meshes.{mesh};
 ghost use Rattle.mesh.specs.Operation.{Nowhere, test, verdict};
 ghost use Rattle.mesh.specs.Refusals.{tellVerdict};
 ghost use Rattle.mesh.specs.Tests.{sizesFit, size, outOfRange, range, namesNone, vertex, namesTwice, triangle, meshTests};
 use crate::Refusal;
 use crate::Verdict;
-use crate::internal::wide;
+use crate::limits::MOST_TRIANGLES;
+use crate::limits::MOST_VERTICES;
+use crate::unchecked::names_none;
+use crate::unchecked::names_twice;
+use crate::unchecked::out_of_range;
 
 // Whether tables of these lengths hold whole vertices and triangles, within the limits.
 fn sizes_fit(coords: usize, corners: usize) -> bool
-    ensures { λ r. ⌜ r ≡ sizesFit coords corners ⌝ }
+    ensures value { λ r. ⌜ r ≡ sizesFit coords corners ⌝ }
 {
     if coords % 3 != 0 {
         return false;
@@ -24,15 +27,15 @@ fn sizes_fit(coords: usize, corners: usize) -> bool
     if corners % 3 != 0 {
         return false;
     }
-    if 32768 < coords / 3 {
+    if MOST_VERTICES < coords / 3 {
         return false;
     }
-    corners / 3 <= 65536
+    corners / 3 <= MOST_TRIANGLES
 }
 
-// Refusal 1.
+// Refusal 1 (CHECK-5).
 pub fn size_test(coords: &[i32], corners: &[u32]) -> Verdict
-    ensures { λ r. ⌜ tellVerdict r ≡ test (size (mesh (now (coords .entry)) (now (corners .entry)))) ⌝ }
+    ensures told { λ r. ⌜ tellVerdict r ≡ test (size (mesh (now (coords .entry)) (now (corners .entry)))) ⌝ }
 {
     if sizes_fit(coords.len(), corners.len()) {
         return Verdict::Fine;
@@ -40,21 +43,9 @@ pub fn size_test(coords: &[i32], corners: &[u32]) -> Verdict
     Verdict::Refused(Refusal::Size(0))
 }
 
-// Whether the number at position i is no coordinate.
-fn out_of_range(coords: &[i32], i: usize) -> bool
-    requires { ⌜ i < length (now coords) ⌝ }
-    ensures { λ r. ⌜ r ≡ outOfRange (now (coords .entry)) i ⌝ }
-{
-    let z = coords[i];
-    if z < -1048576 {
-        return true;
-    }
-    1048576 < z
-}
-
 // Whether every number is a coordinate: a pass that returns at its end only, and so tests several at once.
 fn all_in_range(coords: &[i32]) -> bool
-    ensures { λ r. ⌜ (r ≡ true → Nowhere (range (now (coords .entry)))) ⌝ }
+    ensures sound { λ r. ⌜ (r ≡ true → Nowhere (range (now (coords .entry)))) ⌝ }
 {
     let mut fine = true;
     let mut i: usize = 0;
@@ -67,7 +58,7 @@ fn all_in_range(coords: &[i32]) -> bool
 
 // The least position with no coordinate, else the table's length.
 fn first_out(coords: &[i32]) -> usize
-    ensures { λ r. ⌜ r ≡ least (length (now (coords .entry))) (outOfRange (now (coords .entry))) ⌝ }
+    ensures value { λ r. ⌜ r ≡ least (length (now (coords .entry))) (outOfRange (now (coords .entry))) ⌝ }
 {
     let mut i: usize = 0;
     while i < coords.len() {
@@ -79,9 +70,9 @@ fn first_out(coords: &[i32]) -> usize
     i
 }
 
-// Refusal 2.
+// Refusal 2 (CHECK-7, AREA-4).
 pub fn range_test(coords: &[i32]) -> Verdict
-    ensures { λ r. ⌜ tellVerdict r ≡ test (range (now (coords .entry))) ⌝ }
+    ensures told { λ r. ⌜ tellVerdict r ≡ test (range (now (coords .entry))) ⌝ }
 {
     if all_in_range(coords) {
         return Verdict::Fine;
@@ -93,19 +84,11 @@ pub fn range_test(coords: &[i32]) -> Verdict
     Verdict::Fine
 }
 
-// Whether corner c names no vertex.
-fn names_none(vertices: usize, corners: &[u32], c: usize) -> bool
-    requires { ⌜ c < length (now corners) ⌝ }
-    ensures { λ r. ⌜ r ≡ namesNone vertices (now (corners .entry)) c ⌝ }
-{
-    vertices <= wide(corners[c])
-}
-
 // Whether each corner names one of at most 32,768 vertices: a pass that returns at its end only, and so tests several at once.
 fn all_named(vertices: usize, corners: &[u32]) -> bool
-    ensures { λ r. ⌜ (r ≡ true → Nowhere (vertex vertices (now (corners .entry)))) ⌝ }
+    ensures sound { λ r. ⌜ (r ≡ true → Nowhere (vertex vertices (now (corners .entry)))) ⌝ }
 {
-    if 32768 < vertices {
+    if MOST_VERTICES < vertices {
         return false;
     }
     let end = vertices as u32;
@@ -120,7 +103,7 @@ fn all_named(vertices: usize, corners: &[u32]) -> bool
 
 // The least corner that names no vertex, else the number of corners.
 fn first_stray(vertices: usize, corners: &[u32]) -> usize
-    ensures { λ r. ⌜ r ≡ least (length (now (corners .entry))) (namesNone vertices (now (corners .entry))) ⌝ }
+    ensures value { λ r. ⌜ r ≡ least (length (now (corners .entry))) (namesNone vertices (now (corners .entry))) ⌝ }
 {
     let mut c: usize = 0;
     while c < corners.len() {
@@ -132,9 +115,9 @@ fn first_stray(vertices: usize, corners: &[u32]) -> usize
     c
 }
 
-// Refusal 3.
+// Refusal 3 (CHECK-8).
 pub fn vertex_test(vertices: usize, corners: &[u32]) -> Verdict
-    ensures { λ r. ⌜ tellVerdict r ≡ test (vertex vertices (now (corners .entry))) ⌝ }
+    ensures told { λ r. ⌜ tellVerdict r ≡ test (vertex vertices (now (corners .entry))) ⌝ }
 {
     if all_named(vertices, corners) {
         return Verdict::Fine;
@@ -146,29 +129,9 @@ pub fn vertex_test(vertices: usize, corners: &[u32]) -> Verdict
     Verdict::Fine
 }
 
-// Whether triangle t names a vertex twice.
-fn names_twice(corners: &[u32], t: usize) -> bool
-    requires { ⌜ t < triangleCount (now corners) ⌝ }
-    ensures { λ r. ⌜ r ≡ namesTwice (now (corners .entry)) t ⌝ }
-{
-    let i = 3 * t;
-    let j = i + 1;
-    let k = i + 2;
-    let a = corners[i];
-    let b = corners[j];
-    let c = corners[k];
-    if a == b {
-        return true;
-    }
-    if b == c {
-        return true;
-    }
-    c == a
-}
-
 // The least triangle that names a vertex twice, else the number of triangles.
 fn first_degenerate(corners: &[u32]) -> usize
-    ensures { λ r. ⌜ r ≡ least (triangleCount (now (corners .entry))) (namesTwice (now (corners .entry))) ⌝ }
+    ensures value { λ r. ⌜ r ≡ least (triangleCount (now (corners .entry))) (namesTwice (now (corners .entry))) ⌝ }
 {
     let n = corners.len() / 3;
     let mut t: usize = 0;
@@ -181,9 +144,9 @@ fn first_degenerate(corners: &[u32]) -> usize
     t
 }
 
-// Refusal 4.
+// Refusal 4 (CHECK-9).
 pub fn triangle_test(corners: &[u32]) -> Verdict
-    ensures { λ r. ⌜ tellVerdict r ≡ test (triangle (now (corners .entry))) ⌝ }
+    ensures told { λ r. ⌜ tellVerdict r ≡ test (triangle (now (corners .entry))) ⌝ }
 {
     let t = first_degenerate(corners);
     if t < corners.len() / 3 {
@@ -194,7 +157,7 @@ pub fn triangle_test(corners: &[u32]) -> Verdict
 
 // Refusals 2, 3 and 4.
 pub fn mesh_test(coords: &[i32], corners: &[u32]) -> Verdict
-    ensures { λ r. ⌜ tellVerdict r ≡ verdict (meshTests (mesh (now (coords .entry)) (now (corners .entry)))) ⌝ }
+    ensures told { λ r. ⌜ tellVerdict r ≡ verdict (meshTests (mesh (now (coords .entry)) (now (corners .entry)))) ⌝ }
 {
     let a = range_test(coords);
     if let Verdict::Refused(_) = a {

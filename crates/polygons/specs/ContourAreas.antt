@@ -1,4 +1,5 @@
--- The doubled signed area of a contour as a list of points ("Area" of document 01), by recursion along its points.
+-- The doubled signed area of a contour as a list of points
+-- (AREA-1, the shoelace formula), by recursion along its points.
 use mathlib.Core.List.{List, [], _∷_}
 use lib.IntN.{ℤ, pos, _+ℤ_, _-ℤ_, _*ℤ_}
 use Rattle.polygons.specs.Flat.{Point}

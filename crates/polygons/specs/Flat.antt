@@ -1,5 +1,5 @@
--- A layer as data ("Section and points" of document 01): its contours as lists of points, the two tables that hold them (points, x and y in turn, and ends, for
--- each contour the number of points up to its end), the way back, and the test that two tables are those of a layer.
+-- A layer as data: its contours as lists of points, the two tables that hold them (points as in
+-- CUT-3, ends as in CUT-4), the way back, and the test that two tables are those of a layer.
 use Prim.Native.Nat.{ℕ, zero, suc, _+_, _-_, _*_, _/_, _%_, _≤_}
 use mathlib.Core.Bool.{Bool, true, not, _&&_}
 use mathlib.Core.List.{List, [], _∷_, flatten}
@@ -17,7 +17,7 @@ pub record Point : Type 0 where
   pub x : ℤ
   pub y : ℤ
 
--- fewest points of a contour
+-- fewest points of a contour (SECTION-7, FILE-4)
 abbrev pub fewestPoints : ℕ
 fewestPoints = 2
 
@@ -31,7 +31,7 @@ abbrev pub Each : {A : Type 0} → (A → Type 0) → List A → Type 0
 Each P [] = Unit {0}
 Each P (a ∷ l) = P a × Each P l
 
--- contours of two points or more, and of no more points than a layer has
+-- contours of two points or more (FILE-4), and of no more points than a layer has (FILE-5)
 pub record Polygons (cs : List (List Point)) : Type 0 where
   pub few : pointTotal cs ≤ mostPoints
   pub each : Each (λ (c : List Point). fewestPoints ≤ length c) cs
@@ -46,12 +46,12 @@ pub record FlatLayer : Type 0 where
 abbrev pub flat : List ℤ → List ℕ → FlatLayer
 flat points ends = record { points = points; ends = ends }
 
--- x and y of each point, in turn
+-- x and y of each point, in turn (CUT-3)
 unfoldable pub numbersOf : List Point → List ℤ
 numbersOf [] = []
 numbersOf (p ∷ c) = p .x ∷ p .y ∷ numbersOf c
 
--- for each contour the number of points up to its end, where k came before
+-- for each contour the number of points up to its end, where k came before (CUT-4)
 unfoldable pub endsFrom : {A : Type 0} → ℕ → List (List A) → List ℕ
 endsFrom k [] = []
 endsFrom k (c ∷ cs) = (k + length c) ∷ endsFrom (k + length c) cs
@@ -70,12 +70,13 @@ pointsIn [] = []
 pointsIn (x ∷ []) = []
 pointsIn (x ∷ y ∷ row) = record { x = x; y = y } ∷ pointsIn row
 
--- the contours with these ends, after one that ended at `from`: each is a part of the points, from the previous end to its own
+-- the contours with these ends, after one that ended at `from`: each is
+-- a part of the points, from the previous end to its own (CONTOUR-1)
 unfoldable pub contoursIn : List ℤ → ℕ → List ℕ → List (List Point)
 contoursIn points from [] = []
 contoursIn points from (end ∷ ends) = pointsIn (take (2 * (end - from)) (drop (2 * from) points)) ∷ contoursIn points end ends
 
--- the end before number j of these ends, `from` for the first
+-- the end before number j of these ends, `from` for the first; asked only where number j is an end
 unfoldable pub endBefore : ℕ → List ℕ → ℕ → ℕ
 endBefore from ends zero = from
 endBefore from ends (suc j) = getD ends j 0
@@ -85,14 +86,14 @@ polygonsOf t = contoursIn (t .points) 0 (t .ends)
 
 -- ---- 1: two tables are not those of a layer, place 0
 
--- n numbers are points, and not more than a layer has
+-- n numbers are points, and not more than a run or a layer has (AREA-3, LIMIT-7)
 unfoldable pub runFits : ℕ → Bool
 runFits n = eqb (n % 2) 0 && leb (n / 2) mostPoints
 
 -- ends rise by two or more, from `from` on
-unfoldable pub rises : ℕ → List ℕ → Bool
-rises from [] = true
-rises from (end ∷ ends) = leb (from + fewestPoints) end && rises end ends
+unfoldable pub endsRise : ℕ → List ℕ → Bool
+endsRise from [] = true
+endsRise from (end ∷ ends) = leb (from + fewestPoints) end && endsRise end ends
 
 -- the last end, `from` if there is none
 unfoldable pub lastEnd : ℕ → List ℕ → ℕ
@@ -103,7 +104,7 @@ lastEnd from (end ∷ ends) = lastEnd end ends
 unfoldable pub isLayer : FlatLayer → Bool
 isLayer t =
     let n = length (t .points) in
-    runFits n && rises 0 (t .ends) && eqb (lastEnd 0 (t .ends)) (n / 2)
+    runFits n && endsRise 0 (t .ends) && eqb (lastEnd 0 (t .ends)) (n / 2)
 
 abbrev pub notLayer : FlatLayer → Condition Told
 notLayer t = whole (refusal 1) (not (isLayer t))

@@ -16,7 +16,7 @@ use Rattle.mesh.specs.Operation.{fine, test}
 use Rattle.mesh.specs.OperationLaws.{whole-fine, fine-nowhere}
 use Rattle.mesh.specs.Refusals.{refusal}
 use Rattle.polygons.specs.Flat.{Point, mostPoints, fewestPoints, pointTotal, Each, Polygons, FlatLayer, flat, numbersOf, endsFrom, endsOf, flatOf}
-use Rattle.polygons.specs.Flat.{pointsIn, contoursIn, polygonsOf, endBefore, runFits, rises, lastEnd, isLayer, notLayer}
+use Rattle.polygons.specs.Flat.{pointsIn, contoursIn, polygonsOf, endBefore, runFits, endsRise, lastEnd, isLayer, notLayer}
 
 -- ---- how long the tables are, part by part
 
@@ -136,8 +136,8 @@ row-points (suc k) (x ∷ y ∷ row) e =
     let r = row-points k row (omega arith) in
     (ap (λ (l : List ℤ). x ∷ y ∷ l) (r .0), ap suc (r .1))
 
-last-above : (from : ℕ) (ends : List ℕ) → rises from ends ≡ true → from ≤ lastEnd from ends
-unfolding rises lastEnd
+last-above : (from : ℕ) (ends : List ℕ) → endsRise from ends ≡ true → from ≤ lastEnd from ends
+unfolding endsRise lastEnd
 last-above from [] e = omega arith
 last-above from (end ∷ ends) e =
     let p = and-parts _ _ e in
@@ -151,8 +151,8 @@ module _ (points : List ℤ) where
     pub total : from + pointTotal (contoursIn points from ends) ≡ lastEnd from ends
     pub each : Each (λ (c : List Point). fewestPoints ≤ length c) (contoursIn points from ends)
 
-  pub back : (from : ℕ) (ends : List ℕ) → rises from ends ≡ true → 2 * lastEnd from ends ≡ length points → Back from ends
-  unfolding contoursIn endsFrom lastEnd rises
+  pub back : (from : ℕ) (ends : List ℕ) → endsRise from ends ≡ true → 2 * lastEnd from ends ≡ length points → Back from ends
+  unfolding contoursIn endsFrom lastEnd endsRise
   back from [] r e =
       record {
         points-back = flatten-none ∙ sym (drop-of-length-le points {i = 2 * from} (omega arith));
@@ -185,13 +185,13 @@ module _ (points : List ℤ) where
 -- ---- the test
 
 -- what it asks
-pub record Tested (t : FlatLayer) : Type 0 where
+pub record FlatTested (t : FlatLayer) : Type 0 where
   pub even : length (t .points) % 2 ≡ 0
   pub few : length (t .points) / 2 ≤ mostPoints
-  pub rising : rises 0 (t .ends) ≡ true
+  pub rising : endsRise 0 (t .ends) ≡ true
   pub last : lastEnd 0 (t .ends) ≡ length (t .points) / 2
 
-pub layer-parts : (t : FlatLayer) → isLayer t ≡ true → Tested t
+pub layer-parts : (t : FlatLayer) → isLayer t ≡ true → FlatTested t
 unfolding isLayer runFits
 layer-parts t e =
     let p = and-parts _ _ e in
@@ -199,12 +199,12 @@ layer-parts t e =
     let r = and-parts _ _ (q .0) in
     record { even = eqb-true _ _ (r .0); few = leb-true _ _ (r .1); rising = q .1; last = eqb-true _ _ (p .1) }
 
-pub layer-of : (t : FlatLayer) → Tested t → isLayer t ≡ true
+pub layer-of : (t : FlatLayer) → FlatTested t → isLayer t ≡ true
 unfolding isLayer runFits
 layer-of t h = and-of (and-of (and-of (eq-eqb _ _ (h .even)) (le-leb _ _ (h .few))) (h .rising)) (eq-eqb _ _ (h .last))
 
 -- the tables of the contours of a layer's tables are these tables, and the contours have two points or more
-module _ (t : FlatLayer) (h : Tested t) where
+module _ (t : FlatLayer) (h : FlatTested t) where
   its-back : Back (t .points) 0 (t .ends)
   its-back = back (t .points) 0 (t .ends) (h .rising) (omega (arith, h .even, h .last))
 
@@ -216,14 +216,14 @@ module _ (t : FlatLayer) (h : Tested t) where
 
 -- and the tables of such contours pass
 ends-rise : (k : ℕ) (cs : List (List Point)) → Each (λ (c : List Point). fewestPoints ≤ length c) cs
-    → (rises k (endsFrom k cs) ≡ true) × (lastEnd k (endsFrom k cs) ≡ k + pointTotal cs)
-unfolding rises lastEnd endsFrom
+    → (endsRise k (endsFrom k cs) ≡ true) × (lastEnd k (endsFrom k cs) ≡ k + pointTotal cs)
+unfolding endsRise lastEnd endsFrom
 ends-rise k [] e = (refl, omega arith)
 ends-rise k (c ∷ cs) e =
     let r = ends-rise (k + length c) cs (e .1) in
     (and-of (le-leb (k + fewestPoints) (k + length c) (omega (arith, e .0))) (r .0), omega (arith, r .1))
 
-pub polygons-tested : (cs : List (List Point)) → Polygons cs → Tested (flatOf cs)
+pub polygons-tested : (cs : List (List Point)) → Polygons cs → FlatTested (flatOf cs)
 polygons-tested cs p =
     let n = length-points cs in
     let r = ends-rise 0 cs (p .each) in
@@ -233,7 +233,7 @@ polygons-tested cs p =
 pub layer-exactly : (t : FlatLayer) → (isLayer t ≡ true) ↔ ((cs : List (List Point)) × Polygons cs × (t ≡ flatOf cs))
 layer-exactly t = (
   (λ e. let h = layer-parts t e in (polygonsOf t, layer-polygons t h, sym (flat-polygons t h))),
-  (λ q. layer-of t (subst Tested (sym (q .2)) (polygons-tested (q .0) (q .1)))),
+  (λ q. layer-of t (subst FlatTested (sym (q .2)) (polygons-tested (q .0) (q .1)))),
 )
 
 -- refusal 1 finds nothing of exactly these
@@ -261,14 +261,14 @@ contour-in points from (end ∷ ends) (suc j) h =
     ∙ ap (λ (b : ℕ). pointsIn (take (2 * (getD ends j 0 - b)) (drop (2 * b) points))) (before-later from end ends j)
 
 -- it has two points or more and ends with the last one or before
-pub end-rises : (from : ℕ) (ends : List ℕ) → rises from ends ≡ true → (j : ℕ) → j < length ends
+pub end-rises : (from : ℕ) (ends : List ℕ) → endsRise from ends ≡ true → (j : ℕ) → j < length ends
     → (endBefore from ends j + fewestPoints ≤ getD ends j 0) × (getD ends j 0 ≤ lastEnd from ends)
-unfolding rises lastEnd endBefore
+unfolding endsRise lastEnd endBefore
 end-rises from [] e j h = absurd (omega arith)
 end-rises from (end ∷ ends) e zero h =
-    let p = and-parts (leb (from + fewestPoints) end) (rises end ends) e in
+    let p = and-parts (leb (from + fewestPoints) end) (endsRise end ends) e in
     (leb-true (from + fewestPoints) end (p .0), last-above end ends (p .1))
 end-rises from (end ∷ ends) e (suc j) h =
-    let p = and-parts (leb (from + fewestPoints) end) (rises end ends) e in
+    let p = and-parts (leb (from + fewestPoints) end) (endsRise end ends) e in
     let r = end-rises end ends (p .1) j (omega arith) in
     (omega (arith, r .0, before-later from end ends j), r .1)

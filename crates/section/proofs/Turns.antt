@@ -173,14 +173,14 @@ module _ (passed : VertexSet) (corners pairing : List ℕ) {c : ℕ} {start end 
 -- ---- link_triangle
 
 -- whether the three vertices of a triangle are passed
-pub record Seen (passed : VertexSet) (corners : List ℕ) (c : ℕ) (p q r : Bool) : Type 0 where
+pub record TrianglePassed (passed : VertexSet) (corners : List ℕ) (c : ℕ) (p q r : Bool) : Type 0 where
   pub first : c % 3 ≡ 0
   pub inside : c + 2 < length corners
   pub p-is : p ≡ passed (startOf corners c)
   pub q-is : q ≡ passed (startOf corners (c + 1))
   pub r-is : r ≡ passed (startOf corners (c + 2))
 
-module _ {passed : VertexSet} {corners : List ℕ} {c : ℕ} {p q r : Bool} (s : Seen passed corners c p q r) where
+module _ {passed : VertexSet} {corners : List ℕ} {c : ℕ} {p q r : Bool} (s : TrianglePassed passed corners c p q r) where
   from : {a b : Bool} (d e : ℕ) → d < length corners → nextCorner d ≡ e → a ≡ passed (startOf corners d) → b ≡ passed (startOf corners e)
       → Between passed corners d a b
   from d e l n x y = record { corner = l; start-is = sym x; end-is = ap (λ (j : ℕ). passed (startOf corners j)) n ∙ sym y }
@@ -199,7 +199,7 @@ pub three-are : (f : ℕ → ℕ) (c : ℕ) (t : List ℕ) {x y z : ℕ} → x �
 three-are f c t ex ey ez = λ i. set (set (set t c (ex i)) (c + 1) (ey i)) (c + 2) (ez i)
 
 -- where all three vertices are passed, or none is, no corner of the triangle is a crossing
-pub three-level : {passed : VertexSet} {corners : List ℕ} {c : ℕ} {p q r : Bool} (pairing t : List ℕ) → Seen passed corners c p q r
+pub three-level : {passed : VertexSet} {corners : List ℕ} {c : ℕ} {p q r : Bool} (pairing t : List ℕ) → TrianglePassed passed corners c p q r
     → p ≡ q → q ≡ r → set (set (set t c noCorner) (c + 1) noCorner) (c + 2) noCorner ≡ setThree (ringEntry passed corners pairing) c t
 three-level {passed} {corners} {c} pairing t s e f =
     three-are (ringEntry passed corners pairing) c t

@@ -17,14 +17,23 @@ use Rattle.section.specs.SectionLaws.{successor-crosses, successor-injec
 use Rattle.section.specs.Rings.{iterate, Ring}
 pub use Rattle.section.specs.Rings.{Leads}
 use Rattle.section.specs.RingLaws.{ring-of}
-use Rattle.section.specs.Contours.{member, contours, stuck, namesOf, traceAt, traceTo, trace}
-use Rattle.section.specs.Layers.{first, Contour, contourAt, Distinct, LayerContours}
+use Rattle.section.specs.Contours.{member, contours, stuck, namesOf, endsFrom, traceAt, traceTo, trace}
+use Rattle.section.specs.Layers.{firstName, Contour, contourAt, Distinct, LayerContours}
 use Rattle.section.specs.OrbitLaws.{member-none, member-join, at-member, distinct-few, orbit, iterate-add, length-orbit, getD-orbit, orbit-at, at-orbit}
 use Rattle.section.specs.OrbitLaws.{walk-closes, next-in, distinct-ring}
 
 pub names-snoc : (rs : List (List ℕ)) (r : List ℕ) → namesOf (rs ++ (r ∷ [])) ≡ namesOf rs ++ r
 names-snoc [] r = append-nil r
 names-snoc (x ∷ rs) r = ap (λ (l : List ℕ). x ++ l) (names-snoc rs r) ∙ sym (append-assoc x (namesOf rs) r)
+
+pub ends-snoc : (k : ℕ) (rs : List (List ℕ)) (r : List ℕ) → endsFrom k (rs ++ (r ∷ [])) ≡ endsFrom k rs ++ ((k + length (namesOf rs) + length r) ∷ [])
+unfolding endsFrom
+ends-snoc k [] r = let e : k + length r ≡ k + 0 + length r = omega arith in ap (λ (x : ℕ). x ∷ []) e
+ends-snoc k (q ∷ rs) r =
+    ap (λ (l : List ℕ). (k + length q) ∷ l)
+    (ends-snoc (k + length q) rs r
+    ∙ (let e : k + length q + length (namesOf rs) + length r ≡ k + length (q ++ namesOf rs) + length r = omega (arith, length-append q (namesOf rs)) in
+    ap (λ (x : ℕ). endsFrom (k + length q) rs ++ (x ∷ [])) e))
 
 module _ (rs : List (List ℕ)) (r : List ℕ) where
   old-at : (i : ℕ) → i < length rs → contourAt (rs ++ (r ∷ [])) i ≡ contourAt rs i
@@ -48,8 +57,8 @@ module _ (rs : List (List ℕ)) (r : List ℕ) where
 
 module _ (rises : ℕ → Bool) (next : ℕ → ℕ) (n : ℕ) (leads : Leads rises next n) where
   -- a contour starts at c
-  abbrev pub starting : List (List ℕ) → ℕ → Bool
-  starting rs c = rises c && not (member c (namesOf rs))
+  abbrev pub startsAt : List (List ℕ) → ℕ → Bool
+  startsAt rs c = rises c && not (member c (namesOf rs))
 
   -- these are the contours that start below c
   pub record Begun (c : ℕ) (rs : List (List ℕ)) : Type 0 where
@@ -58,8 +67,8 @@ module _ (rises : ℕ → Bool) (next : ℕ → ℕ) (n : ℕ) (leads : Leads ri
     pub whole : (x : ℕ) → member x (namesOf rs) ≡ true → member (next x) (namesOf rs) ≡ true
     pub every : (x : ℕ) → x < c → Among n rises x → member x (namesOf rs) ≡ true
     pub each : (i : ℕ) → i < length rs → Contour next (contourAt rs i)
-    pub ascend : (i j : ℕ) → i < j → j < length rs → first (contourAt rs i) < first (contourAt rs j)
-    pub starts : (i : ℕ) → i < length rs → first (contourAt rs i) < c
+    pub ascend : (i j : ℕ) → i < j → j < length rs → firstName (contourAt rs i) < firstName (contourAt rs j)
+    pub starts : (i : ℕ) → i < length rs → firstName (contourAt rs i) < c
     pub once : Distinct (namesOf rs)
     pub few : length rs ≤ c
 
@@ -78,7 +87,7 @@ module _ (rises : ℕ → Bool) (next : ℕ → ℕ) (n : ℕ) (leads : Leads ri
       }
 
   -- c is no crossing, or a contour has it already
-  pub begun-skip : (c : ℕ) (rs : List (List ℕ)) → Begun c rs → starting rs c ≡ false → Begun (suc c) rs
+  pub begun-skip : (c : ℕ) (rs : List (List ℕ)) → Begun c rs → startsAt rs c ≡ false → Begun (suc c) rs
   begun-skip c rs b e =
       record {
         is = unfold traceTo in (ap (traceAt rises next n c) (b .is) ∙ old);
@@ -96,7 +105,7 @@ module _ (rises : ℕ → Bool) (next : ℕ → ℕ) (n : ℕ) (leads : Leads ri
       old = unfold traceAt in (rw (e, traceAt))
 
       at : (x : ℕ) → x < suc c → Among n rises x → Dec (x ≡ c) → member x (namesOf rs) ≡ true
-      at x l y (yes q) = is-true (member x (namesOf rs)) (λ m. clash (subst (λ (k : ℕ). starting rs k ≡ true) q (and-of (y .upward) (not-of m))) e)
+      at x l y (yes q) = is-true (member x (namesOf rs)) (λ m. clash (subst (λ (k : ℕ). startsAt rs k ≡ true) q (and-of (y .upward) (not-of m))) e)
       at x l y (no q) = b .every x (omega arith) y
 
   -- the crossings from one on
@@ -115,8 +124,8 @@ module _ (rises : ℕ → Bool) (next : ℕ → ℕ) (n : ℕ) (leads : Leads ri
     abbrev pub ring : Ring next n c
     ring = ring-of next n (Among n rises) (λ d y. y .below) (leads .into) (leads .apart) c x
 
-    abbrev pub contour : List ℕ
-    contour = orbit next (ring .steps) c
+    abbrev pub ringNames : List ℕ
+    ringNames = orbit next (ring .steps) c
 
     -- a ring whose start is not used has no place that is
     pub fresh : (j : ℕ) → j < ring .steps → member (iterate next j c) (namesOf rs) ≡ false
@@ -128,13 +137,13 @@ module _ (rises : ℕ → Bool) (next : ℕ → ℕ) (n : ℕ) (leads : Leads ri
         (along c rs b _ (ring .steps - j) q))
         unused)
 
-    first-is : first contour ≡ c
+    first-is : firstName ringNames ≡ c
     first-is = getD-orbit next (ring .steps) c 0 (ring .some-step) ∙ (unfold iterate in refl)
 
-    least-is : (y : ℕ) → member y contour ≡ true → first contour ≤ y
+    least-is : (y : ℕ) → member y ringNames ≡ true → firstName ringNames ≤ y
     least-is y e = by (orbit-at next y (ring .steps) c e) (decLt y c)
       where
-        by : (i : ℕ) × (i < ring .steps) × (y ≡ iterate next i c) → Dec (y < c) → first contour ≤ y
+        by : (i : ℕ) × (i < ring .steps) × (y ≡ iterate next i c) → Dec (y < c) → firstName ringNames ≤ y
         by a (yes l) =
             absurd (clash (b .every y l (subst (Among n rises) (sym (a .2)) (crosses c x (a .0))))
             (ap (λ (v : ℕ). member v (namesOf rs)) (a .2) ∙ fresh (a .0) (a .1)))
@@ -147,87 +156,87 @@ module _ (rises : ℕ → Bool) (next : ℕ → ℕ) (n : ℕ) (leads : Leads ri
         by (yes e) = absurd (leads .moves c x (unfold iterate in (sym (ap (λ (k : ℕ). iterate next k c) e) ∙ ring .returns)))
         by (no e) = omega (arith, ring .some-step)
 
-    follow-is : (i : ℕ) → suc i < ring .steps → getD contour (suc i) 0 ≡ next (getD contour i 0)
+    follow-is : (i : ℕ) → suc i < ring .steps → getD ringNames (suc i) 0 ≡ next (getD ringNames i 0)
     unfolding iterate
     follow-is i l = getD-orbit next (ring .steps) c (suc i) l ∙ ap next (sym (getD-orbit next (ring .steps) c i (omega arith)))
 
-    close-is : next (getD contour (ring .steps - 1) 0) ≡ first contour
+    close-is : next (getD ringNames (ring .steps - 1) 0) ≡ firstName ringNames
     unfolding iterate
     close-is =
         let e : suc (ring .steps - 1) ≡ ring .steps = omega (arith, ring .some-step) in
         ap next (getD-orbit next (ring .steps) c (ring .steps - 1) (omega (arith, ring .some-step))) ∙ ap (λ (k : ℕ). iterate next k c) e ∙ ring .returns
         ∙ sym first-is
 
-    shape : Contour next contour
+    shape : Contour next ringNames
     shape =
-        let l : length contour ≡ ring .steps = length-orbit next (ring .steps) c in
+        let l : length ringNames ≡ ring .steps = length-orbit next (ring .steps) c in
         record {
           two = omega (arith, two-is);
           least = least-is;
           follows = λ i m. follow-is i (omega arith);
-          closes = ap (λ (k : ℕ). next (getD contour (k - 1) 0)) l ∙ close-is;
+          closes = ap (λ (k : ℕ). next (getD ringNames (k - 1) 0)) l ∙ close-is;
         }
 
-    pub begun-ring : Begun (suc c) (rs ++ (contour ∷ []))
+    pub begun-ring : Begun (suc c) (rs ++ (ringNames ∷ []))
     begun-ring =
         record {
           is = unfold traceTo in (ap (traceAt rises next n c) (b .is) ∙ new);
           only = λ v e. ⊎-elim (b .only v) (λ p. let a = orbit-at next v (ring .steps) c p in subst (Among n rises) (sym (a .2)) (crosses c x (a .0)))
-              (snoc-cases rs contour v e);
-          whole = λ v e. ⊎-elim (λ p. snoc-old rs contour (next v) (b .whole v p))
-              (λ p. let a = orbit-at next v (ring .steps) c p in snoc-new rs contour (next v)
-              (subst (λ (y : ℕ). member (next y) contour ≡ true) (sym (a .2)) (next-in next n c ring (a .0) (a .1)))) (snoc-cases rs contour v e);
+              (snoc-cases rs ringNames v e);
+          whole = λ v e. ⊎-elim (λ p. snoc-old rs ringNames (next v) (b .whole v p))
+              (λ p. let a = orbit-at next v (ring .steps) c p in snoc-new rs ringNames (next v)
+              (subst (λ (y : ℕ). member (next y) ringNames ≡ true) (sym (a .2)) (next-in next n c ring (a .0) (a .1)))) (snoc-cases rs ringNames v e);
           every = λ v l y. at v y (ℕ-discrete v c) l;
-          each = λ i l. each-of i (omega (arith, length-snoc rs contour)) (decLt i (length rs));
-          ascend = λ i j l m. ascend-of i j l (omega (arith, length-snoc rs contour)) (decLt j (length rs));
-          starts = λ i l. starts-of i (omega (arith, length-snoc rs contour)) (decLt i (length rs));
-          once = subst (λ (a : List ℕ). Distinct a) (sym (names-snoc rs contour)) (distinct-ring next n c ring (namesOf rs) (b .once) fresh);
-          few = omega (arith, b .few, length-snoc rs contour);
+          each = λ i l. each-of i (omega (arith, length-snoc rs ringNames)) (decLt i (length rs));
+          ascend = λ i j l m. ascend-of i j l (omega (arith, length-snoc rs ringNames)) (decLt j (length rs));
+          starts = λ i l. starts-of i (omega (arith, length-snoc rs ringNames)) (decLt i (length rs));
+          once = subst (λ (a : List ℕ). Distinct a) (sym (names-snoc rs ringNames)) (distinct-ring next n c ring (namesOf rs) (b .once) fresh);
+          few = omega (arith, b .few, length-snoc rs ringNames);
         }
       where
-        test : starting rs c ≡ true
+        test : startsAt rs c ≡ true
         test = and-of (x .upward) (not-of unused)
 
-        new : traceAt rises next n c (contours rs) ≡ contours (rs ++ (contour ∷ []))
+        new : traceAt rises next n c (contours rs) ≡ contours (rs ++ (ringNames ∷ []))
         new = let w = walk-closes next n c ring (namesOf rs) fresh in unfold traceAt in (rw (test, w, traceAt))
 
-        at : (v : ℕ) → Among n rises v → Dec (v ≡ c) → v < suc c → member v (namesOf (rs ++ (contour ∷ []))) ≡ true
-        at v y (yes q) l = rw q (snoc-new rs contour c (unfold iterate in (at-orbit next (ring .steps) 0 c (ring .some-step))))
-        at v y (no q) l = snoc-old rs contour v (b .every v (omega arith) y)
+        at : (v : ℕ) → Among n rises v → Dec (v ≡ c) → v < suc c → member v (namesOf (rs ++ (ringNames ∷ []))) ≡ true
+        at v y (yes q) l = rw q (snoc-new rs ringNames c (unfold iterate in (at-orbit next (ring .steps) 0 c (ring .some-step))))
+        at v y (no q) l = snoc-old rs ringNames v (b .every v (omega arith) y)
 
-        each-of : (i : ℕ) → i ≤ length rs → Dec (i < length rs) → Contour next (contourAt (rs ++ (contour ∷ [])) i)
-        each-of i l (yes m) = subst (Contour next) (sym (old-at rs contour i m)) (b .each i m)
-        each-of i l (no m) = subst (Contour next) (sym (new-at rs contour i (omega arith))) shape
+        each-of : (i : ℕ) → i ≤ length rs → Dec (i < length rs) → Contour next (contourAt (rs ++ (ringNames ∷ [])) i)
+        each-of i l (yes m) = subst (Contour next) (sym (old-at rs ringNames i m)) (b .each i m)
+        each-of i l (no m) = subst (Contour next) (sym (new-at rs ringNames i (omega arith))) shape
 
-        starts-of : (i : ℕ) → i ≤ length rs → Dec (i < length rs) → first (contourAt (rs ++ (contour ∷ [])) i) < suc c
-        starts-of i l (yes m) = let z = b .starts i m in omega (arith, ap first (old-at rs contour i m))
-        starts-of i l (no m) = let z : i ≡ length rs = omega arith in omega (arith, ap first (new-at rs contour i z), first-is)
+        starts-of : (i : ℕ) → i ≤ length rs → Dec (i < length rs) → firstName (contourAt (rs ++ (ringNames ∷ [])) i) < suc c
+        starts-of i l (yes m) = let z = b .starts i m in omega (arith, ap firstName (old-at rs ringNames i m))
+        starts-of i l (no m) = let z : i ≡ length rs = omega arith in omega (arith, ap firstName (new-at rs ringNames i z), first-is)
 
         ascend-of : (i j : ℕ) → i < j → j ≤ length rs → Dec (j < length rs)
-            → first (contourAt (rs ++ (contour ∷ [])) i) < first (contourAt (rs ++ (contour ∷ [])) j)
+            → firstName (contourAt (rs ++ (ringNames ∷ [])) i) < firstName (contourAt (rs ++ (ringNames ∷ [])) j)
         ascend-of i j l m (yes k) =
             let a : i < length rs = omega arith in
             let z = b .ascend i j l k in
-            omega (arith, ap first (old-at rs contour i a), ap first (old-at rs contour j k))
+            omega (arith, ap firstName (old-at rs ringNames i a), ap firstName (old-at rs ringNames j k))
         ascend-of i j l m (no k) =
             let a : i < length rs = omega arith in
             let d : j ≡ length rs = omega arith in
             let z = b .starts i a in
-            omega (arith, ap first (old-at rs contour i a), ap first (new-at rs contour j d), first-is)
+            omega (arith, ap firstName (old-at rs ringNames i a), ap firstName (new-at rs ringNames j d), first-is)
 
     -- the ring fits behind the names so far
     pub ring-room : length (namesOf rs) + ring .steps ≤ n
     ring-room =
-        let l = length-append (namesOf rs) contour in
+        let l = length-append (namesOf rs) ringNames in
         let o = length-orbit next (ring .steps) c in
-        let all : namesOf (rs ++ (contour ∷ [])) ≡ namesOf rs ++ contour = names-snoc rs contour in
+        let all : namesOf (rs ++ (ringNames ∷ [])) ≡ namesOf rs ++ ringNames = names-snoc rs ringNames in
         let f = names-few in
         omega (arith, l, o, ap length all)
       where
-        names-few : length (namesOf (rs ++ (contour ∷ []))) ≤ n
+        names-few : length (namesOf (rs ++ (ringNames ∷ []))) ≤ n
         names-few =
-            distinct-few n (namesOf (rs ++ (contour ∷ []))) (begun-ring .once)
-            (λ i l. begun-ring .only _ (at-member (namesOf (rs ++ (contour ∷ []))) i l) .below)
+            distinct-few n (namesOf (rs ++ (ringNames ∷ []))) (begun-ring .once)
+            (λ i l. begun-ring .only _ (at-member (namesOf (rs ++ (ringNames ∷ []))) i l) .below)
 
   -- the names are no more than the corners
   pub begun-few : (c : ℕ) (rs : List (List ℕ)) → Begun c rs → length (namesOf rs) ≤ n
@@ -239,15 +248,15 @@ module _ (rises : ℕ → Bool) (next : ℕ → ℕ) (n : ℕ) (leads : Leads ri
   begun-all zero h = ([], begun-start)
   begun-all (suc c) h =
       let b = begun-all c (omega arith) in
-      by (b .0) (b .1) (starting (b .0) c) refl
+      by (b .0) (b .1) (startsAt (b .0) c) refl
     where
-      by : (rs : List (List ℕ)) → Begun c rs → (t : Bool) → starting rs c ≡ t → (qs : List (List ℕ)) × Begun (suc c) qs
+      by : (rs : List (List ℕ)) → Begun c rs → (t : Bool) → startsAt rs c ≡ t → (qs : List (List ℕ)) × Begun (suc c) qs
       by rs b false e = (rs, begun-skip c rs b e)
       by rs b true e =
           let p = and-parts (rises c) (not (member c (namesOf rs))) e in
           let x : Among n rises c = record { below = h; upward = p .0 } in
           let u = not-true (member c (namesOf rs)) (p .1) in
-          (rs ++ (contour c rs b x u ∷ []), begun-ring c rs b x u)
+          (rs ++ (ringNames c rs b x u ∷ []), begun-ring c rs b x u)
 
   -- the contours of all corners below n
   pub trace-all : (rs : List (List ℕ)) × Begun n rs

@@ -1,4 +1,4 @@
--- The contours that a ring table has: one entry for each corner, the corner that follows or none.
+-- The contours that a ring table has (SWEEP-3, LAYER-2): one entry for each corner, the corner that follows or none.
 use Prim.Native.Nat.{ℕ}
 use mathlib.Core.Bool.{Bool, not}
 use mathlib.Core.List.{List}

@@ -1,4 +1,5 @@
--- Rings: a function applied again and again leads back to where it began, and meets nothing twice on the way.
+-- Rings (SECTION-6): a function applied again and again leads
+-- back to where it began, and meets nothing twice on the way.
 use Prim.Native.Nat.{ℕ, zero, suc, _<_, _≤_}
 use mathlib.Core.Path.{_≡_}
 use mathlib.Core.Bool.{Bool}

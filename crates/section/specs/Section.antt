@@ -1,4 +1,5 @@
--- "Section and points" of document 01: given a set of vertices called passed, which corners rise and fall, what succeeds a crossing, and the ring table.
+-- The section (SECTION-1 to SECTION-5, SECTION-8): given a set of vertices called passed,
+-- which corners rise and fall, what succeeds a crossing; and the ring table (SWEEP-3).
 use Prim.Native.Nat.{ℕ, _+_, _*_, _<_, _≤_}
 use mathlib.Core.Path.{_≡_}
 use mathlib.Core.Bool.{Bool, true, not, cond, _&&_, _||_}
@@ -9,7 +10,7 @@ use lib.IntN.{ℤ, pos, natAbs}
 use lib.Signed.{ltZ}
 use Rattle.mesh.specs.Corners.{largest, vertexCount, triangleOf, startOf, endOf, zOf}
 use Rattle.mesh.specs.Meshes.{PairedMesh}
-use Rattle.mesh.specs.Tests.{Whole, pairOf, Paired}
+use Rattle.mesh.specs.Tests.{WholeTriangles, pairOf, Paired}
 
 -- ---- the passed vertices
 
@@ -17,7 +18,7 @@ use Rattle.mesh.specs.Tests.{Whole, pairOf, Paired}
 abbrev pub VertexSet : Type 0
 VertexSet = ℕ → Bool
 
--- for height h: those with z < h
+-- for height h: those with z < h (SECTION-8); one on the plane is not passed (WRONG-10)
 unfoldable pub below : List ℤ → ℤ → VertexSet
 below coords h v = ltZ (zOf coords v) h
 
@@ -27,11 +28,11 @@ under coords h k v = ltZ (zOf coords v) h || (not (ltZ h (zOf coords v)) && ltb 
 
 -- ---- corners
 
--- its start is passed and its end is not
+-- its start is passed and its end is not (SECTION-1)
 unfoldable pub rising : VertexSet → List ℕ → ℕ → Bool
 rising passed corners c = passed (startOf corners c) && not (passed (endOf corners c))
 
--- the other way round
+-- its end is passed and its start is not (SECTION-2)
 unfoldable pub falling : VertexSet → List ℕ → ℕ → Bool
 falling passed corners c = passed (endOf corners c) && not (passed (startOf corners c))
 
@@ -40,22 +41,23 @@ pub record Among (n : ℕ) (rises : ℕ → Bool) (c : ℕ) : Type 0 where
   pub below : c < n
   pub upward : rises c ≡ true
 
--- a crossing is a rising corner
+-- a crossing is a rising corner (SECTION-4)
 abbrev pub Crossing : VertexSet → List ℕ → ℕ → Type 0
 Crossing passed corners c = Among (length corners) (rising passed corners) c
 
--- the rising corner of triangle t; where it has none, its last corner
+-- the rising corner of triangle t, which has one at most (SECTION-3); where it has none, its last corner
 unfoldable pub risingIn : VertexSet → List ℕ → ℕ → ℕ
 risingIn passed corners t =
     cond (rising passed corners (3 * t)) (3 * t)
     (cond (rising passed corners (3 * t + 1)) (3 * t + 1)
     (3 * t + 2))
 
--- the successor of a crossing: the rising corner of the triangle of its paired corner
+-- the successor of a crossing: the rising corner of the triangle
+-- of its paired corner (SECTION-5), whatever the points (WRONG-11)
 unfoldable pub successor : VertexSet → List ℕ → List ℕ → ℕ → ℕ
 successor passed corners pairing c = risingIn passed corners (triangleOf (pairOf pairing c))
 
--- ---- the ring table
+-- ---- the ring table (SWEEP-3)
 
 -- the entry of a corner that is no crossing: 4,294,967,295
 abbrev pub noCorner : ℕ
@@ -69,12 +71,12 @@ ringEntry passed corners pairing c = cond (rising passed corners c) (successor p
 
 -- every corner names a vertex
 pub record Named (coords : List ℤ) (corners : List ℕ) : Type 0 where
-  pub whole : Whole (length corners)
+  pub whole : WholeTriangles (length corners)
   pub vertices : (c : ℕ) → c < length corners → startOf corners c < vertexCount coords
 
 -- no corner's edge leads from a vertex to itself, and every corner is paired with one in the opposite direction
 pub record Linked (corners pairing : List ℕ) : Type 0 where
-  pub whole : Whole (length corners)
+  pub whole : WholeTriangles (length corners)
   pub proper : (c : ℕ) → c < length corners → startOf corners c ≡ endOf corners c → ⊥
   pub each : (c : ℕ) → c < length corners → Paired corners pairing c
 

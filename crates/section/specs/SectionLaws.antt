@@ -1,4 +1,5 @@
--- Laws of the section: a triangle has none of either or one of each, and the successor leads every crossing round a ring of at least two.
+-- Laws of the section: a triangle has none of either or one of each (SECTION-3), and the
+-- successor leads every crossing round a ring (SECTION-6) of at least two (SECTION-7).
 use Prim.Native.Nat.{ℕ, _+_, _*_, _/_, _%_, _<_}
 use mathlib.Core.Path.{_≡_, refl, sym, ap, _∙_, subst, fun-ext}
 use mathlib.Core.Logic.{_⊎_, inl, inr, ⊎-elim}

@@ -216,23 +216,23 @@ module _ (coords : List ℤ) (order : List ℕ) (h : ℤ) where
   turn-off (suc m) p e = ap (λ (b : Bool). cond b (risenTo coords order h m (suc p)) p) e
 
   -- the rise from n goes on from p
-  pub record Rising (n p : ℕ) : Type 0 where
+  pub record RiseGoesOn (n p : ℕ) : Type 0 where
     pub low : n ≤ p
     pub few : p ≤ vertexCount coords
     pub left : ℕ
     pub enough : vertexCount coords ≤ p + left
     pub rest : risenTo coords order h (vertexCount coords) n ≡ risenTo coords order h left p
 
-  pub rising-start : (n : ℕ) → n ≤ vertexCount coords → Rising n n
+  pub rising-start : (n : ℕ) → n ≤ vertexCount coords → RiseGoesOn n n
   rising-start n l = record { low = omega arith; few = l; left = vertexCount coords; enough = omega arith; rest = refl }
 
-  pub rising-stop : (n p : ℕ) → Rising n p → mayRise coords order h p ≡ false → p ≡ risenTo coords order h (vertexCount coords) n
+  pub rising-stop : (n p : ℕ) → RiseGoesOn n p → mayRise coords order h p ≡ false → p ≡ risenTo coords order h (vertexCount coords) n
   rising-stop n p r e = sym (r .rest ∙ turn-off (r .left) p e)
 
-  pub rising-more : (n p : ℕ) → Rising n p → p < vertexCount coords → mayRise coords order h p ≡ true → Rising n (p + 1)
+  pub rising-more : (n p : ℕ) → RiseGoesOn n p → p < vertexCount coords → mayRise coords order h p ≡ true → RiseGoesOn n (p + 1)
   rising-more n p r l e = by (r .left) (r .enough) (r .rest)
     where
-      by : (m : ℕ) → vertexCount coords ≤ p + m → risenTo coords order h (vertexCount coords) n ≡ risenTo coords order h m p → Rising n (p + 1)
+      by : (m : ℕ) → vertexCount coords ≤ p + m → risenTo coords order h (vertexCount coords) n ≡ risenTo coords order h m p → RiseGoesOn n (p + 1)
       by zero k q = absurd (omega arith)
       by (suc m) k q =
           record {

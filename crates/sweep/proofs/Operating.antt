@@ -28,16 +28,16 @@ use Rattle.section.specs.SectionLaws.{below-under}
 use Rattle.section.specs.RightLaws.{right-of}
 use Rattle.section.specs.Contours.{Traced}
 use Rattle.section.specs.Links.{traceLinks}
-use Rattle.cutter.specs.declared.Sliced.{Sliced}
-use Rattle.cutter.specs.declared.Sliced.the-variants.{Layer as Cut, Refused as Uncut}
-use Rattle.cutter.specs.Cut.{CutTables, lent, Lengths, lengthsOf, tests, used, section, contoursOf, countsOf, layerTables, tellCut}
-use Rattle.cutter.specs.Outlines.{Long, Outlined, Traces}
-use Rattle.cutter.specs.OutlineLaws.{outlined, section-is, sliced, section-fine, layer-kept}
-use Rattle.sweep.specs.declared.Started.the-variants.{Fresh, Refused as Unstarted}
-use Rattle.sweep.specs.declared.Stepping.the-variants.{Stepped, Top, Refused as Unstepped}
+use Rattle.cut.specs.declared.CutAnswer.{CutAnswer}
+use Rattle.cut.specs.declared.CutAnswer.the-variants.{Layer as CutLayer, Refused as CutRefused}
+use Rattle.cut.specs.Cut.{CutTables, lent, Lengths, lengthsOf, cutTests, used, section, contoursOf, countsOf, tablesAfterCut, tellCut}
+use Rattle.cut.specs.Outlines.{Long, Outlined, Traces}
+use Rattle.cut.specs.OutlineLaws.{outlined, section-is, sliced, section-fine, layer-kept}
+use Rattle.sweep.specs.declared.StartAnswer.the-variants.{Fresh, Refused as StartRefused}
+use Rattle.sweep.specs.declared.StepAnswer.the-variants.{Stepped, Top, Refused as StepRefused}
 use Rattle.sweep.specs.declared.SweepTest.{SweepTest}
-use Rattle.sweep.specs.declared.Rise.{Rise}
-use Rattle.sweep.specs.declared.Rise.the-variants.{Layer, Refused as Unrisen}
+use Rattle.sweep.specs.declared.LayerAnswer.{LayerAnswer}
+use Rattle.sweep.specs.declared.LayerAnswer.the-variants.{Layer, Refused as LayerRefused}
 use Rattle.sweep.specs.Sweep.{Sweep, meshOf, sweepPairing, passedAt, freshRing, touches, relinked, stepRing}
 use Rattle.sweep.specs.SweepLaws.{entry-same, passed-under, count-few, risen-is}
 use Rattle.sweep.specs.Operations.{at, unlessRefused, tooMany, startTests, Starts, stepTests, passes, top, Steps}
@@ -49,9 +49,9 @@ use Rattle.sweep.specs.RiseLaws.{rise-from}
 use Rattle.sweep.proofs.Moves.{held, back}
 
 -- a test by name is the test of its condition
-pub tests-as : (s : Sweep) (h : ℤ) {which named : SweepTest} {f : Finding Told} → which ≡ named → f ≡ test (sweepCondition named s h)
+pub sweep-test-as : (s : Sweep) (h : ℤ) {which named : SweepTest} {f : Finding Told} → which ≡ named → f ≡ test (sweepCondition named s h)
     → f ≡ test (sweepCondition which s h)
-tests-as s h e t = t ∙ ap (λ (w : SweepTest). test (sweepCondition w s h)) (sym e)
+sweep-test-as s h e t = t ∙ ap (λ (w : SweepTest). test (sweepCondition w s h)) (sym e)
 
 -- what 8 and 10 establish on a right mesh
 pub placed-of : (m : OrderedMesh) (n : ℕ) → Right (m .paired) → {f g : Finding Told} → f ≡ test (orders (m .paired .mesh .coords) (m .order)) → f ≡ fine
@@ -64,16 +64,16 @@ placed-of m n right e k d l =
     }
 
 -- what Cut's tests establish
-pub right-tested : (m : PairedMesh) (l : Lengths) {f : Finding Told} → f ≡ verdict (tests m l) → f ≡ fine → Right m
-right-tested m l e g = go (fine-none (tests m l) (sym e ∙ g))
+pub right-tested : (m : PairedMesh) (l : Lengths) {f : Finding Told} → f ≡ verdict (cutTests m l) → f ≡ fine → Right m
+right-tested m l e g = go (fine-none (cutTests m l) (sym e ∙ g))
   where
-    go : None (tests m l) → Right m
+    go : None (cutTests m l) → Right m
     go (more s (more k (more r (more x (more t (more p done)))))) = right-of m (not-false _ (s 0 (omega arith))) r x t p
 
 -- ---- Start
 
 module _ (m : Mesh) (ring : List ℕ) {f : Finding Told} (e : f ≡ verdict (startTests m (length ring))) where
-  pub starts-refused : {r : Refusal} → f ≡ refuses (toldOf r) → Starts m ring (Unstarted r) ring
+  pub starts-refused : {r : Refusal} → f ≡ refuses (toldOf r) → Starts m ring (StartRefused r) ring
   unfolding unlessRefused
   starts-refused g = does-refuse e g refl refl
 
@@ -90,7 +90,7 @@ module _ (m : Mesh) (ring : List ℕ) {f : Finding Told} (e : f ≡ verdict (sta
 -- ---- Step
 
 module _ (s : Sweep) {f : Finding Told} (e : f ≡ verdict (stepTests (s .ordered) (length (s .ring)) (s .passed))) where
-  pub steps-refused : {r : Refusal} → f ≡ refuses (toldOf r) → Steps s (Unstepped r) (s .ring)
+  pub steps-refused : {r : Refusal} → f ≡ refuses (toldOf r) → Steps s (StepRefused r) (s .ring)
   unfolding unlessRefused
   steps-refused g = does-refuse e g refl refl
 
@@ -153,7 +153,7 @@ module _ (s : Sweep) (h : ℤ) (t : CutTables) {f : Finding Told} (e : f ≡ ver
   liftable g = rise-passed s h (lengthsOf t) (sym e ∙ g)
 
   -- a test refuses
-  pub rises-refused : {r : Refusal} → f ≡ refuses (toldOf r) → Rises s h t (Unrisen r) (s .ring) t
+  pub rises-refused : {r : Refusal} → f ≡ refuses (toldOf r) → Rises s h t (LayerRefused r) (s .ring) t
   unfolding unlessRefused
   rises-refused {r} g =
       does-refuse (join-stop (riseTests s h (lengthsOf t)) last e g) g refl
@@ -171,7 +171,7 @@ module _ (s : Sweep) (h : ℤ) (t : CutTables) {f : Finding Told} (e : f ≡ ver
           (sym e ∙ g)
 
   -- none does
-  pub rises-lifted : {result : Rise} {ring′ : List ℕ} {t′ : CutTables} → f ≡ fine → Lifts s h t result ring′ t′ → Rises s h t result ring′ t′
+  pub rises-lifted : {result : LayerAnswer} {ring′ : List ℕ} {t′ : CutTables} → f ≡ fine → Lifts s h t result ring′ t′ → Rises s h t result ring′ t′
   rises-lifted g d = does-last d (join-next (riseTests s h (lengthsOf t)) last e g refl) refl refl
 
 -- ---- raise
@@ -207,15 +207,15 @@ module _ (s : Sweep) (h : ℤ) (r : RiseTested s h) where
     traced : section (s .ordered .paired) h ≡ risenSection s h
     traced = sym (section-is (s .ordered .paired) h right ring₁ (s .ring) er) ∙ ap (traceLinks (length (meshOf s .corners))) risen
 
-    module _ {names : List ℕ} {points : List ℤ} {ends : List ℕ} {result : Sliced} {t′ : CutTables}
+    module _ {names : List ℕ} {points : List ℤ} {ends : List ℕ} {result : CutAnswer} {t′ : CutTables}
         (d : Traces (traceLinks (length (meshOf s .corners)) marks₁) (meshOf s) h (lent names points ends marks₁) result t′) where
       cut : Traces (section (s .ordered .paired) h) (meshOf s) h (lent names points ends marks) result t′
       cut = sliced (s .ordered .paired) h right marks₁ marks copied d
 
-      pub never-refused : {q : Refusal} → result ≡ Uncut q → ⊥
+      pub never-refused : {q : Refusal} → result ≡ CutRefused q → ⊥
       never-refused {q} x = apart (sym (refused-verdict cut {r = toldOf q} (ap tellCut x)) ∙ section-fine (s .ordered .paired) h right)
 
-      pub lifts : {p j k : ℕ} → result ≡ Cut j k → p ≡ risenPassed s h → Lifts s h (lent names points ends marks) (Layer (at p) j k) ring₁ t′
+      pub lifts : {p j k : ℕ} → result ≡ CutLayer j k → p ≡ risenPassed s h → Lifts s h (lent names points ends marks) (Layer (at p) j k) ring₁ t′
       unfolding unlessRefused
       lifts {p} {j} {k} x ep =
           let c = given-verdict cut {g = (j, k)} (ap tellCut x) in
@@ -223,7 +223,7 @@ module _ (s : Sweep) (h : ℤ) (r : RiseTested s h) where
           (ap (λ (u : Traced). verdict (used (length (meshOf s .corners)) u ∷ [])) (sym traced) ∙ c .0)
           ((λ i. gives (ep i, c .1 i)) ∙ (λ i. gives (risenPassed s h, countsOf (contoursOf (traced i)))))
           ((λ i. (risen i, left-given cut {g = (j, k)} (ap tellCut x) i))
-          ∙ (λ i. (risenTable s h, layerTables (meshOf s) h (contoursOf (traced i)) (lent names points ends marks) fine)))
+          ∙ (λ i. (risenTable s h, tablesAfterCut (meshOf s) h (contoursOf (traced i)) (lent names points ends marks) fine)))
 
 -- ---- the height as the code holds it
 
@@ -231,7 +231,7 @@ module _ (s : Sweep) {h : ℤ} (f : SFits w32 h) where
   pub held-tested : RiseTested s h → RiseTested s (held h)
   held-tested = subst (RiseTested s) (sym (back f))
 
-  pub at-height : {t t′ : CutTables} {result : Rise} {ring′ : List ℕ} → Lifts s (held h) t result ring′ t′ → Lifts s h t result ring′ t′
+  pub at-height : {t t′ : CutTables} {result : LayerAnswer} {ring′ : List ℕ} → Lifts s (held h) t result ring′ t′ → Lifts s h t result ring′ t′
   at-height {t} {t′} {result} {ring′} = subst (λ (z : ℤ). Lifts s z t result ring′ t′) (back f)
 
   pub held-tests : (l : Lengths) {v : Finding Told} → v ≡ verdict (riseTests s (held h) l) → v ≡ verdict (riseTests s h l)

@@ -23,78 +23,78 @@ use Rattle.mesh.specs.RefusalLaws.{refusalOf, refusal-once}
 use Rattle.mesh.specs.declared.Refusal.{Refusal}
 use Rattle.section.specs.Section.{below}
 use Rattle.section.specs.RightLaws.{right-of}
-use Rattle.cutter.specs.Cut.{CutTables, Lengths}
-use Rattle.cutter.specs.Outlines.{Long}
-use Rattle.cutter.specs.OutlineLaws.{room-long}
+use Rattle.cut.specs.Cut.{CutTables, Lengths}
+use Rattle.cut.specs.Outlines.{Long}
+use Rattle.cut.specs.OutlineLaws.{room-long}
 use Rattle.sweep.specs.declared.State.{State}
-use Rattle.sweep.specs.declared.Started.{Started}
-use Rattle.sweep.specs.declared.Started.the-variants.{Fresh, Refused as Unstarted}
-use Rattle.sweep.specs.declared.Stepping.{Stepping}
-use Rattle.sweep.specs.declared.Stepping.the-variants.{Stepped, Top, Refused as Unstepped}
-use Rattle.sweep.specs.declared.Rise.{Rise}
-use Rattle.sweep.specs.declared.Rise.the-variants.{Layer, Refused as Unrisen}
+use Rattle.sweep.specs.declared.StartAnswer.{StartAnswer}
+use Rattle.sweep.specs.declared.StartAnswer.the-variants.{Fresh, Refused as StartRefused}
+use Rattle.sweep.specs.declared.StepAnswer.{StepAnswer}
+use Rattle.sweep.specs.declared.StepAnswer.the-variants.{Stepped, Top, Refused as StepRefused}
+use Rattle.sweep.specs.declared.LayerAnswer.{LayerAnswer}
+use Rattle.sweep.specs.declared.LayerAnswer.the-variants.{Layer, Refused as LayerRefused}
 use Rattle.sweep.specs.Sweep.{Sweep, meshOf, RingAt, freshRing, stepRing}
 use Rattle.sweep.specs.Operations.{at, unlessRefused, linkedAt, passedHigh, startTests, starting, tellStart, Starts}
 use Rattle.sweep.specs.Operations.{stepTests, StepGives, passes, top, stepping, tellStep, Steps}
-use Rattle.sweep.specs.Operations.{riseTests, layering, tellRise, Rises}
+use Rattle.sweep.specs.Operations.{riseTests, layering, tellLayer, Rises}
 use Rattle.sweep.specs.Places.{StepTested, RiseTested}
 
 -- ---- the cases of an answer, from what they tell
 
 pub start-recovers : Recovers tellStart
 start-recovers = record {
-  back = elim [ gives n ↦ Fresh (at n) | refuses r ↦ Unstarted (refusalOf r) ];
-  once = elim [ Fresh s ↦ refl | Unstarted r ↦ ap Unstarted (refusal-once r) ];
+  back = elim [ gives n ↦ Fresh (at n) | refuses r ↦ StartRefused (refusalOf r) ];
+  once = elim [ Fresh s ↦ refl | StartRefused r ↦ ap StartRefused (refusal-once r) ];
 }
 
-stepOf : StepGives → Stepping
+stepOf : StepGives → StepAnswer
 stepOf (passes n) = Stepped (at n)
 stepOf top = Top
 
 pub step-recovers : Recovers tellStep
 unfolding stepOf
 step-recovers = record {
-  back = elim [ gives g ↦ stepOf g | refuses r ↦ Unstepped (refusalOf r) ];
-  once = elim [ Stepped s ↦ refl | Top ↦ refl | Unstepped r ↦ ap Unstepped (refusal-once r) ];
+  back = elim [ gives g ↦ stepOf g | refuses r ↦ StepRefused (refusalOf r) ];
+  once = elim [ Stepped s ↦ refl | Top ↦ refl | StepRefused r ↦ ap StepRefused (refusal-once r) ];
 }
 
-pub rise-recovers : Recovers tellRise
-rise-recovers = record {
-  back = elim [ gives g ↦ Layer (at (g .0)) (g .1 .0) (g .1 .1) | refuses r ↦ Unrisen (refusalOf r) ];
-  once = elim [ Layer s j k ↦ refl | Unrisen r ↦ ap Unrisen (refusal-once r) ];
+pub layer-recovers : Recovers tellLayer
+layer-recovers = record {
+  back = elim [ gives g ↦ Layer (at (g .0)) (g .1 .0) (g .1 .1) | refuses r ↦ LayerRefused (refusalOf r) ];
+  once = elim [ Layer s j k ↦ refl | LayerRefused r ↦ ap LayerRefused (refusal-once r) ];
 }
 
 -- ---- refused exactly if, given exactly if, and one outcome only
 
-module _ {m : Mesh} {ring ring′ : List ℕ} {result : Started} (d : Starts m ring result ring′) where
+module _ {m : Mesh} {ring ring′ : List ℕ} {result : StartAnswer} (d : Starts m ring result ring′) where
   pub start-refused : (r : Told) → (tellStart result ≡ refuses r) ↔ First (starting (m, ring) .refusals) r
   start-refused = refused-exactly d
 
   pub start-given : (tellStart result ≡ gives 0) ↔ None (starting (m, ring) .refusals)
   start-given = given-exactly d
 
-  pub start-only : {other : Started} {ring″ : List ℕ} → Starts m ring other ring″ → (result ≡ other) × (ring′ ≡ ring″)
+  pub start-only : {other : StartAnswer} {ring″ : List ℕ} → Starts m ring other ring″ → (result ≡ other) × (ring′ ≡ ring″)
   start-only = only-outcome start-recovers d
 
-module _ {s : Sweep} {ring′ : List ℕ} {result : Stepping} (d : Steps s result ring′) where
+module _ {s : Sweep} {ring′ : List ℕ} {result : StepAnswer} (d : Steps s result ring′) where
   pub step-refused : (r : Told) → (tellStep result ≡ refuses r) ↔ First (stepping s .refusals) r
   step-refused = refused-exactly d
 
   pub step-given : (tellStep result ≡ gives (stepping s .values)) ↔ None (stepping s .refusals)
   step-given = given-exactly d
 
-  pub step-only : {other : Stepping} {ring″ : List ℕ} → Steps s other ring″ → (result ≡ other) × (ring′ ≡ ring″)
+  pub step-only : {other : StepAnswer} {ring″ : List ℕ} → Steps s other ring″ → (result ≡ other) × (ring′ ≡ ring″)
   step-only = only-outcome step-recovers d
 
-module _ {s : Sweep} {h : ℤ} {t t′ : CutTables} {ring′ : List ℕ} {result : Rise} (d : Rises s h t result ring′ t′) where
-  pub rise-refused : (r : Told) → (tellRise result ≡ refuses r) ↔ First (layering (s, h, t) .refusals) r
-  rise-refused = refused-exactly d
+module _ {s : Sweep} {h : ℤ} {t t′ : CutTables} {ring′ : List ℕ} {result : LayerAnswer} (d : Rises s h t result ring′ t′) where
+  pub layer-refused : (r : Told) → (tellLayer result ≡ refuses r) ↔ First (layering (s, h, t) .refusals) r
+  layer-refused = refused-exactly d
 
-  pub rise-given : (tellRise result ≡ gives (layering (s, h, t) .values)) ↔ None (layering (s, h, t) .refusals)
-  rise-given = given-exactly d
+  pub layer-given : (tellLayer result ≡ gives (layering (s, h, t) .values)) ↔ None (layering (s, h, t) .refusals)
+  layer-given = given-exactly d
 
-  pub rise-only : {other : Rise} {ring″ : List ℕ} {t″ : CutTables} → Rises s h t other ring″ t″ → (result ≡ other) × (ring′ ≡ ring″) × (t′ ≡ t″)
-  rise-only e = let p = only-outcome rise-recovers d e in (p .0, (λ i. p .1 i .0), (λ i. p .1 i .1))
+  pub layer-only : {other : LayerAnswer} {ring″ : List ℕ} {t″ : CutTables} → Rises s h t other ring″ t″ → (result ≡ other) × (ring′ ≡ ring″) × (t′ ≡ t″)
+  layer-only e = let p = only-outcome layer-recovers d e in (p .0, (λ i. p .1 i .0), (λ i. p .1 i .1))
 
 -- ---- what an unrefused call has tested
 
@@ -212,6 +212,6 @@ step-top {s} {ring′} d = by (ltb (s .passed) (vertexCount (meshOf s .coords)))
     by false e q r = record { tested = step-tested (s .ordered) (length (s .ring)) (s .passed) (p .0); all-passed = ltb-false _ _ e; stays = r }
 
 -- a refused Step leaves the ring table
-pub unstepped-ring : {s : Sweep} {r : Refusal} {ring′ : List ℕ} → Steps s (Unstepped r) ring′ → ring′ ≡ s .ring
+pub unstepped-ring : {s : Sweep} {r : Refusal} {ring′ : List ℕ} → Steps s (StepRefused r) ring′ → ring′ ≡ s .ring
 unfolding unlessRefused
 unstepped-ring d = left-refused d refl

@@ -11,10 +11,10 @@ use Rattle.mesh.specs.Meshes.{OrderedMesh}
 use Rattle.mesh.specs.Operation.{Does}
 use Rattle.mesh.specs.Order.{Ranked}
 use Rattle.section.specs.Section.{VertexSet, below, ringEntry, Right}
-use Rattle.cutter.specs.Cut.{CutTables}
-use Rattle.sweep.specs.declared.Rise.{Rise}
+use Rattle.cut.specs.Cut.{CutTables}
+use Rattle.sweep.specs.declared.LayerAnswer.{LayerAnswer}
 use Rattle.sweep.specs.Sweep.{Sweep, meshOf, RingAt}
-use Rattle.sweep.specs.Operations.{lifting, tellRise}
+use Rattle.sweep.specs.Operations.{lifting, tellLayer}
 
 -- below every coordinate where none is passed, else the z of the last passed vertex
 unfoldable pub heightBehind : List ℤ → List ℕ → ℕ → ℤ
@@ -53,5 +53,5 @@ pub record RiseTested (s : Sweep) (h : ℤ) : Type 0 where
   pub low : (i : ℕ) → i < s .passed → below (meshOf s .coords) h (getD (s .ordered .order) i 0) ≡ true
 
 -- Layer where only 16 is left to test
-abbrev pub Lifts : Sweep → ℤ → CutTables → Rise → List ℕ → CutTables → Type 0
-Lifts s h t result ring′ t′ = Does (lifting []) tellRise (s, h, t) result (ring′, t′)
+abbrev pub Lifts : Sweep → ℤ → CutTables → LayerAnswer → List ℕ → CutTables → Type 0
+Lifts s h t result ring′ t′ = Does (lifting []) tellLayer (s, h, t) result (ring′, t′)

@@ -1,4 +1,4 @@
--- An unrefused Layer at h ends at the number of vertices with z < h, and gives what Cut gives at h.
+-- An unrefused Layer at h ends at the number of vertices with z < h (LAYER-1), and gives what Cut gives at h (LAYER-2).
 use Prim.Native.Nat.{ℕ, _≤_}
 use mathlib.Core.Path.{_≡_, refl, sym, ap, _∙_, subst}
 use mathlib.Core.List.{List, [], _∷_}
@@ -12,10 +12,10 @@ use Rattle.mesh.specs.declared.Refusal.{Refusal}
 use Rattle.section.specs.Section.{below}
 use Rattle.section.specs.Contours.{Traced}
 use Rattle.section.specs.LinkLaws.{table-trace}
-use Rattle.cutter.specs.Cut.{CutTables, lengthsOf, used, section, contoursOf, countsOf, layerTables, cutting, Cuts}
-use Rattle.cutter.specs.declared.Sliced.the-variants.{Layer as Cut}
+use Rattle.cut.specs.Cut.{CutTables, lengthsOf, used, section, contoursOf, countsOf, tablesAfterCut, cutting, Cuts}
+use Rattle.cut.specs.declared.CutAnswer.the-variants.{Layer as CutLayer}
 use Rattle.sweep.specs.declared.State.{State}
-use Rattle.sweep.specs.declared.Rise.the-variants.{Layer, Refused as Unrisen}
+use Rattle.sweep.specs.declared.LayerAnswer.the-variants.{Layer, Refused}
 use Rattle.sweep.specs.Sweep.{Sweep, sweep, meshOf, sweepPairing, passedAt, RingAt, countBelow}
 use Rattle.sweep.specs.SweepLaws.{entry-same, count-few, passed-below, passed-count, risen-to, risen-right}
 use Rattle.sweep.specs.Operations.{at, unlessRefused, risenPassed, risenTable, risenSection, riseTests, layering, Rises}
@@ -87,15 +87,15 @@ module _ {s : Sweep} {h : ℤ} {t t′ : CutTables} {state : State} {j k : ℕ} 
       subst (λ (r : List ℕ). RingAt (sweep (s .ordered) r (countBelow (meshOf s .coords) h))) (sym (λ i. left i .0)) (rise-table s h rise-tests)
 
   -- its counts and its four tables are those of Cut for the same mesh, pairing, height and tables
-  pub rise-is-cut : Cuts (s .ordered .paired) h t (Cut j k) t′
+  pub rise-is-cut : Cuts (s .ordered .paired) h t (CutLayer j k) t′
   rise-is-cut =
       let same = rise-section s h rise-tests in
       does-give refl (rise-cut-fine s h t same (answered .0))
       ((λ i. gives (answered .1 i .1)) ∙ (λ i. gives (countsOf (contoursOf (sym same i)))))
-      ((λ i. left i .1) ∙ (λ i. layerTables (meshOf s) h (contoursOf (sym same i)) t fine))
+      ((λ i. left i .1) ∙ (λ i. tablesAfterCut (meshOf s) h (contoursOf (sym same i)) t fine))
 
 -- ---- a refused Layer leaves the ring table
 
-pub unrisen-ring : {s : Sweep} {h : ℤ} {t t′ : CutTables} {r : Refusal} {ring′ : List ℕ} → Rises s h t (Unrisen r) ring′ t′ → ring′ ≡ s .ring
+pub unrisen-ring : {s : Sweep} {h : ℤ} {t t′ : CutTables} {r : Refusal} {ring′ : List ℕ} → Rises s h t (Refused r) ring′ t′ → ring′ ≡ s .ring
 unfolding unlessRefused
 unrisen-ring ok = λ i. left-refused ok refl i .0

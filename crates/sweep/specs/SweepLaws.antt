@@ -313,8 +313,8 @@ module _ (m : OrderedMesh) (ranked : (i : ℕ) → i < vertexCount (m .paired .m
   few = count-few (m .paired .mesh .coords) (m .order) ranked h
 
   -- the table of a sweep that may go on, and that does
-  abbrev onward : ℕ → ℕ → List ℕ → List ℕ
-  onward k n ring = risenRing h k (sweep m (stepRing (sweep m ring n)) (suc n))
+  abbrev risenOn : ℕ → ℕ → List ℕ → List ℕ
+  risenOn k n ring = risenRing h k (sweep m (stepRing (sweep m ring n)) (suc n))
 
   -- a rise ends with the ring table of the vertices below h
   pub risen-right : (k n : ℕ) (ring : List ℕ) → RingAt (sweep m ring n) → n ≤ countBelow (m .paired .mesh .coords) h
@@ -325,8 +325,8 @@ module _ (m : OrderedMesh) (ranked : (i : ℕ) → i < vertexCount (m .paired .m
       by (mayRise (m .paired .mesh .coords) (m .order) h n) refl
       (λ l. risen-right k (suc n) (stepRing (sweep m ring n)) (step-right (sweep m ring n) linked (ranked n (omega (arith, few)) .there) r) l (omega arith))
     where
-      by : (b : Bool) → mayRise (m .paired .mesh .coords) (m .order) h n ≡ b → (n < below-h → RingAt (sweep m (onward k n ring) below-h))
-          → RingAt (sweep m (cond b (onward k n ring) ring) below-h)
+      by : (b : Bool) → mayRise (m .paired .mesh .coords) (m .order) h n ≡ b → (n < below-h → RingAt (sweep m (risenOn k n ring) below-h))
+          → RingAt (sweep m (cond b (risenOn k n ring) ring) below-h)
       by true e go = go (rise-low (m .paired .mesh .coords) (m .order) ranked h n e)
       by false e go = ⊎-elim
           (λ (q : n ≡ below-h). subst (λ (i : ℕ). RingAt (sweep m ring i)) q r)
@@ -341,7 +341,7 @@ module _ (m : OrderedMesh) (ranked : (i : ℕ) → i < vertexCount (m .paired .m
       by (mayRise (m .paired .mesh .coords) (m .order) h n)
       (risen-length k (suc n) (stepRing (sweep m ring n)) (omega (arith, step-length (sweep m ring n) l)))
     where
-      by : (b : Bool) → length (onward k n ring) ≡ length (stepRing (sweep m ring n)) → length (cond b (onward k n ring) ring) ≡ length ring
+      by : (b : Bool) → length (risenOn k n ring) ≡ length (stepRing (sweep m ring n)) → length (cond b (risenOn k n ring) ring) ≡ length ring
       by true e = e ∙ step-length (sweep m ring n) l
       by false e = refl
 
@@ -353,7 +353,7 @@ module _ (m : OrderedMesh) (ranked : (i : ℕ) → i < vertexCount (m .paired .m
       by (mayRise (m .paired .mesh .coords) (m .order) h n)
       (risen-past k (suc n) (stepRing (sweep m ring n)) (omega (arith, step-length (sweep m ring n) l)) c p)
     where
-      by : (b : Bool) → getD (onward k n ring) c 0 ≡ getD (stepRing (sweep m ring n)) c 0 → getD (cond b (onward k n ring) ring) c 0 ≡ getD ring c 0
+      by : (b : Bool) → getD (risenOn k n ring) c 0 ≡ getD (stepRing (sweep m ring n)) c 0 → getD (cond b (risenOn k n ring) ring) c 0 ≡ getD ring c 0
       by true e = e ∙ step-past (sweep m ring n) l c p
       by false e = refl
 

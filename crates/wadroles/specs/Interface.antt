@@ -1,4 +1,5 @@
--- The C interface: for each function the operation of document 01 that it exports, and that operation's values as the words of `out`, in their order.
+-- The C interface: for each function the operation that it exports,
+-- and that operation's values as the words of `out`, in their order.
 use Prim.Native.Nat.{ℕ}
 use mathlib.Core.Path.{_≡_}
 use mathlib.Core.List.{List, [], _∷_}
@@ -7,17 +8,17 @@ use lib.Seq.{sets}
 use lib.IntN.{ℤ}
 use Rattle.mesh.specs.Meshes.{Mesh, PairedMesh, OrderedMesh}
 use Rattle.polygons.specs.Flat.{FlatLayer}
-use Rattle.checker.specs.Check.{CheckTables, checking}
-use Rattle.cutter.specs.Cut.{CutTables, cutting}
+use Rattle.check_mesh.specs.Check.{CheckTables, checking}
+use Rattle.cut.specs.Cut.{CutTables, cutting}
 use Rattle.contours.specs.Contours.{firstOf, spanOf}
 use Rattle.contours.specs.Areas.{measuring}
 use Rattle.sweep.specs.Sweep.{Sweep}
 use Rattle.sweep.specs.Operations.{starting, StepGives, passes, top, stepping, layering}
-use Rattle.layers.specs.AllLayers.{WorkTables, filing}
-use Rattle.formats.specs.PartFile.{Part}
-use Rattle.reader.specs.Reading.{layerReading}
-use Rattle.parts.specs.Parts.{partReading}
-use Rattle.answers.specs.Answers.{Exports, wordOf}
+use Rattle.all_sweep.specs.AllLayers.{WorkTables, filing}
+use Rattle.file_formats.specs.PartFile.{Part}
+use Rattle.read_layer.specs.Reading.{layerReading}
+use Rattle.read_part.specs.Parts.{partReading}
+use Rattle.wadroles.specs.Exports.{Exports, wordOf}
 
 -- ---- values as words
 

@@ -1,5 +1,5 @@
 -- What a caller of the C interface knows of an operation's answer: for each function the number returned and `out`, of four numbers, say it whole. That the
--- outcome is the only one is `exports-only` (answers/AnswerLaws).
+-- outcome is the only one is `exports-only` (wadroles/ExportLaws).
 use Prim.Native.Nat.{ℕ, zero, suc, _^_, _<_}
 use mathlib.Core.Path.{_≡_, refl, sym, _∙_, subst}
 use mathlib.Core.Bool.{cond}
@@ -15,42 +15,42 @@ use Rattle.mesh.specs.Meshes.{Mesh, PairedMesh, OrderedMesh}
 use Rattle.mesh.specs.Operation.{answerOf, verdict, fine}
 use Rattle.mesh.specs.OperationLaws.{Every, fine-none}
 use Rattle.mesh.specs.Refusals.{Told}
-use Rattle.checker.specs.Check.{CheckTables, checking}
-use Rattle.cutter.specs.Cut.{CutTables, cutting}
+use Rattle.check_mesh.specs.Check.{CheckTables, checking}
+use Rattle.cut.specs.Cut.{CutTables, cutting}
 use Rattle.contours.specs.Areas.{areaOf, measuring}
 use Rattle.contours.specs.AreaLaws.{run-bound, run-of}
 use Rattle.sweep.specs.Sweep.{Sweep}
 use Rattle.sweep.specs.Operations.{starting, StepGives, passes, top, stepping, layering}
-use Rattle.heights.specs.Heights.{heightsTaken}
-use Rattle.layers.specs.AllLayers.{WorkTables, climbed, sweptFile, usedAt, shortOutput, filing}
+use Rattle.all_heights.specs.Heights.{heightsTaken}
+use Rattle.all_sweep.specs.AllLayers.{WorkTables, climbed, sweptFile, usedAt, shortOutput, filing}
 use Rattle.polygons.specs.Flat.{FlatLayer}
-use Rattle.formats.specs.Formats.{Each}
-use Rattle.formats.specs.FormatLaws.{Bytes}
-use Rattle.formats.specs.LayerFile.{Layer}
-use Rattle.formats.specs.LayerRules.{LayerRules}
-use Rattle.formats.specs.RoundTripLaws.{layers-written}
-use Rattle.formats.specs.WholeFileLaws.{held-is}
-use Rattle.formats.specs.PartFile.{Part}
-use Rattle.reader.specs.Reading.{layersIn, layerAt, Entries, entriesOf, readingTests, layerReading}
-use Rattle.reader.specs.ReadingLaws.{fine-there}
-use Rattle.parts.specs.Parts.{partReading}
-use Rattle.answers.specs.AnswerLaws.{fourWords, saidBy, exports-said, signedOf, signed-back}
+use Rattle.file_formats.specs.Formats.{Each}
+use Rattle.file_formats.specs.FormatLaws.{Bytes}
+use Rattle.file_formats.specs.LayerFile.{Layer}
+use Rattle.file_formats.specs.LayerRules.{LayerRules}
+use Rattle.file_formats.specs.RoundTripLaws.{layers-written}
+use Rattle.file_formats.specs.WholeFileLaws.{held-or-is}
+use Rattle.file_formats.specs.PartFile.{Part}
+use Rattle.read_layer.specs.Reading.{layersIn, layerAt, Entries, entriesOf, readingTests, layerReading}
+use Rattle.read_layer.specs.ReadingLaws.{fine-there}
+use Rattle.read_part.specs.Parts.{partReading}
+use Rattle.wadroles.specs.ExportLaws.{fourWords, saidBy, exports-said, signedFromWord, signed-back}
 use Rattle.wadroles.specs.Interface.{stepWords, CheckC, CutC, ContourC, AreaC, StartC, StepC, LayerC, AllLayersC, ReadLayerC, ReadPartC}
 
 -- a refusal has a number that is not 0
 abbrev Nonzero : Told → Type 0
 Nonzero r = 0 < r .number
 
-listed : {k : ℕ} → ℕ → 0 < suc k
-listed i = omega arith
+has-one : {k : ℕ} → ℕ → 0 < suc k
+has-one i = omega arith
 
 three : {j k l : ℕ} {E : Type 0} → E → (ℕ → 0 < suc j) × ((ℕ → 0 < suc k) × ((ℕ → 0 < suc l) × E))
-three e = (listed, (listed, (listed, e)))
+three e = (has-one, (has-one, (has-one, e)))
 
 -- 16 at each height, then 14
 used-nonzero : (xs : List (Sweep × ℤ)) (output : ℕ) (file : List ℕ) → Every Nonzero (map usedAt xs ++ (shortOutput output file ∷ []))
-used-nonzero [] output file = (listed, tt)
-used-nonzero (x ∷ xs) output file = (listed, used-nonzero xs output file)
+used-nonzero [] output file = (has-one, tt)
+used-nonzero (x ∷ xs) output file = (has-one, used-nonzero xs output file)
 
 -- the words of a step
 abbrev pub readStep : List ℕ → StepGives
@@ -72,33 +72,34 @@ ruled-small (l ∷ ls) (suc i) h e = ruled-small ls i (omega arith) (e .1)
 height-small : (file : List ℕ) (i : ℕ) (n : Entries) → Bytes file → verdict (readingTests file i n) ≡ fine → mag (layerAt (layersIn file) i .height) < 2 ^ 63
 height-small file i n b v =
     let q = fine-there file i n v in
-    subst (λ (ls : List Layer). mag (layerAt ls i .height) < 2 ^ 63) (sym (held-is [] (q .1)))
+    subst (λ (ls : List Layer). mag (layerAt ls i .height) < 2 ^ 63) (sym (held-or-is [] (q .1)))
     (ruled-small (q .0) i (q .2) (layers-written file (q .0) b (q .1) .0 .each))
 
 module _ {a b c d n : ℕ} {out′ : List ℕ} where
   pub check-said : {m : Mesh} {t t′ : CheckTables} → CheckC m t (fourWords a b c d) n t′ out′ → saidBy (λ _. tt) n out′ ≡ answerOf (checking (m, t))
-  check-said = exports-said (λ _. tt) (λ _. refl) (listed, three (three tt))
+  check-said = exports-said (λ _. tt) (λ _. refl) (has-one, three (three tt))
 
   pub cut-said : {m : PairedMesh} {h : ℤ} {t t′ : CutTables} → CutC m h t (fourWords a b c d) n t′ out′
       → saidBy (λ out. (getD out 0 0, getD out 1 0)) n out′ ≡ answerOf (cutting (m, h, t))
-  cut-said = exports-said (λ out. (getD out 0 0, getD out 1 0)) (λ _. refl) (listed, three (three tt))
+  cut-said = exports-said (λ out. (getD out 0 0, getD out 1 0)) (λ _. refl) (has-one, three (three tt))
 
-  pub area-said : {points : List ℤ} → AreaC points (fourWords a b c d) n out′ → saidBy (λ out. signedOf (getD out 0 0)) n out′ ≡ answerOf (measuring points)
-  area-said {points} = exports-said (λ out. signedOf (getD out 0 0)) (λ e. signed-back (areaOf points) (area-small points e)) (listed, (listed, tt))
+  pub area-said : {points : List ℤ} → AreaC points (fourWords a b c d) n out′
+      → saidBy (λ out. signedFromWord (getD out 0 0)) n out′ ≡ answerOf (measuring points)
+  area-said {points} = exports-said (λ out. signedFromWord (getD out 0 0)) (λ e. signed-back (areaOf points) (area-small points e)) (has-one, (has-one, tt))
 
   pub start-said : {m : Mesh} {ring ring′ : List ℕ} → StartC m ring (fourWords a b c d) n ring′ out′
       → saidBy (λ out. getD out 0 0) n out′ ≡ answerOf (starting (m, ring))
-  start-said = exports-said (λ out. getD out 0 0) (λ _. refl) (listed, (listed, tt))
+  start-said = exports-said (λ out. getD out 0 0) (λ _. refl) (has-one, (has-one, tt))
 
   pub step-said : {s : Sweep} {ring′ : List ℕ} → StepC s (fourWords a b c d) n ring′ out′ → saidBy readStep n out′ ≡ answerOf (stepping s)
   step-said {s} =
-      exports-said readStep (λ _. step-back a b c d (s .passed) (stepping s .values)) (listed, (listed, three (three tt)))
+      exports-said readStep (λ _. step-back a b c d (s .passed) (stepping s .values)) (has-one, (has-one, three (three tt)))
 
   pub layer-said : {s : Sweep} {h : ℤ} {t t′ : CutTables} {ring′ : List ℕ} → LayerC s h t (fourWords a b c d) n ring′ t′ out′
       → saidBy (λ out. (getD out 0 0, (getD out 1 0, getD out 2 0))) n out′ ≡ answerOf (layering (s, h, t))
   layer-said =
       exports-said (λ out. (getD out 0 0, (getD out 1 0, getD out 2 0))) (λ _. refl)
-      (listed, (listed, three (three (three tt))))
+      (has-one, (has-one, three (three (three tt))))
 
   pub layers-said : {m : OrderedMesh} {heights : List ℤ} {w w′ : WorkTables} {output output′ : List ℕ}
       → AllLayersC m heights w output (fourWords a b c d) n w′ output′ out′ → saidBy (λ out. getD out 0 0) n out′ ≡ answerOf (filing (m, heights, w, output))
@@ -108,15 +109,15 @@ module _ {a b c d n : ℕ} {out′ : List ℕ} where
       (three (three (three (used-nonzero (climbed m (w .ring) hs) (length output) (sweptFile m (w .ring) hs)))))
 
   pub read-said : {file : List ℕ} {i : ℕ} {t t′ : FlatLayer} → Bytes file → ReadLayerC file i t (fourWords a b c d) n t′ out′
-      → saidBy (λ out. (getD out 0 0, signedOf (getD out 1 0), getD out 2 0, getD out 3 0)) n out′ ≡ answerOf (layerReading (file, i, t))
+      → saidBy (λ out. (getD out 0 0, signedFromWord (getD out 1 0), getD out 2 0, getD out 3 0)) n out′ ≡ answerOf (layerReading (file, i, t))
   read-said {file} {i} {t} bytes =
       let g = layerReading (file, i, t) .values in
-      exports-said (λ out. (getD out 0 0, signedOf (getD out 1 0), getD out 2 0, getD out 3 0))
+      exports-said (λ out. (getD out 0 0, signedFromWord (getD out 1 0), getD out 2 0, getD out 3 0))
       (λ e j. (g .0, signed-back (g .1) (height-small file i (entriesOf t) bytes e) j, g .2, g .3)) (three tt)
 
   pub part-said : {file : List ℕ} {t t′ : Part} → ReadPartC file t (fourWords a b c d) n t′ out′
       → saidBy (λ out. (getD out 0 0, getD out 1 0, getD out 2 0)) n out′ ≡ answerOf (partReading (file, t))
-  part-said = exports-said (λ out. (getD out 0 0, getD out 1 0, getD out 2 0)) (λ _. refl) (listed, (listed, tt))
+  part-said = exports-said (λ out. (getD out 0 0, getD out 1 0, getD out 2 0)) (λ _. refl) (has-one, (has-one, tt))
 
 -- Contour, which has no refusal, is one outcome only too
 pub contour-only : {points : List ℤ} {ends : List ℕ} {j n m : ℕ} {out out′ out″ : List ℕ} → ContourC points ends j out n out′

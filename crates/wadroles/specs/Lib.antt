@@ -1,3 +1,5 @@
 -- The C interface.
+pub mod Exports
+pub mod ExportLaws
 pub mod Interface
 pub mod InterfaceLaws

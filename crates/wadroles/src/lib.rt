@@ -1,24 +1,26 @@
 // The C interface. Every function returns 0 or the refusal's number, and fills `out`: the place on refusal, the values on success.
 ghost use Rattle.mesh.specs.Meshes.{mesh, paired, ordered};
 ghost use Rattle.polygons.specs.Flat.{flat};
-ghost use Rattle.checker.specs.Check.{checkTables};
-ghost use Rattle.cutter.specs.Cut.{lent};
+ghost use Rattle.check_mesh.specs.Check.{checkTables};
+ghost use Rattle.cut.specs.Cut.{lent};
 ghost use Rattle.sweep.specs.Sweep.{sweep};
-ghost use Rattle.layers.specs.AllLayers.{work};
-ghost use Rattle.parts.specs.Parts.{part};
+ghost use Rattle.all_sweep.specs.AllLayers.{work};
+ghost use Rattle.read_part.specs.Parts.{part};
 ghost use Rattle.wadroles.specs.Interface.{CheckC, CutC, ContourC, AreaC, StartC, StepC, LayerC, AllLayersC, ReadLayerC, ReadPartC};
-use answers::refuse;
-use answers::word;
-use checker::Checked;
-use contours::Measured;
-use cutter::Sliced;
-use layers::Filed;
-use parts::Parted;
-use reader::Reading;
-use sweep::Rise;
-use sweep::Started;
+use crate::words::refuse;
+use crate::words::word_of;
+use all_sweep::AllLayersAnswer;
+use check_mesh::CheckAnswer;
+use contours::AreaAnswer;
+use cut::CutAnswer;
+use read_layer::ReadLayerAnswer;
+use read_part::ReadPartAnswer;
+use sweep::LayerAnswer;
+use sweep::StartAnswer;
 use sweep::State;
-use sweep::Stepping;
+use sweep::StepAnswer;
+
+pub mod words;
 
 #[no_mangle]
 pub extern "C" fn wadroles_check(
@@ -28,13 +30,14 @@ pub extern "C" fn wadroles_check(
     order: &mut [u32],
     out: &mut [u64; 4],
 ) -> u32
-    ensures { λ r. ⌜ CheckC (mesh (coords .entry .now) (corners .entry .now)) (checkTables (pairing .entry .now) (order .entry .now)) (out .entry .now) r
+    ensures outcome { λ r. ⌜ CheckC (mesh (coords .entry .now) (corners .entry .now))
+        (checkTables (pairing .entry .now) (order .entry .now)) (out .entry .now) r
         (checkTables (pairing .exit .now) (order .exit .now)) (out .exit .now) ⌝ }
 {
-    let a = checker::check(coords, corners, pairing, order);
+    let a = check_mesh::check(coords, corners, pairing, order);
     match a {
-        Checked::Accepted => 0,
-        Checked::Refused(r) => refuse(r, out),
+        CheckAnswer::Accepted => 0,
+        CheckAnswer::Refused(r) => refuse(r, out),
     }
 }
 
@@ -50,18 +53,18 @@ pub extern "C" fn wadroles_cut(
     marks: &mut [u32],
     out: &mut [u64; 4],
 ) -> u32
-    ensures { λ r. ⌜ CutC (paired (coords .entry .now) (corners .entry .now) (pairing .entry .now)) h
+    ensures outcome { λ r. ⌜ CutC (paired (coords .entry .now) (corners .entry .now) (pairing .entry .now)) h
         (lent (names .entry .now) (points .entry .now) (ends .entry .now) (marks .entry .now)) (out .entry .now) r
         (lent (names .exit .now) (points .exit .now) (ends .exit .now) (marks .exit .now)) (out .exit .now) ⌝ }
 {
-    let a = cutter::cut(coords, corners, pairing, h, names, points, ends, marks);
+    let a = cut::cut(coords, corners, pairing, h, names, points, ends, marks);
     match a {
-        Sliced::Layer(j, k) => {
+        CutAnswer::Layer(j, k) => {
             out[0] = j as u64;
             out[1] = k as u64;
             0
         }
-        Sliced::Refused(r) => refuse(r, out),
+        CutAnswer::Refused(r) => refuse(r, out),
     }
 }
 
@@ -72,9 +75,9 @@ pub extern "C" fn wadroles_contour(
     j: usize,
     out: &mut [u64; 4],
 ) -> u32
-    ensures { λ r. ⌜ ContourC (points .entry .now) (ends .entry .now) j (out .entry .now) r (out .exit .now) ⌝ }
+    ensures outcome { λ r. ⌜ ContourC (points .entry .now) (ends .entry .now) j (out .entry .now) r (out .exit .now) ⌝ }
 {
-    let p = contours::part_of(points.len(), ends, j);
+    let p = contours::contour_part(points.len(), ends, j);
     let first = p.first;
     let length = p.length;
     out[0] = first as u64;
@@ -84,15 +87,15 @@ pub extern "C" fn wadroles_contour(
 
 #[no_mangle]
 pub extern "C" fn wadroles_area(points: &[i32], out: &mut [u64; 4]) -> u32
-    ensures { λ r. ⌜ AreaC (points .entry .now) (out .entry .now) r (out .exit .now) ⌝ }
+    ensures outcome { λ r. ⌜ AreaC (points .entry .now) (out .entry .now) r (out .exit .now) ⌝ }
 {
     let a = contours::area(points);
     match a {
-        Measured::Area(d) => {
-            out[0] = word(d);
+        AreaAnswer::Area(d) => {
+            out[0] = word_of(d);
             0
         }
-        Measured::Refused(r) => refuse(r, out),
+        AreaAnswer::Refused(r) => refuse(r, out),
     }
 }
 
@@ -103,16 +106,16 @@ pub extern "C" fn wadroles_start(
     ring: &mut [u32],
     out: &mut [u64; 4],
 ) -> u32
-    ensures { λ r. ⌜ StartC (mesh (coords .entry .now) (corners .entry .now)) (ring .entry .now) (out .entry .now) r
-        (ring .exit .now) (out .exit .now) ⌝ }
+    ensures outcome { λ r. ⌜ StartC (mesh (coords .entry .now) (corners .entry .now)) (ring .entry .now)
+        (out .entry .now) r (ring .exit .now) (out .exit .now) ⌝ }
 {
     let a = sweep::start(coords, corners, ring);
     match a {
-        Started::Fresh(s) => {
+        StartAnswer::Fresh(s) => {
             out[0] = s.passed as u64;
             0
         }
-        Started::Refused(r) => refuse(r, out),
+        StartAnswer::Refused(r) => refuse(r, out),
     }
 }
 
@@ -126,24 +129,24 @@ pub extern "C" fn wadroles_step(
     passed: usize,
     out: &mut [u64; 4],
 ) -> u32
-    ensures { λ r. ⌜ StepC
-        (sweep (ordered (coords .entry .now) (corners .entry .now) (pairing .entry .now) (order .entry .now)) (ring .entry .now) passed)
-        (out .entry .now) r (ring .exit .now) (out .exit .now) ⌝ }
+    ensures outcome { λ r. ⌜ StepC (sweep
+        (ordered (coords .entry .now) (corners .entry .now) (pairing .entry .now) (order .entry .now))
+        (ring .entry .now) passed) (out .entry .now) r (ring .exit .now) (out .exit .now) ⌝ }
 {
     let s = State { passed: passed };
     let a = sweep::step(coords, corners, pairing, order, ring, s);
     match a {
-        Stepping::Stepped(t) => {
+        StepAnswer::Stepped(t) => {
             out[0] = t.passed as u64;
             out[1] = 0;
             0
         }
-        Stepping::Top => {
+        StepAnswer::Top => {
             out[0] = passed as u64;
             out[1] = 1;
             0
         }
-        Stepping::Refused(r) => refuse(r, out),
+        StepAnswer::Refused(r) => refuse(r, out),
     }
 }
 
@@ -162,10 +165,12 @@ pub extern "C" fn wadroles_layer(
     marks: &mut [u32],
     out: &mut [u64; 4],
 ) -> u32
-    ensures { λ r. ⌜ LayerC
-        (sweep (ordered (coords .entry .now) (corners .entry .now) (pairing .entry .now) (order .entry .now)) (ring .entry .now) passed) h
+    ensures outcome { λ r. ⌜ LayerC (sweep
+        (ordered (coords .entry .now) (corners .entry .now) (pairing .entry .now) (order .entry .now))
+        (ring .entry .now) passed) h
         (lent (names .entry .now) (points .entry .now) (ends .entry .now) (marks .entry .now)) (out .entry .now) r
-        (ring .exit .now) (lent (names .exit .now) (points .exit .now) (ends .exit .now) (marks .exit .now)) (out .exit .now) ⌝ }
+        (ring .exit .now) (lent (names .exit .now) (points .exit .now) (ends .exit .now) (marks .exit .now))
+        (out .exit .now) ⌝ }
 {
     let s = State { passed: passed };
     let a = sweep::layer(
@@ -182,13 +187,13 @@ pub extern "C" fn wadroles_layer(
         marks,
     );
     match a {
-        Rise::Layer(t, j, k) => {
+        LayerAnswer::Layer(t, j, k) => {
             out[0] = t.passed as u64;
             out[1] = j as u64;
             out[2] = k as u64;
             0
         }
-        Rise::Refused(r) => refuse(r, out),
+        LayerAnswer::Refused(r) => refuse(r, out),
     }
 }
 
@@ -207,12 +212,15 @@ pub extern "C" fn wadroles_all_layers(
     output: &mut [u8],
     out: &mut [u64; 4],
 ) -> u32
-    ensures { λ r. ⌜ AllLayersC
-        (ordered (coords .entry .now) (corners .entry .now) (pairing .entry .now) (order .entry .now)) (heights .entry .now)
-        (work (names .entry .now) (points .entry .now) (ends .entry .now) (marks .entry .now) (ring .entry .now)) (output .entry .now) (out .entry .now) r
-        (work (names .exit .now) (points .exit .now) (ends .exit .now) (marks .exit .now) (ring .exit .now)) (output .exit .now) (out .exit .now) ⌝ }
+    ensures outcome { λ r. ⌜ AllLayersC
+        (ordered (coords .entry .now) (corners .entry .now) (pairing .entry .now) (order .entry .now))
+        (heights .entry .now)
+        (work (names .entry .now) (points .entry .now) (ends .entry .now) (marks .entry .now) (ring .entry .now))
+        (output .entry .now) (out .entry .now) r
+        (work (names .exit .now) (points .exit .now) (ends .exit .now) (marks .exit .now) (ring .exit .now))
+        (output .exit .now) (out .exit .now) ⌝ }
 {
-    let a = filing::all_layers(
+    let a = all_layers::all_layers(
         coords,
         corners,
         pairing,
@@ -226,11 +234,11 @@ pub extern "C" fn wadroles_all_layers(
         output,
     );
     match a {
-        Filed::Length(n) => {
+        AllLayersAnswer::Length(n) => {
             out[0] = n as u64;
             0
         }
-        Filed::Refused(r) => refuse(r, out),
+        AllLayersAnswer::Refused(r) => refuse(r, out),
     }
 }
 
@@ -242,20 +250,20 @@ pub extern "C" fn wadroles_read_layer(
     ends: &mut [u32],
     out: &mut [u64; 4],
 ) -> u32
-    ensures { λ r. ⌜ ReadLayerC (file .entry .now) i
+    ensures outcome { λ r. ⌜ ReadLayerC (file .entry .now) i
         (flat (points .entry .now) (ends .entry .now)) (out .entry .now) r
         (flat (points .exit .now) (ends .exit .now)) (out .exit .now) ⌝ }
 {
-    let a = reader::read_layer(file, i, points, ends);
+    let a = read_layer::read_layer(file, i, points, ends);
     match a {
-        Reading::Layer(n, z, j, k) => {
+        ReadLayerAnswer::Layer(n, z, j, k) => {
             out[0] = n as u64;
-            out[1] = word(z as i64);
+            out[1] = word_of(z as i64);
             out[2] = j as u64;
             out[3] = k as u64;
             0
         }
-        Reading::Refused(r) => refuse(r, out),
+        ReadLayerAnswer::Refused(r) => refuse(r, out),
     }
 }
 
@@ -267,18 +275,18 @@ pub extern "C" fn wadroles_read_part(
     heights: &mut [i32],
     out: &mut [u64; 4],
 ) -> u32
-    ensures { λ r. ⌜ ReadPartC (file .entry .now)
+    ensures outcome { λ r. ⌜ ReadPartC (file .entry .now)
         (part (coords .entry .now) (corners .entry .now) (heights .entry .now)) (out .entry .now) r
         (part (coords .exit .now) (corners .exit .now) (heights .exit .now)) (out .exit .now) ⌝ }
 {
-    let a = parts::read_part(file, coords, corners, heights);
+    let a = read_part::read_part(file, coords, corners, heights);
     match a {
-        Parted::Counts(v, t, k) => {
+        ReadPartAnswer::Counts(v, t, k) => {
             out[0] = v as u64;
             out[1] = t as u64;
             out[2] = k as u64;
             0
         }
-        Parted::Refused(r) => refuse(r, out),
+        ReadPartAnswer::Refused(r) => refuse(r, out),
     }
 }

@@ -1,3 +1,3 @@
--- The starred worked pieces of document 01.
+-- The starred worked pieces (WORKED-1).
 pub mod Pieces
 pub mod Worked

@@ -1,5 +1,5 @@
--- Worked pieces: an input of an operation, and the result that its definition gives: what it answers, and what it leaves in lent tables that have just the
--- entries asked for.
+-- Worked pieces (WORKED-1): an input of an operation, and the result that its definition gives:
+-- what it answers, and what it leaves in lent tables that have just the entries asked for.
 use Prim.Native.Nat.{ℕ, _*_}
 use mathlib.Core.List.{List, [], _∷_}
 use lib.ListN.{length, take, replicate}
@@ -9,14 +9,14 @@ use Rattle.mesh.specs.Meshes.{Mesh, mesh, OrderedMesh, ordered}
 use Rattle.mesh.specs.Operation.{Answer, gives, refuses, answerOf, leftBy}
 use Rattle.mesh.specs.Refusals.{Told}
 use Rattle.polygons.specs.Flat.{flat}
-use Rattle.checker.specs.Check.{CheckTables, checkTables, checking}
+use Rattle.check_mesh.specs.Check.{CheckTables, checkTables, checking}
 use Rattle.section.specs.Contours.{Traced, contours, stuck, trace}
-use Rattle.points.specs.Points.{pointAt}
-use Rattle.cutter.specs.Cut.{CutTables, lent, cutting}
+use Rattle.cut_points.specs.Points.{pointAt}
+use Rattle.cut.specs.Cut.{CutTables, lent, cutting}
 use Rattle.contours.specs.Areas.{measuring}
 use Rattle.sweep.specs.Sweep.{passedAt}
-use Rattle.layers.specs.AllLayers.{work, filing}
-use Rattle.reader.specs.Reading.{layerReading}
+use Rattle.all_sweep.specs.AllLayers.{work, filing}
+use Rattle.read_layer.specs.Reading.{layerReading}
 
 -- ---- what is asked
 
@@ -39,7 +39,7 @@ pub data Input : Type 0 where
 -- ---- what is answered
 
 -- a layer: the counts of contours and points, and its names, points and ends
-pub record LayerGiven : Type 0 where
+pub record LayerResult : Type 0 where
   pub count : ℕ
   pub total : ℕ
   pub names : List ℕ
@@ -53,7 +53,7 @@ pub data Result : Type 0 where
   paired : List ℕ → Result
   -- rings, each from its least corner on
   rings : List (List ℕ) → Result
-  layer : LayerGiven → Result
+  layer : LayerResult → Result
   -- a number: a doubled area, a coordinate, a count of layers
   number : ℤ → Result
   -- the bytes of a file
@@ -114,8 +114,8 @@ filedAs m heights output =
 unfoldable pub edgeAs : List ℤ → ℤ → Result
 edgeAs edge h = number (pointAt (mesh edge (0 ∷ 1 ∷ 0 ∷ [])) h 0 0)
 
-unfoldable pub readAs : List ℕ → Result
-readAs file = resultFrom (λ v. number (pos (v .0))) (answerOf (layerReading (file, 0, flat [] [])))
+unfoldable pub readFileAs : List ℕ → Result
+readFileAs file = resultFrom (λ v. number (pos (v .0))) (answerOf (layerReading (file, 0, flat [] [])))
 
 unfoldable pub resultOf : Input → Result
 resultOf (checked m) = checkedAs m
@@ -124,4 +124,4 @@ resultOf (cutAt m h) = cutAs (withTables m) h
 resultOf (areaOf points) = areaAs points
 resultOf (filed m heights output) = filedAs (withTables m) heights output
 resultOf (edgeAt edge h) = edgeAs edge h
-resultOf (read file) = readAs file
+resultOf (read file) = readFileAs file

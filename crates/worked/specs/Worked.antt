@@ -1,4 +1,5 @@
--- The starred worked pieces of document 01, all in one statement: what the definitions give for these inputs are these results.
+-- The starred worked pieces (WORKED-4 to WORKED-14), all in one statement
+-- (WORKED-1): what the definitions give for these inputs are these results.
 use mathlib.Core.Path.{_≡_, refl, ap, _∙_}
 use mathlib.Core.List.{List, [], _∷_, map}
 use Prim.Native.Nat.{ℕ}
@@ -9,29 +10,29 @@ use Rattle.mesh.specs.Meshes.{Mesh, mesh, OrderedMesh, ordered}
 use Rattle.mesh.specs.Operation.{test, _then_, verdict, after}
 use Rattle.mesh.specs.Order.{before, place, orderUpTo, orderOf}
 use Rattle.mesh.specs.Tests.{sizesFit, outOfRange, namesNone, namesTwice, reverse, pairedAt, orderedAt}
-use Rattle.pairing.specs.Partners.{twin, doubledAt, openAt, partnerOf, pairingOf}
-use Rattle.checker.specs.Check as check
+use Rattle.check_pairing.specs.Partners.{repeatsEdge, doubledAt, openAt, partnerOf, pairingOf}
+use Rattle.check_mesh.specs.Check as check
 use Rattle.section.specs.Section.{below, rising, risingIn, successor, ringEntry}
 use Rattle.section.specs.Contours.{member, walk, traceAt, traceTo, trace, endsFrom}
 use Rattle.section.specs.Links.{hasLink, traceLinks}
-use Rattle.points.specs.Points.{numerator, denominator, rounded, exactOver, exactUnder, pointAt, pointsOf}
-use Rattle.cutter.specs.Cut.{roomFor, metAt}
+use Rattle.cut_points.specs.Points.{numerator, denominator, rounded, exactOver, exactUnder, pointAt, pointsOf}
+use Rattle.cut.specs.Cut.{cutRoomFor, metAt}
 use Rattle.contours.specs.Areas as areas
 use Rattle.contours.specs.Areas.{crossOf, nextPoint, sumOf, runFits}
 use Rattle.sweep.specs.Sweep.{passedAt, freshRing, touches, relinked, stepRing, mayRise, risenTo, risenRing}
 use Rattle.sweep.specs.Operations.{unlessRefused}
-use Rattle.formats.specs.Formats.{encodeAll, parseAll}
-use Rattle.formats.specs.Numbers.{groups, encodeNumber, parseNumber}
-use Rattle.formats.specs.LayerFile.{coordinate, point, contour, contourList, heightAbove, layer, layerFile, layersOf}
-use Rattle.formats.specs.WholeFiles.{brokenAt, held}
-use Rattle.reader.specs.Reading.{layerRoom}
-use Rattle.heights.specs.Heights.{heightsTaken, notAboveLast}
-use Rattle.layers.specs.AllLayers.{sweptLayer, climb, workRoomFor}
+use Rattle.file_formats.specs.Formats.{encodeAll, parseAll}
+use Rattle.file_formats.specs.Numbers.{groups, encodeNumber, parseNumber}
+use Rattle.file_formats.specs.LayerFile.{coordinateFormat, pointFormat, contourFormat, contourList, heightAbove, layerFormat, layerFile, layersOf}
+use Rattle.file_formats.specs.WholeFiles.{brokenAt, heldOr}
+use Rattle.read_layer.specs.Reading.{readLayerRoomFor}
+use Rattle.all_heights.specs.Heights.{heightsTaken, notAboveLast}
+use Rattle.all_sweep.specs.AllLayers.{sweptLayer, climb, workRoomFor}
 use Rattle.worked.specs.Pieces.{Input, checked, passed, cutAt, areaOf, filed, edgeAt, read}
-use Rattle.worked.specs.Pieces.{Result, refused, paired, rings, LayerGiven, layer as layered, number, bytes}
-use Rattle.worked.specs.Pieces.{withTables, checkedAs, passedAs, cutAs, areaAs, filedAs, edgeAs, readAs, resultOf}
+use Rattle.worked.specs.Pieces.{Result, refused, paired, rings, LayerResult, layer as layered, number, bytes}
+use Rattle.worked.specs.Pieces.{withTables, checkedAs, passedAs, cutAs, areaAs, filedAs, edgeAs, readFileAs, resultOf}
 
--- part P, and P without triangle 3
+-- part P, and P without triangle 3 (WORKED-13)
 abbrev pub P : Mesh
 P =
     mesh (pos 0 ∷ pos 0 ∷ pos 0 ∷ pos 10 ∷ pos 0 ∷ pos 0 ∷ pos 0 ∷ pos 10 ∷ pos 0 ∷ pos 0 ∷ pos 0 ∷ pos 10 ∷ [])
@@ -40,7 +41,7 @@ P =
 abbrev pub opened : Mesh
 opened = mesh (P .coords) (0 ∷ 2 ∷ 1 ∷ 0 ∷ 1 ∷ 3 ∷ 0 ∷ 3 ∷ 2 ∷ [])
 
--- P's heights, its pairing and the bytes of its layer file
+-- P's heights, its pairing (WORKED-4) and the bytes of its layer file (WORKED-10)
 abbrev pub heights : List ℤ
 heights = pos 0 ∷ pos 5 ∷ pos 10 ∷ pos 11 ∷ []
 
@@ -52,8 +53,8 @@ file =
     0x04 ∷ 0x00 ∷ 0x00 ∷ 0x0A ∷ 0x01 ∷ 0x03 ∷ 0x0A ∷ 0x00 ∷ 0x09 ∷ 0x0A ∷ 0x00 ∷ 0x09
     ∷ 0x14 ∷ 0x01 ∷ 0x03 ∷ 0x00 ∷ 0x00 ∷ 0x00 ∷ 0x00 ∷ 0x00 ∷ 0x00 ∷ 0x16 ∷ 0x00 ∷ []
 
--- the layers of P at 5 and at 10, and no contour
-abbrev pub atFive : LayerGiven
+-- the layers of P at 5 (WORKED-7) and at 10 (WORKED-8), and no contour (WORKED-9)
+abbrev pub atFive : LayerResult
 atFive = record {
   count = 1;
   total = 3;
@@ -62,7 +63,7 @@ atFive = record {
   ends = 3 ∷ [];
 }
 
-abbrev pub atTen : LayerGiven
+abbrev pub atTen : LayerResult
 atTen = record {
   count = 1;
   total = 3;
@@ -71,7 +72,7 @@ atTen = record {
   ends = 3 ∷ [];
 }
 
-abbrev pub noContour : LayerGiven
+abbrev pub noContour : LayerResult
 noContour = record { count = 0; total = 0; names = []; points = []; ends = [] }
 
 -- ---- inputs and results
@@ -116,19 +117,21 @@ abbrev ready : OrderedMesh
 ready = ordered (P .coords) (P .corners) pairing (0 ∷ 1 ∷ 2 ∷ 3 ∷ [])
 
 tables : withTables P ≡ ready
-unfolding withTables verdict _then_ test some least after overwrite tabulate sizesFit check.checkRoomFor outOfRange namesNone namesTwice twin doubledAt openAt
+unfolding withTables verdict _then_ test some least after overwrite tabulate sizesFit check.checkRoomFor outOfRange namesNone namesTwice repeatsEdge
+    doubledAt openAt
     reverse pairingOf partnerOf orderOf orderUpTo place before
 tables = refl
 
 -- ---- piece by piece
 
 P-accepted : checkedAs P ≡ paired pairing
-unfolding checkedAs verdict _then_ test some least after overwrite tabulate sizesFit check.checkRoomFor outOfRange namesNone namesTwice twin doubledAt openAt
+unfolding checkedAs verdict _then_ test some least after overwrite tabulate sizesFit check.checkRoomFor outOfRange namesNone namesTwice repeatsEdge
+    doubledAt openAt
     reverse pairingOf partnerOf
 P-accepted = refl
 
 P-opened : checkedAs opened ≡ refused 6 1
-unfolding checkedAs verdict _then_ test some least sizesFit check.checkRoomFor outOfRange namesNone namesTwice twin doubledAt openAt reverse
+unfolding checkedAs verdict _then_ test some least sizesFit check.checkRoomFor outOfRange namesNone namesTwice repeatsEdge doubledAt openAt reverse
 P-opened = refl
 
 one-passed : passedAs ready 1 ≡ rings ((0 ∷ 6 ∷ 3 ∷ []) ∷ [])
@@ -140,22 +143,22 @@ unfolding passedAs passedAt trace traceTo traceAt walk member rising risingIn su
 two-passed = refl
 
 at-5 : cutAs ready (pos 5) ≡ layered atFive
-unfolding cutAs verdict _then_ test some least after overwrite sizesFit roomFor outOfRange namesNone namesTwice reverse pairedAt metAt
+unfolding cutAs verdict _then_ test some least after overwrite sizesFit cutRoomFor outOfRange namesNone namesTwice reverse pairedAt metAt
     trace traceTo traceAt walk member rising risingIn successor below endsFrom pointsOf pointAt exactOver exactUnder numerator denominator rounded
 at-5 = refl
 
 at-10 : cutAs ready (pos 10) ≡ layered atTen
-unfolding cutAs verdict _then_ test some least after overwrite sizesFit roomFor outOfRange namesNone namesTwice reverse pairedAt metAt
+unfolding cutAs verdict _then_ test some least after overwrite sizesFit cutRoomFor outOfRange namesNone namesTwice reverse pairedAt metAt
     trace traceTo traceAt walk member rising risingIn successor below endsFrom pointsOf pointAt exactOver exactUnder numerator denominator rounded
 at-10 = refl
 
 at-0 : cutAs ready (pos 0) ≡ layered noContour
-unfolding cutAs verdict _then_ test some least after overwrite sizesFit roomFor outOfRange namesNone namesTwice reverse pairedAt metAt
+unfolding cutAs verdict _then_ test some least after overwrite sizesFit cutRoomFor outOfRange namesNone namesTwice reverse pairedAt metAt
     trace traceTo traceAt walk member rising risingIn successor below endsFrom pointsOf
 at-0 = refl
 
 at-11 : cutAs ready (pos 11) ≡ layered noContour
-unfolding cutAs verdict _then_ test some least after overwrite sizesFit roomFor outOfRange namesNone namesTwice reverse pairedAt metAt
+unfolding cutAs verdict _then_ test some least after overwrite sizesFit cutRoomFor outOfRange namesNone namesTwice reverse pairedAt metAt
     trace traceTo traceAt walk member rising risingIn successor below endsFrom pointsOf
 at-11 = refl
 
@@ -164,10 +167,10 @@ unfolding areaAs verdict _then_ test some least runFits outOfRange areas.areaOf 
 area-5 = refl
 
 file-P : filedAs ready heights 23 ≡ bytes file
-unfolding filedAs verdict _then_ test some least overwrite tabulate sizesFit roomFor workRoomFor outOfRange namesNone namesTwice reverse pairedAt orderedAt
+unfolding filedAs verdict _then_ test some least overwrite tabulate sizesFit cutRoomFor workRoomFor outOfRange namesNone namesTwice reverse pairedAt orderedAt
     before place orderUpTo orderOf metAt notAboveLast heightsTaken unlessRefused sweptLayer climb freshRing mayRise risenTo risenRing stepRing relinked touches
     passedAt ringEntry hasLink traceLinks below rising risingIn successor member walk traceAt traceTo pointAt exactOver exactUnder numerator denominator rounded
-    encodeAll groups encodeNumber coordinate point contour contourList heightAbove layer layerFile
+    encodeAll groups encodeNumber coordinateFormat pointFormat contourFormat contourList heightAbove layerFormat layerFile
 file-P = refl
 
 half-up : edgeAs (pos 0 ∷ pos 0 ∷ pos 0 ∷ pos 1 ∷ pos 0 ∷ pos 2 ∷ []) (pos 1) ≡ number (pos 1)
@@ -178,8 +181,9 @@ minus-half-up : edgeAs (pos 0 ∷ pos 0 ∷ pos 0 ∷ negsuc 0 ∷ pos 0 ∷ pos
 unfolding edgeAs pointAt exactOver exactUnder numerator denominator rounded
 minus-half-up = refl
 
-too-long : readAs (0x80 ∷ 0x00 ∷ []) ≡ refused 13 0
-unfolding readAs verdict _then_ test some least brokenAt held layerRoom layersOf layerFile layer heightAbove contourList contour point coordinate parseNumber
+too-long : readFileAs (0x80 ∷ 0x00 ∷ []) ≡ refused 13 0
+unfolding readFileAs verdict _then_ test some least brokenAt heldOr readLayerRoomFor layersOf layerFile layerFormat heightAbove contourList contourFormat
+    pointFormat coordinateFormat parseNumber
     parseAll
 too-long = refl
 

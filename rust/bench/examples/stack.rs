@@ -9,7 +9,8 @@ use oracle::{encode_layers, encode_part, FileLayer, Part};
 use std::hint::black_box;
 use std::ptr::read_volatile;
 use wadroles::{
-    all_layers, check, cut, layer, read_layer, read_part, start, LayerTables, MeshTables,
+    all_layers, check, layer, read_layer, read_part, start, CheckTables, CutTables, FlatLayer,
+    OrderedMesh, PairedMesh, Sweep, WorkTables,
 };
 
 const HEIGHT: i32 = 7;
@@ -47,11 +48,13 @@ fn main() {
     print_file_depths(&torus(12, 16, 700, 300));
 }
 
+/// Tables as long as so many corners need them.
 struct Work {
     names: Vec<u32>,
     points: Vec<i32>,
     ends: Vec<u32>,
     marks: Vec<u32>,
+    ring: Vec<u32>,
 }
 
 impl Work {
@@ -61,57 +64,82 @@ impl Work {
             points: vec![0; 2 * corners],
             ends: vec![0; corners],
             marks: vec![0; corners],
+            ring: vec![0; corners],
         }
     }
 
-    fn lend(&mut self) -> LayerTables<'_> {
-        LayerTables {
-            names: &mut self.names,
-            points: &mut self.points,
-            ends: &mut self.ends,
-            marks: &mut self.marks,
+    fn lend(&mut self) -> WorkTables<'_> {
+        WorkTables {
+            cut: CutTables {
+                names: &mut self.names,
+                points: &mut self.points,
+                ends: &mut self.ends,
+                marks: &mut self.marks,
+            },
+            ring: &mut self.ring,
         }
     }
 }
 
-fn print_mesh_depths(mesh: &Mesh) {
-    let (coords, corners) = (&mesh.coords[..], &mesh.corners[..]);
-    let mut pairing = random_pairing(mesh, &mut Random::new(1));
-    let mut order = vertex_order(mesh);
+fn print_mesh_depths(owned: &Mesh) {
+    let mesh = wadroles::Mesh {
+        coords: &owned.coords,
+        corners: &owned.corners,
+    };
+    let mut pairing = random_pairing(owned, &mut Random::new(1));
+    let mut order = vertex_order(owned);
+    let mut made = CheckTables {
+        pairing: &mut pairing,
+        order: &mut order,
+    };
     print_depth("check", &mut || {
-        check(coords, corners, &mut pairing, &mut order).expect("it is closed");
+        check(mesh, &mut made).expect("it is closed");
     });
-    let mut work = Work::new(corners.len());
-    let mut ring = vec![0; corners.len()];
-    print_depth("cut", &mut || {
-        cut(coords, corners, &pairing, HEIGHT, work.lend()).expect("it is closed");
-    });
-    let mesh = MeshTables {
-        coords,
-        corners,
+    let paired = PairedMesh {
+        mesh,
         pairing: &pairing,
+    };
+    let ordered = OrderedMesh {
+        paired,
         order: &order,
     };
-    let state = start(coords, corners, &mut ring).expect("the table is long enough");
-    print_depth("layer", &mut || {
-        layer(mesh, &mut ring, state, HEIGHT, work.lend()).expect("it is closed");
-    });
+    let mut work = Work::new(mesh.corners.len());
+    print_cut_depths(ordered, work.lend());
     let heights: Vec<i32> = (-299..299).collect();
     let mut output = vec![0; 1 << 20];
     print_depth("all_layers", &mut || {
-        all_layers(mesh, &heights, work.lend(), &mut ring, &mut output).expect("it is closed");
+        all_layers(ordered, &heights, &mut work.lend(), &mut output).expect("it is closed");
+    });
+}
+
+fn print_cut_depths(ordered: OrderedMesh, work: WorkTables) {
+    let WorkTables { mut cut, ring } = work;
+    print_depth("cut", &mut || {
+        wadroles::cut(ordered.paired, HEIGHT, &mut cut).expect("it is closed");
+    });
+    let passed = start(ordered.paired.mesh, ring).expect("the table is long enough");
+    let mut sweep = Sweep {
+        ordered,
+        ring,
+        passed,
+    };
+    print_depth("layer", &mut || {
+        layer(&mut sweep, HEIGHT, &mut cut).expect("it is closed");
     });
 }
 
 fn print_file_depths(mesh: &Mesh) {
-    let (mut points, mut ends) = (vec![0; 6], vec![0; 1]);
+    let mut layer = FlatLayer {
+        points: &mut [0; 6],
+        ends: &mut [0; 1],
+    };
     let triangle = FileLayer {
         height: HEIGHT,
         contours: vec![vec![[0, 0], [700, 0], [0, 700]]],
     };
     let file = encode_layers(&[triangle]);
     print_depth("read_layer", &mut || {
-        read_layer(&file, 0, &mut points, &mut ends).expect("the file is right");
+        read_layer(&file, 0, &mut layer).expect("the file is right");
     });
     let mut part = Part {
         coords: mesh.coords.clone(),
@@ -119,12 +147,12 @@ fn print_file_depths(mesh: &Mesh) {
         heights: vec![HEIGHT],
     };
     let file = encode_part(&part);
+    let mut tables = wadroles::Part {
+        coords: &mut part.coords,
+        corners: &mut part.corners,
+        heights: &mut part.heights,
+    };
     print_depth("read_part", &mut || {
-        let Part {
-            coords,
-            corners,
-            heights,
-        } = &mut part;
-        read_part(&file, coords, corners, heights).expect("the file is right");
+        read_part(&file, &mut tables).expect("the file is right");
     });
 }

@@ -1,10 +1,10 @@
 use crate::comparison::{Bench, Comparison, Figure, Kind, Row};
 use crate::inputs::{heights, largest_cone, largest_torus, point_count, tori};
+use crate::owned::{Ordered, Work, JUNK};
 use crate::unproved::{self, AllLayers};
 use crate::versions::{Subject, Version};
-use meshes::{random_pairing, vertex_order, Mesh, Random};
+use meshes::Mesh;
 use std::hint::black_box;
-use wadroles::{LayerTables, MeshTables};
 
 const HEIGHTS: i32 = 1000;
 const MORE_HEIGHTS: i32 = 4096;
@@ -12,7 +12,6 @@ const CONE_HEIGHTS: i32 = 100;
 const CONE_POINTS: usize = 32_766;
 const SINGLE_HEIGHTS: i32 = 20;
 const RUNS: usize = 11;
-const JUNK: u32 = 0xDEAD_BEEF;
 
 /// More bytes than a layer takes beside its points.
 const LAYER_BYTES: usize = 16;
@@ -104,14 +103,14 @@ fn by_points() -> Comparison<Swept> {
 
 fn torus_by_points() -> Swept {
     let swept = Swept::new(largest_torus(), HEIGHTS, unproved::all_layers);
-    let points = point_count(&swept.mesh, &swept.calls[0]);
+    let points = point_count(&swept.input.mesh, &swept.calls[0]);
     swept.with_size(points)
 }
 
 fn cone_by_points() -> Swept {
     let swept = Swept::new(largest_cone(), CONE_HEIGHTS, unproved::all_layers);
     let layers = swept.calls.concat();
-    let mut points = layers.iter().map(|&h| point_count(&swept.mesh, &[h]));
+    let mut points = layers.iter().map(|&h| point_count(&swept.input.mesh, &[h]));
     assert!(points.all(|count| count == CONE_POINTS));
     swept.with_size(layers.len() * CONE_POINTS)
 }
@@ -119,40 +118,17 @@ fn cone_by_points() -> Swept {
 /// The layer file of the largest torus at so many heights.
 pub fn torus_file(count: i32) -> Vec<u8> {
     let swept = Swept::new(largest_torus(), count, unproved::all_layers);
-    swept.exact().tables.output
+    swept.exact().output
 }
 
 /// A mesh with its pairing and order, the heights of each call, and the tables lent to all layers.
 struct Swept {
     unproved: AllLayers,
     size: usize,
-    mesh: Mesh,
-    pairing: Vec<u32>,
-    order: Vec<u32>,
+    input: Ordered,
     calls: Vec<Vec<i32>>,
-    tables: Tables,
-}
-
-struct Tables {
-    names: Vec<u32>,
-    points: Vec<i32>,
-    ends: Vec<u32>,
-    marks: Vec<u32>,
-    ring: Vec<u32>,
+    tables: Work,
     output: Vec<u8>,
-}
-
-impl Tables {
-    fn new(corners: usize, output: usize) -> Self {
-        Tables {
-            names: vec![JUNK; corners],
-            points: vec![JUNK as i32; 2 * corners],
-            ends: vec![JUNK; corners],
-            marks: vec![JUNK; corners],
-            ring: vec![JUNK; corners],
-            output: vec![JUNK as u8; output],
-        }
-    }
 }
 
 impl Swept {
@@ -164,11 +140,10 @@ impl Swept {
         Swept {
             unproved,
             size: mesh.triangle_count(),
-            pairing: random_pairing(&mesh, &mut Random::new(1)),
-            order: vertex_order(&mesh),
             calls: vec![heights],
-            tables: Tables::new(mesh.corners.len(), output),
-            mesh,
+            tables: Work::new(mesh.corners.len()),
+            output: vec![JUNK as u8; output],
+            input: Ordered::new(mesh),
         }
     }
 
@@ -181,7 +156,7 @@ impl Swept {
     /// With an output that the file fills.
     fn exact(mut self) -> Self {
         let length = self.call(Version::Unproved, 0);
-        self.tables.output.truncate(length);
+        self.output.truncate(length);
         self
     }
 
@@ -204,7 +179,8 @@ impl Subject for Swept {
     }
 
     fn refill(&mut self) {
-        self.tables = Tables::new(self.tables.ring.len(), self.tables.output.len());
+        self.tables = Work::new(self.input.mesh.corners.len());
+        self.output = vec![JUNK as u8; self.output.len()];
     }
 
     fn call(&mut self, version: Version, call: usize) -> usize {
@@ -212,25 +188,14 @@ impl Subject for Swept {
             Version::Library => wadroles::all_layers,
             Version::Unproved => self.unproved,
         });
-        let mesh = black_box(MeshTables {
-            coords: &self.mesh.coords,
-            corners: &self.mesh.corners,
-            pairing: &self.pairing,
-            order: &self.order,
-        });
-        let tables = LayerTables {
-            names: &mut self.tables.names,
-            points: &mut self.tables.points,
-            ends: &mut self.tables.ends,
-            marks: &mut self.tables.marks,
-        };
-        let (ring, output) = (&mut self.tables.ring, &mut self.tables.output);
-        all_layers(mesh, black_box(&self.calls[call]), tables, ring, output)
+        let ordered = black_box(self.input.lend());
+        let heights = black_box(&self.calls[call]);
+        all_layers(ordered, heights, &mut self.tables.lend(), &mut self.output)
             .expect("the mesh is closed")
     }
 
     /// The output: what becomes of the work tables is tested with the unproved versions.
     fn left(&self) -> Vec<u8> {
-        self.tables.output.clone()
+        self.output.clone()
     }
 }

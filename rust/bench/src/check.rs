@@ -1,11 +1,11 @@
 use crate::comparison::{Bench, Comparison};
 use crate::inputs::kinds;
+use crate::owned::{lend, JUNK};
 use crate::unproved;
 use crate::versions::{Subject, Version};
 use meshes::Mesh;
 use std::hint::black_box;
-
-const JUNK: u32 = 0xDEAD_BEEF;
+use wadroles::CheckTables;
 
 /// Check.
 pub fn benches() -> Vec<Box<dyn Bench>> {
@@ -52,13 +52,11 @@ impl Subject for Checked {
             Version::Library => wadroles::check,
             Version::Unproved => unproved::check,
         });
-        check(
-            black_box(&self.mesh.coords),
-            black_box(&self.mesh.corners),
-            &mut self.pairing,
-            &mut self.order,
-        )
-        .expect("the mesh is closed");
+        let mut tables = CheckTables {
+            pairing: &mut self.pairing,
+            order: &mut self.order,
+        };
+        check(black_box(lend(&self.mesh)), &mut tables).expect("the mesh is closed");
     }
 
     fn left(&self) -> Self::Left {

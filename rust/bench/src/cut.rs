@@ -1,13 +1,13 @@
 use crate::comparison::{Bench, Comparison};
 use crate::inputs::{heights, kinds};
+use crate::owned::{Ordered, Work};
 use crate::unproved;
 use crate::versions::{Subject, Version};
-use meshes::{random_pairing, Mesh, Random};
+use meshes::Mesh;
 use std::hint::black_box;
-use wadroles::{Layer, LayerTables};
+use wadroles::Counts;
 
 const HEIGHTS: i32 = 20;
-const JUNK: u32 = 0xDEAD_BEEF;
 
 /// Cut.
 pub fn benches() -> Vec<Box<dyn Bench>> {
@@ -18,55 +18,27 @@ pub fn benches() -> Vec<Box<dyn Bench>> {
 
 /// A mesh with its pairing, heights to cut it at, and the tables lent to cut.
 struct Cuts {
-    mesh: Mesh,
-    pairing: Vec<u32>,
+    input: Ordered,
     heights: Vec<i32>,
-    tables: Tables,
-}
-
-#[derive(Clone, PartialEq)]
-struct Tables {
-    names: Vec<u32>,
-    points: Vec<i32>,
-    ends: Vec<u32>,
-    marks: Vec<u32>,
-}
-
-impl Tables {
-    fn new(corners: usize) -> Self {
-        Tables {
-            names: vec![JUNK; corners],
-            points: vec![JUNK as i32; 2 * corners],
-            ends: vec![JUNK; corners],
-            marks: vec![JUNK; corners],
-        }
-    }
-
-    fn refill(&mut self) {
-        self.names.fill(JUNK);
-        self.points.fill(JUNK as i32);
-        self.ends.fill(JUNK);
-        self.marks.fill(JUNK);
-    }
+    tables: Work,
 }
 
 impl Cuts {
     fn new(mesh: Mesh) -> Self {
         Cuts {
-            pairing: random_pairing(&mesh, &mut Random::new(1)),
             heights: heights(&mesh, HEIGHTS),
-            tables: Tables::new(mesh.corners.len()),
-            mesh,
+            tables: Work::new(mesh.corners.len()),
+            input: Ordered::new(mesh),
         }
     }
 }
 
 impl Subject for Cuts {
-    type Answer = Layer;
-    type Left = Tables;
+    type Answer = Counts;
+    type Left = Work;
 
     fn size(&self) -> usize {
-        self.mesh.triangle_count()
+        self.input.mesh.triangle_count()
     }
 
     fn calls(&self) -> usize {
@@ -77,28 +49,17 @@ impl Subject for Cuts {
         self.tables.refill();
     }
 
-    fn call(&mut self, version: Version, call: usize) -> Layer {
+    fn call(&mut self, version: Version, call: usize) -> Counts {
         let cut = black_box(match version {
             Version::Library => wadroles::cut,
             Version::Unproved => unproved::cut,
         });
-        let tables = LayerTables {
-            names: &mut self.tables.names,
-            points: &mut self.tables.points,
-            ends: &mut self.tables.ends,
-            marks: &mut self.tables.marks,
-        };
-        cut(
-            black_box(&self.mesh.coords),
-            black_box(&self.mesh.corners),
-            black_box(&self.pairing),
-            self.heights[call],
-            tables,
-        )
-        .expect("the mesh is closed")
+        let paired = black_box(self.input.lend_paired());
+        let mut tables = self.tables.lend().cut;
+        cut(paired, self.heights[call], &mut tables).expect("the mesh is closed")
     }
 
-    fn left(&self) -> Tables {
+    fn left(&self) -> Work {
         self.tables.clone()
     }
 }

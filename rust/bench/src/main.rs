@@ -17,6 +17,7 @@ mod comparison;
 mod cut;
 mod inputs;
 mod layer;
+mod owned;
 mod read_layer;
 mod read_part;
 mod unproved;

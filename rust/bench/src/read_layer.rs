@@ -1,13 +1,12 @@
 use crate::all_layers::torus_file;
 use crate::comparison::{Bench, Comparison, Kind};
+use crate::owned::JUNK;
 use crate::unproved;
 use crate::versions::{Subject, Version};
 use meshes::{Random, MAX_COORDINATE};
 use oracle::{encode_layers, FileLayer};
 use std::hint::black_box;
-use wadroles::{LayerRead, MAX_POINTS};
-
-const JUNK: u32 = 0xDEAD_BEEF;
+use wadroles::{FlatLayer, Reading, MAX_POINTS};
 
 /// Read layer.
 pub fn benches() -> Vec<Box<dyn Bench>> {
@@ -44,7 +43,7 @@ impl LayerFile {
 }
 
 impl Subject for LayerFile {
-    type Answer = LayerRead;
+    type Answer = Reading;
     type Left = (Vec<i32>, Vec<u32>);
 
     fn size(&self) -> usize {
@@ -60,14 +59,17 @@ impl Subject for LayerFile {
         self.ends.fill(JUNK);
     }
 
-    fn call(&mut self, version: Version, call: usize) -> LayerRead {
+    fn call(&mut self, version: Version, call: usize) -> Reading {
         let read_layer = black_box(match version {
             Version::Library => wadroles::read_layer,
             Version::Unproved => unproved::read_layer,
         });
+        let mut layer = FlatLayer {
+            points: &mut self.points,
+            ends: &mut self.ends,
+        };
         let file = black_box(&self.file);
-        read_layer(file, self.layers[call], &mut self.points, &mut self.ends)
-            .expect("the file is right")
+        read_layer(file, self.layers[call], &mut layer).expect("the file is right")
     }
 
     fn left(&self) -> Self::Left {

@@ -1,14 +1,14 @@
 use crate::comparison::{Bench, Comparison, Kind};
+use crate::owned::JUNK;
 use crate::unproved;
 use crate::versions::{Subject, Version};
 use meshes::shapes::torus;
 use meshes::{Mesh, Random};
 use oracle::encode_part;
 use std::hint::black_box;
-use wadroles::Part;
+use wadroles::{Part, PartCounts};
 
 const HEIGHTS: i32 = 1000;
-const JUNK: u32 = 0xDEAD_BEEF;
 
 /// Read part.
 pub fn benches() -> Vec<Box<dyn Bench>> {
@@ -29,14 +29,7 @@ pub fn benches() -> Vec<Box<dyn Bench>> {
 /// A part file, with the tables lent to Read part.
 struct PartFile {
     file: Vec<u8>,
-    tables: Tables,
-}
-
-#[derive(Clone, PartialEq)]
-struct Tables {
-    coords: Vec<i32>,
-    corners: Vec<u32>,
-    heights: Vec<i32>,
+    tables: oracle::Part,
 }
 
 impl PartFile {
@@ -48,18 +41,14 @@ impl PartFile {
         };
         PartFile {
             file: encode_part(&part),
-            tables: Tables {
-                coords: part.coords,
-                corners: part.corners,
-                heights: part.heights,
-            },
+            tables: part,
         }
     }
 }
 
 impl Subject for PartFile {
-    type Answer = Part;
-    type Left = Tables;
+    type Answer = PartCounts;
+    type Left = oracle::Part;
 
     fn size(&self) -> usize {
         self.file.len()
@@ -75,20 +64,20 @@ impl Subject for PartFile {
         self.tables.heights.fill(JUNK as i32);
     }
 
-    fn call(&mut self, version: Version, _call: usize) -> Part {
+    fn call(&mut self, version: Version, _call: usize) -> PartCounts {
         let read_part = black_box(match version {
             Version::Library => wadroles::read_part,
             Version::Unproved => unproved::read_part,
         });
-        let Tables {
-            coords,
-            corners,
-            heights,
-        } = &mut self.tables;
-        read_part(black_box(&self.file), coords, corners, heights).expect("the file is right")
+        let mut part = Part {
+            coords: &mut self.tables.coords,
+            corners: &mut self.tables.corners,
+            heights: &mut self.tables.heights,
+        };
+        read_part(black_box(&self.file), &mut part).expect("the file is right")
     }
 
-    fn left(&self) -> Tables {
+    fn left(&self) -> oracle::Part {
         self.tables.clone()
     }
 }

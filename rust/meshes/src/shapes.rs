@@ -10,7 +10,7 @@ pub fn pillow(size: i32) -> Mesh {
     Mesh::new(&points, &[[0, 1, 2], [0, 2, 1]])
 }
 
-/// A tetrahedron with one vertex at the origin and one on each axis. Part P of document 01 is that
+/// A tetrahedron with one vertex at the origin and one on each axis. Part P of the specification is that
 /// of size 10.
 pub fn tetrahedron(size: i32) -> Mesh {
     let points = [[0, 0, 0], [size, 0, 0], [0, size, 0], [0, 0, size]];

@@ -3,7 +3,7 @@ use crate::refusal::{refuse_if, Refusal};
 
 const MOST_POINTS: usize = 98_304;
 
-/// The operation "Area" of document 01.
+/// The operation "Area" of the specification.
 pub fn area(points: &[i32]) -> Result<i64, Refusal> {
     refuse_if(1, !points.len().is_multiple_of(2))?;
     refuse_if(1, points.len() / 2 > MOST_POINTS)?;

@@ -2,7 +2,7 @@ use crate::mesh::{edge, refuse_entries, refuse_sizes, reverse, Edge};
 use crate::refusal::{refuse_if, refuse_least, Refusal};
 use std::collections::HashMap;
 
-/// The operation "Check" of document 01.
+/// The operation "Check" of the specification.
 pub fn check(
     coords: &[i32],
     corners: &[u32],
@@ -78,7 +78,7 @@ mod tests {
         }
     }
 
-    /// Part P of document 01 after a change.
+    /// Part P of the specification after a change.
     fn changed(change: impl FnOnce(&mut Mesh)) -> Mesh {
         let mut mesh = tetrahedron(10);
         change(&mut mesh);

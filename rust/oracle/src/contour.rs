@@ -1,4 +1,4 @@
-/// The operation "Contour j" of document 01.
+/// The operation "Contour j" of the specification.
 pub fn contour<'a>(points: &'a [i32], ends: &[u32], j: usize) -> &'a [i32] {
     let Some(&end) = ends.get(j) else {
         return &[];

@@ -1,6 +1,6 @@
 //! An independent slicer, to compare the proved library with.
 //!
-//! It is written from document 01 alone, for clarity and not for speed. Its functions leave the
+//! It is written from the specification alone, for clarity and not for speed. Its functions leave the
 //! result, the place and every entry of the lent tables as the document says. Both files can also
 //! be written.
 

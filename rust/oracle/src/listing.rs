@@ -1,4 +1,4 @@
-//! The listing program of document 01: from its input to what it prints.
+//! The listing program of the specification: from its input to what it prints.
 
 use crate::all_layers::default_heights;
 use crate::check::check;

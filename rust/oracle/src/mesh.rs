@@ -1,4 +1,4 @@
-//! The mesh of document 01, and the refusals that every operation on one begins with.
+//! The mesh of the specification, and the refusals that every operation on one begins with.
 
 use crate::refusal::{refuse_if, refuse_least, Refusal};
 use std::ops::RangeInclusive;

@@ -1,4 +1,4 @@
-//! The numbers of a file, as document 01 defines them under "Files".
+//! The numbers of a file, as the specification defines them under "Files".
 
 use crate::refusal::{refuse_at, Refusal};
 

@@ -1,4 +1,4 @@
-//! The part file of document 01.
+//! The part file of the specification.
 
 use crate::numbers::{encode_plain, encode_signed, Values};
 use crate::refusal::{refuse_if, Refusal};
@@ -25,7 +25,7 @@ pub struct PartRead {
     pub heights: usize,
 }
 
-/// The operation "Read part" of document 01.
+/// The operation "Read part" of the specification.
 pub fn read_part(
     file: &[u8],
     coords: &mut [i32],

@@ -1,4 +1,4 @@
-/// A numbered refusal of document 01.
+/// A numbered refusal of the specification.
 #[derive(Clone, Copy, Debug, PartialEq, Eq)]
 pub struct Refusal {
     /// The number of the rule that was broken.

@@ -1,4 +1,4 @@
-//! The section of a mesh at a height, as document 01 defines it under "Section and points".
+//! The section of a mesh at a height, as the specification defines it under "Section and points".
 
 use crate::area::cross;
 use crate::mesh::{edge, reverse, Edge};

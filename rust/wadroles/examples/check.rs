@@ -1,19 +1,29 @@
-//! Checks part P of document 01, and then P without its last triangle.
+//! Checks part P of the specification, and then P without its last triangle.
 
-use wadroles::check;
+use wadroles::{check, CheckTables, Mesh};
 
-const COORDS: [i32; 12] = [0, 0, 0, 10, 0, 0, 0, 10, 0, 0, 0, 10];
-const CORNERS: [u32; 12] = [0, 2, 1, 0, 1, 3, 0, 3, 2, 1, 2, 3];
+const PART_P: Mesh = Mesh {
+    coords: &[0, 0, 0, 10, 0, 0, 0, 10, 0, 0, 0, 10],
+    corners: &[0, 2, 1, 0, 1, 3, 0, 3, 2, 1, 2, 3],
+};
 
 fn main() {
-    print_check("P", &CORNERS);
-    print_check("P without triangle 3", &CORNERS[..9]);
+    print_check("P", PART_P);
+    let open = Mesh {
+        corners: &PART_P.corners[..9],
+        ..PART_P
+    };
+    print_check("P without triangle 3", open);
 }
 
-fn print_check(name: &str, corners: &[u32]) {
-    let mut pairing = vec![0; corners.len()];
-    let mut order = vec![0; COORDS.len() / 3];
-    match check(&COORDS, corners, &mut pairing, &mut order) {
+fn print_check(name: &str, mesh: Mesh) {
+    let mut pairing = vec![0; mesh.corners.len()];
+    let mut order = vec![0; mesh.vertices()];
+    let mut tables = CheckTables {
+        pairing: &mut pairing,
+        order: &mut order,
+    };
+    match check(mesh, &mut tables) {
         Ok(()) => println!("{name}: closed, pairing {pairing:?}, order {order:?}"),
         Err(refusal) => println!("{name}: refused {} {}", refusal.number, refusal.place),
     }

@@ -9,8 +9,8 @@
 use std::error::Error;
 use std::{env, fs};
 use wadroles::{
-    all_layers, area, check, contour, layer, read_layer, read_part, start, LayerRead, LayerTables,
-    MeshTables, Refusal,
+    all_layers, area, check, contour, layer, read_layer, read_part, start, CheckTables, CutTables,
+    FlatLayer, Mesh, OrderedMesh, PairedMesh, Part, Refusal, Sweep, WorkTables,
 };
 
 const PART_P: &str = concat!(env!("CARGO_MANIFEST_DIR"), "/../../examples/p.part");
@@ -22,36 +22,48 @@ fn main() -> Result<(), Box<dyn Error>> {
     // A value takes a byte at least, so no table needs more entries than the file has bytes.
     let (mut coords, mut corners) = (vec![0; bytes.len()], vec![0; bytes.len()]);
     let mut heights = vec![0; bytes.len()];
-    let part = read_part(&bytes, &mut coords, &mut corners, &mut heights)?;
-    coords.truncate(3 * part.vertices);
-    corners.truncate(3 * part.triangles);
-    heights.truncate(part.heights);
+    let mut part = Part {
+        coords: &mut coords,
+        corners: &mut corners,
+        heights: &mut heights,
+    };
+    let counts = read_part(&bytes, &mut part)?;
+    let mesh = Mesh {
+        coords: &coords[..3 * counts.vertices],
+        corners: &corners[..3 * counts.triangles],
+    };
 
-    let (mut pairing, mut order) = (vec![0; corners.len()], vec![0; part.vertices]);
-    check(&coords, &corners, &mut pairing, &mut order)?;
-    let mesh = MeshTables {
-        coords: &coords,
-        corners: &corners,
+    let (mut pairing, mut order) = (vec![0; mesh.corners.len()], vec![0; counts.vertices]);
+    let mut made = CheckTables {
+        pairing: &mut pairing,
+        order: &mut order,
+    };
+    check(mesh, &mut made)?;
+    let paired = PairedMesh {
+        mesh,
         pairing: &pairing,
+    };
+    let ordered = OrderedMesh {
+        paired,
         order: &order,
     };
-    let file = layer_file(mesh, &heights)?;
-    let layers = sweep(mesh, &file)?;
+    let file = layer_file(ordered, &heights[..counts.heights])?;
+    let layers = sweep(ordered, &file)?;
     println!("layers {layers}, bytes {}", file.len());
     Ok(())
 }
 
 /// The tables of a layer, as long as a mesh of so many corners needs them.
-struct Tables {
+struct Room {
     names: Vec<u32>,
     points: Vec<i32>,
     ends: Vec<u32>,
     marks: Vec<u32>,
 }
 
-impl Tables {
+impl Room {
     fn new(corners: usize) -> Self {
-        Tables {
+        Room {
             names: vec![0; corners],
             points: vec![0; 2 * corners],
             ends: vec![0; corners],
@@ -59,8 +71,8 @@ impl Tables {
         }
     }
 
-    fn lend(&mut self) -> LayerTables<'_> {
-        LayerTables {
+    fn lend(&mut self) -> CutTables<'_> {
+        CutTables {
             names: &mut self.names,
             points: &mut self.points,
             ends: &mut self.ends,
@@ -71,12 +83,16 @@ impl Tables {
 
 /// The layer file. The room is a guess: output that is too short is refused and left alone, so ask
 /// again with more.
-fn layer_file(mesh: MeshTables, heights: &[i32]) -> Result<Vec<u8>, Refusal> {
-    let corners = mesh.corners.len();
-    let (mut tables, mut ring) = (Tables::new(corners), vec![0; corners]);
+fn layer_file(ordered: OrderedMesh, heights: &[i32]) -> Result<Vec<u8>, Refusal> {
+    let corners = ordered.paired.mesh.corners.len();
+    let (mut room, mut ring) = (Room::new(corners), vec![0; corners]);
+    let mut work = WorkTables {
+        cut: room.lend(),
+        ring: &mut ring,
+    };
     let mut output = vec![0; 4096 + 16 * corners];
     loop {
-        match all_layers(mesh, heights, tables.lend(), &mut ring, &mut output) {
+        match all_layers(ordered, heights, &mut work, &mut output) {
             Ok(length) => {
                 output.truncate(length);
                 return Ok(output);
@@ -88,40 +104,45 @@ fn layer_file(mesh: MeshTables, heights: &[i32]) -> Result<Vec<u8>, Refusal> {
 }
 
 /// Sweeps the mesh over the heights of the file, and gives their number.
-fn sweep(mesh: MeshTables, file: &[u8]) -> Result<usize, Box<dyn Error>> {
+fn sweep(ordered: OrderedMesh, file: &[u8]) -> Result<usize, Box<dyn Error>> {
+    let mesh = ordered.paired.mesh;
     let corners = mesh.corners.len();
-    let mut tables = Tables::new(corners);
     let (mut points, mut ends) = (vec![0; 2 * corners], vec![0; corners]);
-    let mut ring = vec![0; corners];
-    let mut state = start(mesh.coords, mesh.corners, &mut ring)?;
+    let mut read = FlatLayer {
+        points: &mut points,
+        ends: &mut ends,
+    };
+    let (mut room, mut ring) = (Room::new(corners), vec![0; corners]);
+    let mut swept = room.lend();
+    let passed = start(mesh, &mut ring)?;
+    let mut sweep = Sweep {
+        ordered,
+        ring: &mut ring,
+        passed,
+    };
     for i in 0.. {
-        let read = match read_layer(file, i, &mut points, &mut ends) {
+        let reading = match read_layer(file, i, &mut read) {
             Err(refusal) if refusal.number == Refusal::LAYER => return Ok(i),
             answer => answer?,
         };
-        let rise = layer(mesh, &mut ring, state, read.height, tables.lend())?;
-        state = rise.state;
-        let (points, ends) = (&points[..2 * read.points], &ends[..read.contours]);
-        let swept = &tables.points[..2 * rise.layer.points];
-        if swept != points || tables.ends[..rise.layer.contours] != *ends {
-            return Err(format!("the layer at {} was read back otherwise", read.height).into());
+        let (height, counts) = (reading.height, reading.counts);
+        let same_counts = layer(&mut sweep, height, &mut swept)? == counts;
+        let points = &read.points[..2 * counts.points];
+        let ends = &read.ends[..counts.contours];
+        if !same_counts || !swept.points.starts_with(points) || !swept.ends.starts_with(ends) {
+            return Err(format!("the layer at {height} was read back otherwise").into());
         }
-        print_layer(read, points, ends)?;
+        print_layer(height, points, ends)?;
     }
     unreachable!("a file has no layer of each number")
 }
 
-fn print_layer(read: LayerRead, points: &[i32], ends: &[u32]) -> Result<(), Refusal> {
+fn print_layer(height: i32, points: &[i32], ends: &[u32]) -> Result<(), Refusal> {
     let mut doubled = 0;
-    for j in 0..read.contours {
+    for j in 0..ends.len() {
         doubled += area(contour(points, ends, j))?;
     }
-    let LayerRead {
-        height,
-        contours,
-        points,
-        ..
-    } = read;
+    let (contours, points) = (ends.len(), points.len() / 2);
     println!("layer {height} {contours} {points} {doubled}");
     Ok(())
 }

@@ -1,6 +1,6 @@
-//! Reads the part file and the layer file of part P of document 01.
+//! Reads the part file and the layer file of part P of the specification.
 
-use wadroles::{contour, read_layer, read_part, Refusal};
+use wadroles::{contour, read_layer, read_part, FlatLayer, Part, Refusal};
 
 const PART_FILE: [u8; 31] = [
     0x04, 0x04, 0x00, 0x00, 0x00, 0x14, 0x00, 0x00, 0x00, 0x14, 0x00, 0x00, 0x00, 0x14, 0x00, 0x02,
@@ -13,21 +13,28 @@ const LAYER_FILE: [u8; 23] = [
 ];
 
 fn main() -> Result<(), Refusal> {
-    let (mut coords, mut corners, mut heights) = ([0; 12], [0; 12], [0; 4]);
-    let part = read_part(&PART_FILE, &mut coords, &mut corners, &mut heights)?;
-    println!("{part:?}: coords {coords:?}, corners {corners:?}, heights {heights:?}");
-    for i in 0..heights.len() {
+    let mut part = Part {
+        coords: &mut [0; 12],
+        corners: &mut [0; 12],
+        heights: &mut [0; 4],
+    };
+    let counts = read_part(&PART_FILE, &mut part)?;
+    println!("{counts:?}: {part:?}");
+    for i in 0..counts.heights {
         print_layer(i)?;
     }
     Ok(())
 }
 
 fn print_layer(i: usize) -> Result<(), Refusal> {
-    let (mut points, mut ends) = ([0; 6], [0; 1]);
-    let layer = read_layer(&LAYER_FILE, i, &mut points, &mut ends)?;
-    println!("layer {i} of {}: height {}", layer.layers, layer.height);
-    for j in 0..layer.contours {
-        let part = contour(&points, &ends[..layer.contours], j);
+    let mut layer = FlatLayer {
+        points: &mut [0; 6],
+        ends: &mut [0; 1],
+    };
+    let reading = read_layer(&LAYER_FILE, i, &mut layer)?;
+    println!("layer {i} of {}: height {}", reading.layers, reading.height);
+    for j in 0..reading.counts.contours {
+        let part = contour(layer.points, layer.ends, j);
         println!("  contour {j}: points {part:?}");
     }
     Ok(())

@@ -1,6 +1,6 @@
 use crate::answer::answer;
 use crate::raw::wadroles_all_layers;
-use crate::{LayerTables, MeshTables, Refusal};
+use crate::{OrderedMesh, PairedMesh, Refusal, WorkTables};
 
 /// Sweeps a mesh over all heights, writes the layer file of what that gives, and returns the length
 /// of the file.
@@ -11,9 +11,6 @@ use crate::{LayerTables, MeshTables, Refusal};
 /// Heights rise strictly, and there are at most [`MAX_LAYERS`](crate::MAX_LAYERS). Where `heights`
 /// is empty, the default is taken: the lowest z + 50 and every 100 after it, only those not above
 /// the highest z; without vertices, none.
-///
-/// `tables` and `ring` are work tables. They, and `output`, cannot overlap, which the library asks
-/// of its callers: all are borrowed exclusively.
 ///
 /// A file of `n` layers with `k` points in all has at most `2 + 8 * n + 8 * k + k / 2` bytes, and a
 /// layer has at most one point for each triangle. An output that is too short is left as it was, so
@@ -42,70 +39,60 @@ use crate::{LayerTables, MeshTables, Refusal};
 /// # Example
 ///
 /// ```
-/// use wadroles::{all_layers, LayerTables, MeshTables, Refusal};
+/// use wadroles::{all_layers, CutTables, Mesh, OrderedMesh, PairedMesh, Refusal, WorkTables};
 ///
-/// let mesh = MeshTables {
+/// let mesh = Mesh {
 ///     coords: &[0, 0, 0, 10, 0, 0, 0, 10, 0, 0, 0, 10],
 ///     corners: &[0, 2, 1, 0, 1, 3, 0, 3, 2, 1, 2, 3],
-///     pairing: &[8, 9, 3, 2, 11, 6, 5, 10, 0, 1, 7, 4],
-///     order: &[0, 1, 2, 3],
 /// };
-/// let (mut names, mut points, mut ends, mut marks) = ([0; 12], [0; 24], [0; 12], [0; 12]);
-/// let tables = LayerTables {
-///     names: &mut names,
-///     points: &mut points,
-///     ends: &mut ends,
-///     marks: &mut marks,
+/// let paired = PairedMesh { mesh, pairing: &[8, 9, 3, 2, 11, 6, 5, 10, 0, 1, 7, 4] };
+/// let ordered = OrderedMesh { paired, order: &[0, 1, 2, 3] };
+/// let cut = CutTables {
+///     names: &mut [0; 12],
+///     points: &mut [0; 24],
+///     ends: &mut [0; 12],
+///     marks: &mut [0; 12],
 /// };
-/// let (mut ring, mut output) = ([0; 12], [0xFF; 24]);
+/// let mut work = WorkTables { cut, ring: &mut [0; 12] };
+/// let mut output = [0xFF; 24];
 ///
-/// let length = all_layers(mesh, &[0, 5, 10, 11], tables, &mut ring, &mut output)?;
+/// let length = all_layers(ordered, &[0, 5, 10, 11], &mut work, &mut output)?;
 /// assert_eq!(length, 23);
 /// assert_eq!(output[..5], [0x04, 0x00, 0x00, 0x0A, 0x01]);
 /// assert_eq!(output[23], 0xFF);
 /// # Ok::<(), Refusal>(())
 /// ```
 pub fn all_layers(
-    mesh: MeshTables<'_>,
+    ordered: OrderedMesh<'_>,
     heights: &[i32],
-    tables: LayerTables<'_>,
-    ring: &mut [u32],
+    work: &mut WorkTables<'_>,
     output: &mut [u8],
 ) -> Result<usize, Refusal> {
-    let MeshTables {
-        coords,
-        corners,
-        pairing,
-        order,
-    } = mesh;
-    let LayerTables {
-        names,
-        points,
-        ends,
-        marks,
-    } = tables;
+    let OrderedMesh { paired, order } = ordered;
+    let PairedMesh { mesh, pairing } = paired;
+    let WorkTables { cut, ring } = work;
     // SAFETY: the pointers and lengths are those of slices, the six written ones are borrowed
     // exclusively, and `out` points to four words.
     answer(|out| unsafe {
         wadroles_all_layers(
-            coords.as_ptr(),
-            coords.len(),
-            corners.as_ptr(),
-            corners.len(),
+            mesh.coords.as_ptr(),
+            mesh.coords.len(),
+            mesh.corners.as_ptr(),
+            mesh.corners.len(),
             pairing.as_ptr(),
             pairing.len(),
             order.as_ptr(),
             order.len(),
             heights.as_ptr(),
             heights.len(),
-            names.as_mut_ptr(),
-            names.len(),
-            points.as_mut_ptr(),
-            points.len(),
-            ends.as_mut_ptr(),
-            ends.len(),
-            marks.as_mut_ptr(),
-            marks.len(),
+            cut.names.as_mut_ptr(),
+            cut.names.len(),
+            cut.points.as_mut_ptr(),
+            cut.points.len(),
+            cut.ends.as_mut_ptr(),
+            cut.ends.len(),
+            cut.marks.as_mut_ptr(),
+            cut.marks.len(),
             ring.as_mut_ptr(),
             ring.len(),
             output.as_mut_ptr(),

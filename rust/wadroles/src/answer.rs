@@ -20,6 +20,7 @@ mod tests {
     #[test]
     fn zero_gives_the_words_of_output() {
         let give = |out: *mut u64| {
+            // SAFETY: `answer` hands over four words of its own.
             unsafe { out.cast::<[u64; 4]>().write([5, 6, 7, 8]) };
             0
         };
@@ -29,6 +30,7 @@ mod tests {
     #[test]
     fn another_number_gives_a_refusal_at_the_first_word() {
         let refuse = |out: *mut u64| {
+            // SAFETY: `answer` hands over four words of its own.
             unsafe { out.write(12) };
             6
         };

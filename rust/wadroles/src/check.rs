@@ -1,14 +1,20 @@
 use crate::answer::answer;
 use crate::raw::wadroles_check;
-use crate::Refusal;
+use crate::{Mesh, Refusal};
+
+/// The tables that [`check`] writes. They cannot overlap, which the library asks of its callers: they
+/// are borrowed exclusively.
+#[derive(Debug)]
+pub struct CheckTables<'a> {
+    /// For each corner, the corner with the reverse edge. Needs one entry per corner.
+    pub pairing: &'a mut [u32],
+    /// Each vertex once, by z and then by vertex number. Needs one entry per vertex.
+    pub order: &'a mut [u32],
+}
 
 /// Tests a mesh, and writes its pairing and its order into the first entries of two lent tables.
 ///
-/// `pairing` gets one entry per corner: the corner with the reverse edge. `order` gets each vertex
-/// once, by z and then by vertex number. Later entries of both tables stay.
-///
-/// The tables cannot overlap, which the library asks of its callers: `pairing` and `order` are
-/// borrowed exclusively, so the borrow rules keep them apart from each other and from the mesh.
+/// Later entries of both tables stay.
 ///
 /// # Errors
 ///
@@ -30,38 +36,36 @@ use crate::Refusal;
 /// # Example
 ///
 /// ```
-/// use wadroles::{check, Refusal};
+/// use wadroles::{check, CheckTables, Mesh, Refusal};
 ///
-/// let coords = [0, 0, 0, 10, 0, 0, 0, 10, 0, 0, 0, 10];
-/// let corners = [0, 2, 1, 0, 1, 3, 0, 3, 2, 1, 2, 3];
-/// let (mut pairing, mut order) = ([0; 12], [0; 4]);
+/// let mesh = Mesh {
+///     coords: &[0, 0, 0, 10, 0, 0, 0, 10, 0, 0, 0, 10],
+///     corners: &[0, 2, 1, 0, 1, 3, 0, 3, 2, 1, 2, 3],
+/// };
+/// let mut tables = CheckTables { pairing: &mut [0; 12], order: &mut [0; 4] };
 ///
-/// check(&coords, &corners, &mut pairing, &mut order)?;
-/// assert_eq!(pairing, [8, 9, 3, 2, 11, 6, 5, 10, 0, 1, 7, 4]);
-/// assert_eq!(order, [0, 1, 2, 3]);
+/// check(mesh, &mut tables)?;
+/// assert_eq!(tables.pairing, [8, 9, 3, 2, 11, 6, 5, 10, 0, 1, 7, 4]);
+/// assert_eq!(tables.order, [0, 1, 2, 3]);
 ///
-/// let refusal = check(&coords, &corners[..9], &mut pairing, &mut order).unwrap_err();
+/// let open = Mesh { corners: &mesh.corners[..9], ..mesh };
+/// let refusal = check(open, &mut tables).unwrap_err();
 /// assert_eq!((refusal.number, refusal.place), (Refusal::OPEN, 1));
 /// # Ok::<(), Refusal>(())
 /// ```
-pub fn check(
-    coords: &[i32],
-    corners: &[u32],
-    pairing: &mut [u32],
-    order: &mut [u32],
-) -> Result<(), Refusal> {
+pub fn check(mesh: Mesh<'_>, tables: &mut CheckTables<'_>) -> Result<(), Refusal> {
     // SAFETY: the pointers and lengths are those of slices, the two written ones are borrowed
     // exclusively, and `out` points to four words.
     answer(|out| unsafe {
         wadroles_check(
-            coords.as_ptr(),
-            coords.len(),
-            corners.as_ptr(),
-            corners.len(),
-            pairing.as_mut_ptr(),
-            pairing.len(),
-            order.as_mut_ptr(),
-            order.len(),
+            mesh.coords.as_ptr(),
+            mesh.coords.len(),
+            mesh.corners.as_ptr(),
+            mesh.corners.len(),
+            tables.pairing.as_mut_ptr(),
+            tables.pairing.len(),
+            tables.order.as_mut_ptr(),
+            tables.order.len(),
             out,
         )
     })

@@ -1,58 +1,6 @@
 use crate::answer::answer;
 use crate::raw::wadroles_cut;
-use crate::Refusal;
-
-/// The tables that a caller lends for a layer. They cannot overlap, which the library asks of its
-/// callers: they are borrowed exclusively.
-///
-/// A call takes them for as long as it runs; make them anew from the same tables for the next.
-///
-/// ```
-/// use wadroles::LayerTables;
-///
-/// let corners = 12;
-/// let (mut names, mut ends, mut marks) = (vec![0; corners], vec![0; corners], vec![0; corners]);
-/// let mut points = vec![0; 2 * corners];
-/// let tables = LayerTables {
-///     names: &mut names,
-///     points: &mut points,
-///     ends: &mut ends,
-///     marks: &mut marks,
-/// };
-/// ```
-///
-/// Two of them in one table are not compiled:
-///
-/// ```compile_fail,E0499
-/// # use wadroles::LayerTables;
-/// # let (mut names, mut points, mut ends) = ([0; 12], [0; 24], [0; 12]);
-/// let tables = LayerTables {
-///     names: &mut names,
-///     points: &mut points,
-///     ends: &mut ends,
-///     marks: &mut ends,
-/// };
-/// ```
-#[derive(Debug)]
-pub struct LayerTables<'a> {
-    /// The corners of the contours, one for each point. Needs one entry per corner of the mesh.
-    pub names: &'a mut [u32],
-    /// The points of the contours, x and y of each. Needs two entries per corner.
-    pub points: &'a mut [i32],
-    /// For each contour, the number of points up to its end. Needs one entry per corner.
-    pub ends: &'a mut [u32],
-    /// A work table, zero afterwards. Needs one entry per corner.
-    pub marks: &'a mut [u32],
-}
-
-/// How much of the lent tables a layer fills.
-#[derive(Clone, Copy, Debug, Default, PartialEq, Eq, Hash)]
-pub struct Layer {
-    /// The number of contours, and of entries in `ends`.
-    pub contours: usize,
-    /// The number of points, and of entries in `names`; `points` has twice as many.
-    pub points: usize,
-}
+use crate::{Counts, CutTables, PairedMesh, Refusal};
 
 /// Cuts a mesh at a height.
 ///
@@ -66,8 +14,8 @@ pub struct Layer {
 /// The pairing may come from anyone; [`check`](crate::check()) makes one. It is tested, and its
 /// entries beyond one per corner are ignored.
 ///
-/// `names`, `points` and `ends` are filled as far as the counts of the [`Layer`] say, and `marks` is
-/// zero in one entry per corner. All other entries stay.
+/// `names`, `points` and `ends` are filled as far as the [`Counts`] say, and `marks` is zero in
+/// one entry per corner. All other entries stay.
 ///
 /// # Errors
 ///
@@ -88,63 +36,50 @@ pub struct Layer {
 /// # Example
 ///
 /// ```
-/// use wadroles::{cut, Layer, LayerTables, Refusal};
+/// use wadroles::{cut, Counts, CutTables, Mesh, PairedMesh, Refusal};
 ///
-/// let coords = [0, 0, 0, 10, 0, 0, 0, 10, 0, 0, 0, 10];
-/// let corners = [0, 2, 1, 0, 1, 3, 0, 3, 2, 1, 2, 3];
-/// let pairing = [8, 9, 3, 2, 11, 6, 5, 10, 0, 1, 7, 4];
-/// let (mut names, mut points, mut ends, mut marks) = ([0; 12], [0; 24], [0; 12], [0; 12]);
-/// let tables = LayerTables {
-///     names: &mut names,
-///     points: &mut points,
-///     ends: &mut ends,
-///     marks: &mut marks,
+/// let mesh = Mesh {
+///     coords: &[0, 0, 0, 10, 0, 0, 0, 10, 0, 0, 0, 10],
+///     corners: &[0, 2, 1, 0, 1, 3, 0, 3, 2, 1, 2, 3],
+/// };
+/// let paired = PairedMesh { mesh, pairing: &[8, 9, 3, 2, 11, 6, 5, 10, 0, 1, 7, 4] };
+/// let mut tables = CutTables {
+///     names: &mut [0; 12],
+///     points: &mut [0; 24],
+///     ends: &mut [0; 12],
+///     marks: &mut [0; 12],
 /// };
 ///
-/// let layer = cut(&coords, &corners, &pairing, 5, tables)?;
-/// assert_eq!(layer, Layer { contours: 1, points: 3 });
-/// assert_eq!(names[..3], [4, 10, 6]);
-/// assert_eq!(points[..6], [5, 0, 0, 5, 0, 0]);
-/// assert_eq!(ends[..1], [3]);
+/// let counts = cut(paired, 5, &mut tables)?;
+/// assert_eq!(counts, Counts { contours: 1, points: 3 });
+/// assert_eq!(tables.names[..3], [4, 10, 6]);
+/// assert_eq!(tables.points[..6], [5, 0, 0, 5, 0, 0]);
+/// assert_eq!(tables.ends[..1], [3]);
 /// # Ok::<(), Refusal>(())
 /// ```
-pub fn cut(
-    coords: &[i32],
-    corners: &[u32],
-    pairing: &[u32],
-    h: i32,
-    tables: LayerTables<'_>,
-) -> Result<Layer, Refusal> {
-    let LayerTables {
-        names,
-        points,
-        ends,
-        marks,
-    } = tables;
+pub fn cut(paired: PairedMesh<'_>, h: i32, tables: &mut CutTables<'_>) -> Result<Counts, Refusal> {
+    let PairedMesh { mesh, pairing } = paired;
     // SAFETY: the pointers and lengths are those of slices, the four written ones are borrowed
     // exclusively, and `out` points to four words.
     answer(|out| unsafe {
         wadroles_cut(
-            coords.as_ptr(),
-            coords.len(),
-            corners.as_ptr(),
-            corners.len(),
+            mesh.coords.as_ptr(),
+            mesh.coords.len(),
+            mesh.corners.as_ptr(),
+            mesh.corners.len(),
             pairing.as_ptr(),
             pairing.len(),
             h,
-            names.as_mut_ptr(),
-            names.len(),
-            points.as_mut_ptr(),
-            points.len(),
-            ends.as_mut_ptr(),
-            ends.len(),
-            marks.as_mut_ptr(),
-            marks.len(),
+            tables.names.as_mut_ptr(),
+            tables.names.len(),
+            tables.points.as_mut_ptr(),
+            tables.points.len(),
+            tables.ends.as_mut_ptr(),
+            tables.ends.len(),
+            tables.marks.as_mut_ptr(),
+            tables.marks.len(),
             out,
         )
     })
-    .map(|[contours, points, ..]| Layer {
-        contours: contours as usize,
-        points: points as usize,
-    })
+    .map(|[contours, points, ..]| Counts::of_words(contours, points))
 }

@@ -20,27 +20,33 @@
 //! From a mesh to its layer file, and a layer back out of it:
 //!
 //! ```
-//! use wadroles::{all_layers, area, check, contour, read_layer, LayerTables, MeshTables, Refusal};
+//! use wadroles::{all_layers, area, check, contour, read_layer, CheckTables, CutTables, FlatLayer};
+//! use wadroles::{Counts, Mesh, OrderedMesh, PairedMesh, Refusal, WorkTables};
 //!
-//! let coords = [0, 0, 0, 10, 0, 0, 0, 10, 0, 0, 0, 10];
-//! let corners = [0, 2, 1, 0, 1, 3, 0, 3, 2, 1, 2, 3];
-//! let (mut pairing, mut order) = ([0; 12], [0; 4]);
-//! check(&coords, &corners, &mut pairing, &mut order)?;
-//!
-//! let mesh = MeshTables { coords: &coords, corners: &corners, pairing: &pairing, order: &order };
-//! let (mut names, mut points, mut ends, mut marks) = ([0; 12], [0; 24], [0; 12], [0; 12]);
-//! let tables = LayerTables {
-//!     names: &mut names,
-//!     points: &mut points,
-//!     ends: &mut ends,
-//!     marks: &mut marks,
+//! let mesh = Mesh {
+//!     coords: &[0, 0, 0, 10, 0, 0, 0, 10, 0, 0, 0, 10],
+//!     corners: &[0, 2, 1, 0, 1, 3, 0, 3, 2, 1, 2, 3],
 //! };
-//! let (mut ring, mut file) = ([0; 12], [0; 100]);
-//! let length = all_layers(mesh, &[0, 5, 10, 11], tables, &mut ring, &mut file)?;
+//! let (mut pairing, mut order) = ([0; 12], [0; 4]);
+//! check(mesh, &mut CheckTables { pairing: &mut pairing, order: &mut order })?;
 //!
-//! let layer = read_layer(&file[..length], 1, &mut points, &mut ends)?;
-//! assert_eq!((layer.height, layer.contours, layer.points), (5, 1, 3));
-//! let first = contour(&points, &ends[..layer.contours], 0);
+//! let paired = PairedMesh { mesh, pairing: &pairing };
+//! let ordered = OrderedMesh { paired, order: &order };
+//! let cut = CutTables {
+//!     names: &mut [0; 12],
+//!     points: &mut [0; 24],
+//!     ends: &mut [0; 12],
+//!     marks: &mut [0; 12],
+//! };
+//! let mut work = WorkTables { cut, ring: &mut [0; 12] };
+//! let mut file = [0; 100];
+//! let length = all_layers(ordered, &[0, 5, 10, 11], &mut work, &mut file)?;
+//!
+//! let mut layer = FlatLayer { points: &mut [0; 24], ends: &mut [0; 12] };
+//! let reading = read_layer(&file[..length], 1, &mut layer)?;
+//! let Counts { contours, points } = reading.counts;
+//! assert_eq!((reading.height, contours, points), (5, 1, 3));
+//! let first = contour(layer.points, &layer.ends[..contours], 0);
 //! assert_eq!(first, [5, 0, 0, 5, 0, 0]);
 //! assert_eq!(area(first), Ok(25));
 //! # Ok::<(), Refusal>(())
@@ -49,6 +55,10 @@
 //! The program `examples/part.rs` does the same for a part file, with a sweep beside it.
 //!
 //! # Tables and refusals
+//!
+//! What belongs together is a struct, of the name that the library's specification has for it:
+//! [`Mesh`], [`PairedMesh`] and [`OrderedMesh`] are read; [`CheckTables`], [`CutTables`],
+//! [`WorkTables`], [`FlatLayer`] and [`Part`] are lent to be written; [`Sweep`] is both.
 //!
 //! The operations work on tables that the caller lends them, and allocate nothing. Each answers with
 //! its values or with a [`Refusal`]: they test all that they are handed, so no input makes them
@@ -66,18 +76,20 @@
 //! - Nobody else writes a table meanwhile: not while it is borrowed.
 //!
 //! ```compile_fail,E0499
-//! # let (coords, corners) = ([0; 12], [0; 12]);
+//! # use wadroles::{check, CheckTables, Mesh};
+//! # let mesh = Mesh { coords: &[0; 12], corners: &[0; 12] };
 //! // Pairing and order in one table.
 //! let mut both = [0; 16];
-//! wadroles::check(&coords, &corners, &mut both, &mut both[12..]);
+//! check(mesh, &mut CheckTables { pairing: &mut both, order: &mut both[12..] });
 //! ```
 //!
 //! ```compile_fail,E0502
-//! # use wadroles::{contour, read_layer};
-//! # let (file, mut points, mut ends) = ([0x00], [0; 24], [0; 12]);
+//! # use wadroles::{contour, read_layer, FlatLayer};
+//! # let file = [0x00];
+//! # let mut layer = FlatLayer { points: &mut [0; 24], ends: &mut [0; 12] };
 //! // A contour, used after its points were overwritten.
-//! let first = contour(&points, &ends[..1], 0);
-//! read_layer(&file, 1, &mut points, &mut ends);
+//! let first = contour(layer.points, &layer.ends[..1], 0);
+//! read_layer(&file, 1, &mut layer);
 //! println!("{first:?}");
 //! ```
 //!
@@ -99,26 +111,30 @@ mod check;
 mod contour;
 mod cut;
 mod layer;
-mod mesh_tables;
+mod mesh;
 pub mod raw;
 mod read_layer;
 mod read_part;
 mod refusal;
 mod start;
 mod step;
+mod sweep;
+mod tables;
 
 pub use all_layers::all_layers;
 pub use area::area;
-pub use check::check;
+pub use check::{check, CheckTables};
 pub use contour::contour;
-pub use cut::{cut, Layer, LayerTables};
-pub use layer::{layer, Rise};
-pub use mesh_tables::MeshTables;
-pub use read_layer::{read_layer, LayerRead};
-pub use read_part::{read_part, Part};
+pub use cut::cut;
+pub use layer::layer;
+pub use mesh::{Mesh, OrderedMesh, PairedMesh};
+pub use read_layer::{read_layer, FlatLayer, Reading};
+pub use read_part::{read_part, Part, PartCounts};
 pub use refusal::Refusal;
-pub use start::{start, State};
+pub use start::start;
 pub use step::{step, Stepping};
+pub use sweep::Sweep;
+pub use tables::{Counts, CutTables, WorkTables};
 
 /// The most vertices a mesh may have.
 pub const MAX_VERTICES: usize = 32_768;

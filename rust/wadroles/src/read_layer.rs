@@ -1,25 +1,32 @@
 use crate::answer::answer;
 use crate::raw::wadroles_read_layer;
-use crate::Refusal;
+use crate::{Counts, Refusal};
 
-/// A layer that was read, and how much of the lent tables it fills.
+/// The tables that a layer of a file is read into. They cannot overlap, which the library asks of its
+/// callers: they are borrowed exclusively.
+#[derive(Debug)]
+pub struct FlatLayer<'a> {
+    /// The points of the contours, x and y of each. Needs two entries per point.
+    pub points: &'a mut [i32],
+    /// For each contour, the number of points up to its end. Needs one entry per contour.
+    pub ends: &'a mut [u32],
+}
+
+/// What [`read_layer`] finds in a file.
 #[derive(Clone, Copy, Debug, Default, PartialEq, Eq, Hash)]
-pub struct LayerRead {
+pub struct Reading {
     /// The number of layers in the file.
     pub layers: usize,
     /// The height of the layer.
     pub height: i32,
-    /// The number of its contours, and of entries in `ends`.
-    pub contours: usize,
-    /// The number of its points; `points` has twice as many entries.
-    pub points: usize,
+    /// How much of the lent tables it fills.
+    pub counts: Counts,
 }
 
 /// Reads layer `i` (from 0) of a layer file.
 ///
-/// `points` gets x and y of each point, and `ends` for each contour the number of points up to its
-/// end, as [`cut`](crate::cut()) writes them. Both are filled as far as the counts of the
-/// [`LayerRead`] say; all other entries stay.
+/// Points and ends are those that [`cut`](crate::cut()) writes. Both tables are filled as far as the
+/// counts of the [`Reading`] say; all other entries stay.
 ///
 /// A layer file has its layer count; for each layer its height and contour count; for each contour
 /// its point count, x and y of the first point, and then of each point the differences to the one
@@ -51,27 +58,23 @@ pub struct LayerRead {
 /// # Example
 ///
 /// ```
-/// use wadroles::{read_layer, LayerRead, Refusal};
+/// use wadroles::{read_layer, Counts, FlatLayer, Reading, Refusal};
 ///
 /// // Two layers: height 0 without contours, and height 5 with one.
 /// let file = [0x02, 0x00, 0x00, 0x0A, 0x01, 0x03, 0x0A, 0x00, 0x09, 0x0A, 0x00, 0x09];
-/// let (mut points, mut ends) = ([0; 6], [0; 1]);
+/// let mut layer = FlatLayer { points: &mut [0; 6], ends: &mut [0; 1] };
 ///
-/// let layer = read_layer(&file, 1, &mut points, &mut ends)?;
-/// assert_eq!(layer, LayerRead { layers: 2, height: 5, contours: 1, points: 3 });
-/// assert_eq!(points, [5, 0, 0, 5, 0, 0]);
-/// assert_eq!(ends, [3]);
+/// let reading = read_layer(&file, 1, &mut layer)?;
+/// let counts = Counts { contours: 1, points: 3 };
+/// assert_eq!(reading, Reading { layers: 2, height: 5, counts });
+/// assert_eq!(layer.points, [5, 0, 0, 5, 0, 0]);
+/// assert_eq!(layer.ends, [3]);
 ///
-/// let refusal = read_layer(&file[..11], 1, &mut points, &mut ends).unwrap_err();
+/// let refusal = read_layer(&file[..11], 1, &mut layer).unwrap_err();
 /// assert_eq!((refusal.number, refusal.place), (Refusal::FILE, 11));
 /// # Ok::<(), Refusal>(())
 /// ```
-pub fn read_layer(
-    file: &[u8],
-    i: usize,
-    points: &mut [i32],
-    ends: &mut [u32],
-) -> Result<LayerRead, Refusal> {
+pub fn read_layer(file: &[u8], i: usize, layer: &mut FlatLayer<'_>) -> Result<Reading, Refusal> {
     // SAFETY: the pointers and lengths are those of slices, the two written ones are borrowed
     // exclusively, and `out` points to four words.
     answer(|out| unsafe {
@@ -79,17 +82,16 @@ pub fn read_layer(
             file.as_ptr(),
             file.len(),
             i,
-            points.as_mut_ptr(),
-            points.len(),
-            ends.as_mut_ptr(),
-            ends.len(),
+            layer.points.as_mut_ptr(),
+            layer.points.len(),
+            layer.ends.as_mut_ptr(),
+            layer.ends.len(),
             out,
         )
     })
-    .map(|[layers, height, contours, points]| LayerRead {
+    .map(|[layers, height, contours, points]| Reading {
         layers: layers as usize,
         height: height as i32,
-        contours: contours as usize,
-        points: points as usize,
+        counts: Counts::of_words(contours, points),
     })
 }

@@ -26,7 +26,7 @@ use std::fmt;
 /// ```
 #[derive(Clone, Copy, Debug, PartialEq, Eq, Hash)]
 pub struct Refusal {
-    /// The reason, as numbered by document 01: one of the constants below.
+    /// The reason, as the specification numbers it: one of the constants below.
     pub number: u32,
     /// The least place that the reason fits: a position in a table, a corner, or a byte of a file.
     /// It is 0 where the reason is about the call as a whole.
@@ -57,10 +57,10 @@ impl Refusal {
     pub const ORDER: u32 = 8;
     /// A table to be written is too short. Place 0.
     pub const ROOM: u32 = 9;
-    /// More passed than vertices. Place 0. The state is of another mesh.
+    /// More passed than vertices. Place 0. The count is of another mesh.
     pub const PASSED: u32 = 10;
     /// A corner whose ring entry is missing or not as defined for the passed count. The place is the
-    /// corner. State and ring table do not belong together, or somebody wrote the table: start anew.
+    /// corner. Count and ring table do not belong together, or somebody wrote the table: start anew.
     pub const RING: u32 = 11;
     /// A passed vertex lies at or above the height of [`layer`](crate::layer()), place 0: the plane
     /// is too high already, start anew. Or a height of [`all_layers`](crate::all_layers()) is not
@@ -77,7 +77,7 @@ impl Refusal {
     /// never arises: the pairing has been tested before, and with a right one no walk does.
     pub const USED: u32 = 16;
 
-    /// The reason in the words of document 01.
+    /// The reason in the words of the specification.
     fn words(&self) -> &'static str {
         match self.number {
             Self::SIZE => {
@@ -107,7 +107,7 @@ impl Refusal {
             Self::OUTPUT => "output shorter than the file",
             Self::LAYER => "no layer of that number",
             Self::USED => "a walk meeting a crossing already used that is not its start",
-            _ => "a reason that document 01 does not number",
+            _ => "a reason that the specification does not number",
         }
     }
 }

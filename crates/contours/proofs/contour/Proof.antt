@@ -9,13 +9,13 @@ use Rattle.contours.proofs.contour.Statement.{statement}
 use Rattle.contours.proofs.contour.Tie as tie
 
 -- the part ends within the points
-fits : (c : tie.After-part-of) → c .part-of .result .first + c .part-of .result .length ≤ length (c .before .before .args .points .now)
+fits : (c : tie.After-contour-part) → c .contour-part .result .first + c .contour-part .result .length ≤ length (c .before .before .args .points .now)
 fits c =
     let a = c .before .before .args in
-    omega (arith, c .part-of .ensures .0, c .part-of .ensures .1, span-fits (length (a .points .now)) (a .ends .now) (a .j))
+    omega (arith, c .contour-part .ensures .0, c .contour-part .ensures .1, span-fits (length (a .points .now)) (a .ends .now) (a .j))
 
-part-of-requires : tie.Need-part-of-requires
-part-of-requires c κs = search needs
+contour-part-requires : tie.Need-contour-part-requires
+contour-part-requires c κs = search needs
 
 add-end : tie.Need-add-end
 add-end c = omega (arith, fits (c .before))
@@ -33,13 +33,13 @@ part-result-end : tie.Need-part-result-end
 part-result-end c = omega (arith, fits (c .before))
 
 returns : tie.Need-returns
-returns c = let p = c .before .before .part-of .ensures in part-is _ _ _ (p .0) (p .1)
+returns c = let p = c .before .before .contour-part .ensures in part-is _ _ _ (p .0) (p .1)
 
 pub contour-spec : {M : Type 1} → statement M
 contour-spec =
     tie.close
     (tie.spec
-    part-of-requires
+    contour-part-requires
     add-end
     mul-result
     sub-result

@@ -1,5 +1,5 @@
 -- `write_listing` meets its contract.
-use Rattle.lister.specs.ListingLaws.{written}
+use Rattle.list_part.specs.ListingLaws.{written}
 use Rattle.listing.proofs.Reading.{front-length}
 use borrow.Author.Needs.{needs}
 use Rattle.listing.proofs.write_listing.Statement.{statement}

@@ -4,7 +4,7 @@ use mathlib.Core.Path.{_≡_, ap}
 use Rattle.mesh.specs.Meshes.{ordered}
 use Rattle.mesh.specs.Operation.{verdict}
 use Rattle.mesh.specs.Refusals.{tellVerdict}
-use Rattle.cutter.specs.Cut.{CutTables, lent, lengthsOf}
+use Rattle.cut.specs.Cut.{CutTables, lent, lengthsOf}
 use Rattle.sweep.specs.Sweep.{Sweep, sweep}
 use Rattle.sweep.specs.Operations.{riseTests}
 use Rattle.sweep.proofs.Operating.{held-tests, held-tested, at-height, liftable, rises-refused, rises-lifted}

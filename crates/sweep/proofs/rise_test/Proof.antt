@@ -6,7 +6,7 @@ use Rattle.mesh.specs.Meshes.{ordered}
 use Rattle.mesh.specs.Operation.{verdict}
 use Rattle.mesh.specs.OperationLaws.{join-stop, join-next}
 use Rattle.mesh.specs.Refusals.{tellVerdict}
-use Rattle.cutter.specs.Cut.{Lengths, lengths, tests}
+use Rattle.cut.specs.Cut.{Lengths, lengths, cutTests}
 use Rattle.sweep.specs.Sweep.{Sweep, sweep}
 use Rattle.sweep.specs.Operations.{sweepTests}
 use Rattle.sweep.proofs.Moves.{back}
@@ -33,7 +33,7 @@ returns : tie.Need-returns
 returns c =
     let start = c .before .before .before .before .before .before .before in
     let s = sweepOf start in
-    join-stop (tests (s .ordered .paired) (roomOf start)) (sweepTests s (start .args .h)) (c .before .before .tables-test .ensures)
+    join-stop (cutTests (s .ordered .paired) (roomOf start)) (sweepTests s (start .args .h)) (c .before .before .tables-test .ensures)
     (ap tellVerdict (c .enum-told .given .1))
 
 enum-told-2 : tie.Need-enum-told-2
@@ -49,7 +49,7 @@ returns-2 c =
     let at-tables = c .before .before .before in
     let start = at-tables .before .before .before .before .before in
     let s = sweepOf start in
-    join-next (tests (s .ordered .paired) (roomOf start)) (sweepTests s (start .args .h)) (at-tables .tables-test .ensures)
+    join-next (cutTests (s .ordered .paired) (roomOf start)) (sweepTests s (start .args .h)) (at-tables .tables-test .ensures)
     (ap tellVerdict (c .before .enum-told2 .given .1))
     (c .sweep-test .ensures ∙ ap (λ (z : ℤ). verdict (sweepTests s z)) (back (start .fits .h)))
 

@@ -24,17 +24,17 @@ sweepOf start =
 
 -- where the tests refuse nothing: what they establish, and the next vertex, if there is one
 tested : (c : tie.After-enum-told)
-    → let s = sweepOf (c .before .before .before .before .before .before .before) in
+    → let s = sweepOf (c .before .before .before .before .before .before .before .before) in
     StepTested (s .ordered) (length (s .ring)) (s .passed)
 tested c =
-    let start = c .before .before .before .before .before .before .before in
+    let start = c .before .before .before .before .before .before .before .before in
     step-passed (sweepOf start) (c .before .before .step-test .ensures) (ap tellVerdict (c .enum-told .given .1))
 
 ranked : (c : tie.After-enum-told)
-    → let s = sweepOf (c .before .before .before .before .before .before .before) in
+    → let s = sweepOf (c .before .before .before .before .before .before .before .before) in
     (s .passed ≡ vertexCount (meshOf s .coords) → ⊥) → Ranked (meshOf s .coords) (s .ordered .order) (s .passed)
 ranked c =
-    let start = c .before .before .before .before .before .before .before in
+    let start = c .before .before .before .before .before .before .before .before in
     next-ranked (sweepOf start) (c .before .before .step-test .ensures) (ap tellVerdict (c .enum-told .given .1))
 
 step-test-requires : tie.Need-step-test-requires
@@ -43,11 +43,17 @@ step-test-requires c κs = search needs
 enum-known-v : tie.Need-enum-known-v
 enum-known-v c = search needs
 
+same-length : tie.Need-same-length
+same-length c = search needs
+
 returns : tie.Need-returns
 returns c = steps-refused _ (c .before .before .before .step-test .ensures) (ap tellVerdict (c .before .v .given .1))
 
 enum-told : tie.Need-enum-told
 enum-told c = search needs
+
+same-length-2 : tie.Need-same-length-2
+same-length-2 c = search needs
 
 returns-2 : tie.Need-returns-2
 returns-2 c = steps-top _ (c .before .before .before .step-test .ensures) (ap tellVerdict (c .before .enum-told .given .1)) (c .if1 .taken)
@@ -62,7 +68,7 @@ wide-requires : tie.Need-wide-requires
 wide-requires c κs = search needs
 
 inside : (c : tie.After-wide)
-    → let start = c .before .before .before .before .before .before .before .before .before .before in
+    → let start = c .before .before .before .before .before .before .before .before .before .before .before in
     3 * c .wide .result + 2 < length (now (start .args .coords))
 inside c = omega (arith, c .wide .ensures, ranked (c .before .before .before) (c .before .before .if1 .left) .vertex)
 
@@ -87,20 +93,20 @@ relink-requires c κs =
     let t = tested at-fine in
     (t .placed .right .named, (t .placed .right .linked, t .long))
 
-add-t13 : tie.Need-add-t13
-add-t13 c =
+add-t15 : tie.Need-add-t15
+add-t15 c =
     let at-next = c .before .before .before .before .before .before .before in
     let r = ranked (at-next .before) (at-next .if1 .left) in
     omega (arith, r .there)
 
-same-length : tie.Need-same-length
-same-length c = search needs
+same-length-3 : tie.Need-same-length-3
+same-length-3 c = search needs
 
 returns-3 : tie.Need-returns-3
 returns-3 c =
     let at-wide = c .before .before .before .before .before in
     let at-fine = at-wide .before .before .before in
-    let start = at-fine .before .before .before .before .before .before .before in
+    let start = at-fine .before .before .before .before .before .before .before .before in
     steps-taken (sweepOf start) (at-fine .before .before .step-test .ensures) (ap tellVerdict (at-fine .enum-told .given .1))
     (at-wide .before .before .if1 .left) (at-wide .wide .ensures) (same w32 _ (c .before .before .before .before .z .given))
     refl (c .before .before .relink .ensures)
@@ -111,8 +117,10 @@ step-spec =
     (tie.spec
     step-test-requires
     enum-known-v
+    same-length
     returns
     enum-told
+    same-length-2
     returns-2
     mul-wide
     shared-slice-read-wide
@@ -123,6 +131,6 @@ step-spec =
     shared-slice-copy-out-z
     add-relink
     relink-requires
-    add-t13
-    same-length
+    add-t15
+    same-length-3
     returns-3)

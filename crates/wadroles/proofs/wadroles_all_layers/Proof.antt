@@ -1,7 +1,7 @@
 -- `wadroles_all_layers` meets its contract.
 use mathlib.Core.Path.{refl, ap}
-use Rattle.layers.specs.AllLayers.{tellFiled}
-use Rattle.answers.specs.AnswerLaws.{exports-give, exports-refuse}
+use Rattle.all_sweep.specs.AllLayers.{tellAllLayers}
+use Rattle.wadroles.specs.ExportLaws.{exports-give, exports-refuse}
 use borrow.Author.Needs.{needs}
 use Rattle.wadroles.proofs.wadroles_all_layers.Statement.{statement}
 use Rattle.wadroles.proofs.wadroles_all_layers.Tie as tie
@@ -42,7 +42,7 @@ same-length-6 c = search needs
 returns : tie.Need-returns
 returns c =
     let at-layers = c .before .before .before .before .before .before .before .before .before .before .before .before .before .before in
-    exports-give (at-layers .all-layers .ensures) (ap tellFiled (c .before .a .given .1)) refl
+    exports-give (at-layers .all-layers .ensures) (ap tellAllLayers (c .before .a .given .1)) refl
 
 same-length-7 : tie.Need-same-length-7
 same-length-7 c = search needs
@@ -66,7 +66,7 @@ returns-2 : tie.Need-returns-2
 returns-2 c =
     let at-refused = c .before .before .before in
     let at-layers = at-refused .before .before .before .before .before .before .before .before .before .before .before .before .before in
-    exports-refuse (at-layers .all-layers .ensures) (ap tellFiled (at-refused .a2 .given .1)) (c .refuse .ensures)
+    exports-refuse (at-layers .all-layers .ensures) (ap tellAllLayers (at-refused .a2 .given .1)) (c .refuse .ensures)
 
 pub wadroles-all-layers-spec : {M : Type 1} → statement M
 wadroles-all-layers-spec =

@@ -2,8 +2,8 @@
 use mathlib.Core.Path.{ap, _∙_}
 use lib.ListN.{set}
 use Rattle.contours.specs.Areas.{tellArea}
-use Rattle.answers.specs.Answers.{wordOf}
-use Rattle.answers.specs.AnswerLaws.{exports-give, exports-refuse}
+use Rattle.wadroles.specs.Exports.{wordOf}
+use Rattle.wadroles.specs.ExportLaws.{exports-give, exports-refuse}
 use Rattle.wadroles.proofs.Numbers.{area-held}
 use borrow.Author.Needs.{needs}
 use Rattle.wadroles.proofs.wadroles_area.Statement.{statement}
@@ -15,8 +15,8 @@ area-requires c κs = search needs
 enum-known-a : tie.Need-enum-known-a
 enum-known-a c = search needs
 
-word-requires : tie.Need-word-requires
-word-requires c κs = search needs
+word-of-requires : tie.Need-word-of-requires
+word-of-requires c κs = search needs
 
 element-write-out : tie.Need-element-write-out
 element-write-out c = search needs
@@ -31,7 +31,7 @@ returns : tie.Need-returns
 returns c =
     let at-area = c .before .before .before .before in
     let given = c .before .before .a .given .1 in
-    let sent = c .word .ensures ∙ ap wordOf (area-held (at-area .area .ensures) given) in
+    let sent = c .word-of .ensures ∙ ap wordOf (area-held (at-area .area .ensures) given) in
     exports-give (at-area .area .ensures) (ap tellArea given) (ap (set (at-area .before .args .out .now) 0) sent)
 
 returns-2 : tie.Need-returns-2
@@ -45,7 +45,7 @@ wadroles-area-spec =
     (tie.spec
     area-requires
     enum-known-a
-    word-requires
+    word-of-requires
     element-write-out
     enum-known-a-2
     refuse-requires

@@ -1,7 +1,7 @@
 -- `wadroles_check` meets its contract.
 use mathlib.Core.Path.{refl, ap}
-use Rattle.checker.specs.Check.{tellCheck}
-use Rattle.answers.specs.AnswerLaws.{exports-give, exports-refuse}
+use Rattle.check_mesh.specs.Check.{tellCheck}
+use Rattle.wadroles.specs.ExportLaws.{exports-give, exports-refuse}
 use borrow.Author.Needs.{needs}
 use Rattle.wadroles.proofs.wadroles_check.Statement.{statement}
 use Rattle.wadroles.proofs.wadroles_check.Tie as tie

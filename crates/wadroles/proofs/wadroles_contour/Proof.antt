@@ -5,8 +5,8 @@ use borrow.Author.Needs.{needs}
 use Rattle.wadroles.proofs.wadroles_contour.Statement.{statement}
 use Rattle.wadroles.proofs.wadroles_contour.Tie as tie
 
-part-of-requires : tie.Need-part-of-requires
-part-of-requires c κs = search needs
+contour-part-requires : tie.Need-contour-part-requires
+contour-part-requires c κs = search needs
 
 element-write-out : tie.Need-element-write-out
 element-write-out c = search needs
@@ -17,8 +17,8 @@ element-write-out-2 c = search needs
 returns : tie.Need-returns
 returns c =
     let out = c .before .before .args .out .now in
-    record { returns = refl; writes = λ i. set (set out 0 (c .part-of .ensures .0 i)) 1 (c .part-of .ensures .1 i) }
+    record { returns = refl; writes = λ i. set (set out 0 (c .contour-part .ensures .0 i)) 1 (c .contour-part .ensures .1 i) }
 
 pub wadroles-contour-spec : {M : Type 1} → statement M
 wadroles-contour-spec =
-    tie.close (tie.spec part-of-requires element-write-out element-write-out-2 returns)
+    tie.close (tie.spec contour-part-requires element-write-out element-write-out-2 returns)

@@ -1,8 +1,8 @@
 -- `wadroles_cut` meets its contract.
 use mathlib.Core.Path.{refl, ap}
-use Rattle.cutter.specs.Cut.{tellCut}
-use Rattle.cutter.specs.CutLaws.{at-height}
-use Rattle.answers.specs.AnswerLaws.{exports-give, exports-refuse}
+use Rattle.cut.specs.Cut.{tellCut}
+use Rattle.cut.specs.CutLaws.{at-height}
+use Rattle.wadroles.specs.ExportLaws.{exports-give, exports-refuse}
 use borrow.Author.Needs.{needs}
 use Rattle.wadroles.proofs.wadroles_cut.Statement.{statement}
 use Rattle.wadroles.proofs.wadroles_cut.Tie as tie

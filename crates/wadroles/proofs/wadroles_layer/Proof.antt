@@ -1,7 +1,7 @@
 -- `wadroles_layer` meets its contract.
 use mathlib.Core.Path.{refl, ap}
-use Rattle.sweep.specs.Operations.{tellRise}
-use Rattle.answers.specs.AnswerLaws.{exports-give, exports-refuse}
+use Rattle.sweep.specs.Operations.{tellLayer}
+use Rattle.wadroles.specs.ExportLaws.{exports-give, exports-refuse}
 use Rattle.wadroles.proofs.Numbers.{rises-at-height}
 use borrow.Author.Needs.{needs}
 use Rattle.wadroles.proofs.wadroles_layer.Statement.{statement}
@@ -47,7 +47,7 @@ returns : tie.Need-returns
 returns c =
     let at-layer = c .before .before .before .before .before .before .before .before .before .before .before .before in
     let start = at-layer .before .before .before .before .before .before .before .before .before .before .before .before .before in
-    exports-give (rises-at-height (start .fits .h) (at-layer .layer .ensures)) (ap tellRise (c .before .a .given .1)) refl
+    exports-give (rises-at-height (start .fits .h) (at-layer .layer .ensures)) (ap tellLayer (c .before .a .given .1)) refl
 
 same-length-6 : tie.Need-same-length-6
 same-length-6 c = search needs
@@ -69,7 +69,7 @@ returns-2 c =
     let at-refused = c .before .before .before in
     let at-layer = at-refused .before .before .before .before .before .before .before .before .before .before .before in
     let start = at-layer .before .before .before .before .before .before .before .before .before .before .before .before .before in
-    exports-refuse (rises-at-height (start .fits .h) (at-layer .layer .ensures)) (ap tellRise (at-refused .a2 .given .1)) (c .refuse .ensures)
+    exports-refuse (rises-at-height (start .fits .h) (at-layer .layer .ensures)) (ap tellLayer (at-refused .a2 .given .1)) (c .refuse .ensures)
 
 pub wadroles-layer-spec : {M : Type 1} → statement M
 wadroles-layer-spec =

@@ -1,9 +1,9 @@
 -- `wadroles_read_layer` meets its contract.
 use mathlib.Core.Path.{ap, _∙_}
-use Rattle.reader.specs.Reading.{tellReading}
-use Rattle.answers.specs.Answers.{wordOf}
-use Rattle.answers.specs.AnswerLaws.{exports-refuse}
-use Rattle.wadroles.proofs.Numbers.{wide-fits, wide-held, layer-given}
+use Rattle.read_layer.specs.Reading.{tellReadLayer}
+use Rattle.wadroles.specs.Exports.{wordOf}
+use Rattle.wadroles.specs.ExportLaws.{exports-refuse}
+use Rattle.wadroles.proofs.Numbers.{wide-fits, wide-held, read-layer-held}
 use borrow.Author.Needs.{needs}
 use Rattle.wadroles.proofs.wadroles_read_layer.Statement.{statement}
 use Rattle.wadroles.proofs.wadroles_read_layer.Tie as tie
@@ -17,11 +17,11 @@ enum-known-a c = search needs
 element-write-out : tie.Need-element-write-out
 element-write-out c = search needs
 
-cast-word : tie.Need-cast-word
-cast-word c = wide-fits (c .before .a .given .0 .1 .0) (c .known-told .given .1 .0 .1)
+cast-word-of : tie.Need-cast-word-of
+cast-word-of c = wide-fits (c .before .a .given .0 .1 .0) (c .known-told .given .1 .0 .1)
 
-word-requires : tie.Need-word-requires
-word-requires c κs = search needs
+word-of-requires : tie.Need-word-of-requires
+word-of-requires c κs = search needs
 
 element-write-out-2 : tie.Need-element-write-out-2
 element-write-out-2 c = search needs
@@ -48,8 +48,8 @@ returns : tie.Need-returns
 returns c =
     let at-read = c .before .before .before .before .before .before .before in
     let found = c .before .before .a .given in
-    let sent = c .word .ensures ∙ ap wordOf (wide-held (found .0 .1 .0) (c .before .known-told .given .1 .0 .1)) in
-    layer-given _ (at-read .read-layer .ensures) (found .1) sent
+    let sent = c .word-of .ensures ∙ ap wordOf (wide-held (found .0 .1 .0) (c .before .known-told .given .1 .0 .1)) in
+    read-layer-held _ (at-read .read-layer .ensures) (found .1) sent
 
 same-length-3 : tie.Need-same-length-3
 same-length-3 c = search needs
@@ -61,7 +61,7 @@ returns-2 : tie.Need-returns-2
 returns-2 c =
     let at-refused = c .before .before .before in
     let at-read = at-refused .before .before .before .before .before in
-    exports-refuse (at-read .read-layer .ensures) (ap tellReading (at-refused .a2 .given .1)) (c .refuse .ensures)
+    exports-refuse (at-read .read-layer .ensures) (ap tellReadLayer (at-refused .a2 .given .1)) (c .refuse .ensures)
 
 pub wadroles-read-layer-spec : {M : Type 1} → statement M
 wadroles-read-layer-spec =
@@ -70,8 +70,8 @@ wadroles-read-layer-spec =
     read-layer-requires
     enum-known-a
     element-write-out
-    cast-word
-    word-requires
+    cast-word-of
+    word-of-requires
     element-write-out-2
     element-write-out-3
     element-write-out-4

@@ -1,7 +1,7 @@
 -- `wadroles_read_part` meets its contract.
 use mathlib.Core.Path.{refl, ap}
-use Rattle.parts.specs.Parts.{tellParted}
-use Rattle.answers.specs.AnswerLaws.{exports-give, exports-refuse}
+use Rattle.read_part.specs.Parts.{tellReadPart}
+use Rattle.wadroles.specs.ExportLaws.{exports-give, exports-refuse}
 use borrow.Author.Needs.{needs}
 use Rattle.wadroles.proofs.wadroles_read_part.Statement.{statement}
 use Rattle.wadroles.proofs.wadroles_read_part.Tie as tie
@@ -39,7 +39,7 @@ same-length-3 c = search needs
 returns : tie.Need-returns
 returns c =
     let at-read = c .before .before .before .before .before .before .before in
-    exports-give (at-read .read-part .ensures) (ap tellParted (c .before .a .given .1)) refl
+    exports-give (at-read .read-part .ensures) (ap tellReadPart (c .before .a .given .1)) refl
 
 same-length-4 : tie.Need-same-length-4
 same-length-4 c = search needs
@@ -54,7 +54,7 @@ returns-2 : tie.Need-returns-2
 returns-2 c =
     let at-refused = c .before .before .before in
     let at-read = at-refused .before .before .before .before .before .before in
-    exports-refuse (at-read .read-part .ensures) (ap tellParted (at-refused .a2 .given .1)) (c .refuse .ensures)
+    exports-refuse (at-read .read-part .ensures) (ap tellReadPart (at-refused .a2 .given .1)) (c .refuse .ensures)
 
 pub wadroles-read-part-spec : {M : Type 1} → statement M
 wadroles-read-part-spec =

@@ -1,7 +1,7 @@
 -- `wadroles_step` meets its contract.
 use mathlib.Core.Path.{refl, ap}
 use Rattle.sweep.specs.Operations.{tellStep}
-use Rattle.answers.specs.AnswerLaws.{exports-give, exports-refuse}
+use Rattle.wadroles.specs.ExportLaws.{exports-give, exports-refuse}
 use borrow.Author.Needs.{needs}
 use Rattle.wadroles.proofs.wadroles_step.Statement.{statement}
 use Rattle.wadroles.proofs.wadroles_step.Tie as tie

@@ -3,28 +3,21 @@
 use super::layer_file::{clear, write_layer};
 use super::numbers::Writer;
 use super::tables::test_order;
-use wadroles::{cut, LayerTables, MeshTables, Refusal};
+use wadroles::{cut, OrderedMesh, Refusal, WorkTables};
 
 /// Writes what `wadroles::all_layers` writes at heights that are given and rise, into an output that
 /// is long enough. It leaves the work tables as Cut does.
 pub fn all_layers(
-    mesh: MeshTables<'_>,
+    ordered: OrderedMesh<'_>,
     heights: &[i32],
-    tables: LayerTables<'_>,
-    _ring: &mut [u32],
+    work: &mut WorkTables<'_>,
     output: &mut [u8],
 ) -> Result<usize, Refusal> {
     let mut writer = Writer::new(output);
     writer.plain(heights.len() as u32);
     for &h in heights {
-        let lent = LayerTables {
-            names: tables.names,
-            points: tables.points,
-            ends: tables.ends,
-            marks: tables.marks,
-        };
-        let layer = cut(mesh.coords, mesh.corners, mesh.pairing, h, lent)?;
-        write_layer(h, layer, &tables, &mut writer);
+        let counts = cut(ordered.paired, h, &mut work.cut)?;
+        write_layer(h, counts, &work.cut, &mut writer);
     }
     Ok(writer.position())
 }
@@ -32,20 +25,13 @@ pub fn all_layers(
 /// The same with what All layers owes besides, at every call: refusal 8, and zeros in the work tables,
 /// which are as long as they need be.
 pub fn all_layers_and_zeros(
-    mesh: MeshTables<'_>,
+    ordered: OrderedMesh<'_>,
     heights: &[i32],
-    mut tables: LayerTables<'_>,
-    ring: &mut [u32],
+    work: &mut WorkTables<'_>,
     output: &mut [u8],
 ) -> Result<usize, Refusal> {
-    test_order(mesh.coords, mesh.order)?;
-    let lent = LayerTables {
-        names: tables.names,
-        points: tables.points,
-        ends: tables.ends,
-        marks: tables.marks,
-    };
-    let length = all_layers(mesh, heights, lent, ring, output)?;
-    clear(&mut tables, ring);
+    test_order(ordered)?;
+    let length = all_layers(ordered, heights, work, output)?;
+    clear(work);
     Ok(length)
 }

@@ -4,40 +4,37 @@
 use super::cut::{below, mark_successors, outline};
 use super::layer_file::{clear, layer_length, test, write_layer};
 use super::numbers::{plain_length, Writer};
-use super::tables::refuse;
-use wadroles::{Layer, LayerTables, MeshTables, Refusal};
+use super::tables::{front, refuse};
+use wadroles::{Counts, CutTables, OrderedMesh, PairedMesh, Refusal, WorkTables};
 
 /// Does what `wadroles::all_layers` does.
 pub fn all_layers(
-    mesh: MeshTables<'_>,
+    ordered: OrderedMesh<'_>,
     heights: &[i32],
-    tables: LayerTables<'_>,
-    ring: &mut [u32],
+    work: &mut WorkTables<'_>,
     output: &mut [u8],
 ) -> Result<usize, Refusal> {
-    let heights = test(mesh, heights, &tables, ring)?;
-    let n = mesh.corners.len();
-    let mut tables = LayerTables {
-        names: &mut tables.names[..n],
-        points: &mut tables.points[..2 * n],
-        ends: &mut tables.ends[..n],
-        marks: &mut tables.marks[..n],
+    let heights = test(ordered, heights, work)?;
+    let n = ordered.paired.mesh.corners.len();
+    let mut work = WorkTables {
+        cut: front(&mut work.cut, n),
+        ring: &mut work.ring[..n],
     };
-    let answer = sweep(mesh, &heights, &mut tables, output);
-    clear(&mut tables, &mut ring[..n]);
+    let answer = sweep(ordered.paired, &heights, &mut work.cut, output);
+    clear(&mut work);
     answer
 }
 
 fn sweep(
-    mesh: MeshTables<'_>,
+    paired: PairedMesh<'_>,
     heights: &[i32],
-    tables: &mut LayerTables<'_>,
+    tables: &mut CutTables<'_>,
     output: &mut [u8],
 ) -> Result<usize, Refusal> {
     let mut length = plain_length(heights.len() as u32);
     for &h in heights {
-        let layer = section(mesh, h, tables)?;
-        length += layer_length(h, layer, tables);
+        let counts = section(paired, h, tables)?;
+        length += layer_length(h, counts, tables);
     }
     if output.len() < length {
         return refuse(Refusal::OUTPUT, 0);
@@ -45,19 +42,13 @@ fn sweep(
     let mut writer = Writer::new(output);
     writer.plain(heights.len() as u32);
     for &h in heights {
-        let layer = section(mesh, h, tables)?;
-        write_layer(h, layer, tables, &mut writer);
+        let counts = section(paired, h, tables)?;
+        write_layer(h, counts, tables, &mut writer);
     }
     Ok(length)
 }
 
-fn section(mesh: MeshTables<'_>, h: i32, tables: &mut LayerTables<'_>) -> Result<Layer, Refusal> {
-    let MeshTables {
-        coords,
-        corners,
-        pairing,
-        ..
-    } = mesh;
-    mark_successors(corners, pairing, below(coords, h), tables.marks);
-    outline(coords, corners, h, tables)
+fn section(paired: PairedMesh<'_>, h: i32, tables: &mut CutTables<'_>) -> Result<Counts, Refusal> {
+    mark_successors(paired, below(paired.mesh.coords, h), tables.marks);
+    outline(paired.mesh, h, tables)
 }

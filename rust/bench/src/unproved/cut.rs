@@ -1,33 +1,23 @@
 //! Cut by successors that are written into the table of marks and wiped as they are walked.
 
-use super::tables::{next, refuse, test_pairing, test_room, test_sizes, test_values};
-use wadroles::{Layer, LayerTables, Refusal};
+use super::tables::{front, next, refuse, test_pairing, test_room, test_sizes, test_values};
+use wadroles::{Counts, CutTables, Mesh, PairedMesh, Refusal};
 
 /// The mark of a corner that is no crossing, or one already used.
 pub(super) const NONE: u32 = u32::MAX;
 
 /// Does what `wadroles::cut` does.
-pub fn cut(
-    coords: &[i32],
-    corners: &[u32],
-    pairing: &[u32],
-    h: i32,
-    tables: LayerTables<'_>,
-) -> Result<Layer, Refusal> {
-    let n = corners.len();
-    test_sizes(coords, corners)?;
-    test_room(&tables, n)?;
-    test_values(coords, corners)?;
-    test_pairing(corners, pairing)?;
+pub fn cut(paired: PairedMesh<'_>, h: i32, tables: &mut CutTables<'_>) -> Result<Counts, Refusal> {
+    let mesh = paired.mesh;
+    let n = mesh.corners.len();
+    test_sizes(mesh)?;
+    test_room(tables, n)?;
+    test_values(mesh)?;
+    test_pairing(paired)?;
 
-    let mut layer = LayerTables {
-        names: &mut tables.names[..n],
-        points: &mut tables.points[..2 * n],
-        ends: &mut tables.ends[..n],
-        marks: &mut tables.marks[..n],
-    };
-    mark_successors(corners, pairing, below(coords, h), layer.marks);
-    outline(coords, corners, h, &mut layer)
+    let mut layer = front(tables, n);
+    mark_successors(paired, below(mesh.coords, h), layer.marks);
+    outline(mesh, h, &mut layer)
 }
 
 /// The set of vertices with z < h.
@@ -37,18 +27,17 @@ pub(super) fn below(coords: &[i32], h: i32) -> impl Fn(u32) -> bool + Copy + '_ 
 
 /// Takes the contours out of the marks, of tables that are as long as they need be.
 pub(super) fn outline(
-    coords: &[i32],
-    corners: &[u32],
+    mesh: Mesh<'_>,
     h: i32,
-    tables: &mut LayerTables<'_>,
-) -> Result<Layer, Refusal> {
+    tables: &mut CutTables<'_>,
+) -> Result<Counts, Refusal> {
     let walked = walk(tables.marks, tables.names, tables.ends);
     tables.marks.fill(0);
     match walked {
-        Ok(layer) => {
-            let names = &tables.names[..layer.points];
-            write_points(coords, corners, h, names, tables.points);
-            Ok(layer)
+        Ok(counts) => {
+            let names = &tables.names[..counts.points];
+            write_points(mesh, h, names, tables.points);
+            Ok(counts)
         }
         Err(crossing) => {
             tables.names.fill(0);
@@ -61,11 +50,11 @@ pub(super) fn outline(
 
 /// Writes the successor of each crossing.
 pub(super) fn mark_successors(
-    corners: &[u32],
-    pairing: &[u32],
+    paired: PairedMesh<'_>,
     passed: impl Fn(u32) -> bool + Copy,
     marks: &mut [u32],
 ) {
+    let (corners, pairing) = (paired.mesh.corners, paired.pairing);
     for triangle in 0..corners.len() / 3 {
         marks[3 * triangle..3 * triangle + 3].fill(NONE);
         if let Some(corner) = rising_corner(corners, passed, triangle) {
@@ -92,8 +81,8 @@ pub(super) fn rising_corner(
 
 /// Writes the names and ends of all contours; or gives the crossing where a walk meets one already
 /// used that is not its start.
-fn walk(marks: &mut [u32], names: &mut [u32], ends: &mut [u32]) -> Result<Layer, usize> {
-    let mut layer = Layer::default();
+fn walk(marks: &mut [u32], names: &mut [u32], ends: &mut [u32]) -> Result<Counts, usize> {
+    let mut counts = Counts::default();
     for start in 0..marks.len() {
         if marks[start] == NONE {
             continue;
@@ -103,33 +92,28 @@ fn walk(marks: &mut [u32], names: &mut [u32], ends: &mut [u32]) -> Result<Layer,
             if marks[corner] == NONE {
                 return Err(corner);
             }
-            names[layer.points] = corner as u32;
-            layer.points += 1;
+            names[counts.points] = corner as u32;
+            counts.points += 1;
             corner = std::mem::replace(&mut marks[corner], NONE) as usize;
             if corner == start {
                 break;
             }
         }
-        ends[layer.contours] = layer.points as u32;
-        layer.contours += 1;
+        ends[counts.contours] = counts.points as u32;
+        counts.contours += 1;
     }
-    Ok(layer)
+    Ok(counts)
 }
 
-fn write_points(coords: &[i32], corners: &[u32], h: i32, names: &[u32], points: &mut [i32]) {
+fn write_points(mesh: Mesh<'_>, h: i32, names: &[u32], points: &mut [i32]) {
     for (&name, point) in names.iter().zip(points.chunks_exact_mut(2)) {
-        write_point(coords, corners, h, name as usize, point);
+        write_point(mesh, h, name as usize, point);
     }
 }
 
 /// Writes the point of a crossing.
-pub(super) fn write_point(
-    coords: &[i32],
-    corners: &[u32],
-    h: i32,
-    corner: usize,
-    point: &mut [i32],
-) {
+pub(super) fn write_point(mesh: Mesh<'_>, h: i32, corner: usize, point: &mut [i32]) {
+    let Mesh { coords, corners } = mesh;
     let [low, high] = [corner, next(corner)].map(|c| &coords[3 * corners[c] as usize..][..3]);
     let (part, rise) = (i64::from(h - low[2]), i64::from(high[2] - low[2]));
     for axis in 0..2 {
@@ -141,29 +125,13 @@ pub(super) fn write_point(
 #[cfg(test)]
 mod tests {
     use super::*;
+    use crate::owned::{lend, Work};
     use meshes::{
-        closed_mesh, random_height, random_pairing, shared_edges, Damage, Mesh, PairingDamage,
-        Random,
+        closed_mesh, random_height, random_pairing, shared_edges, Damage, PairingDamage, Random,
     };
     use std::collections::BTreeSet;
 
-    type Cut = fn(&[i32], &[u32], &[u32], i32, LayerTables) -> Result<Layer, Refusal>;
-
-    /// The answer, and what it leaves in names, points, ends and marks.
-    type Outcome = (Result<Layer, Refusal>, [Vec<u32>; 3], Vec<i32>);
-
-    fn run(cut: Cut, mesh: &Mesh, pairing: &[u32], h: i32, room: usize) -> Outcome {
-        let (mut names, mut ends, mut marks) = (vec![7; room], vec![8; room], vec![9; room]);
-        let mut points = vec![-7; 2 * room];
-        let tables = LayerTables {
-            names: &mut names,
-            points: &mut points,
-            ends: &mut ends,
-            marks: &mut marks,
-        };
-        let answer = cut(&mesh.coords, &mesh.corners, pairing, h, tables);
-        (answer, [names, ends, marks], points)
-    }
+    type Cut = fn(PairedMesh, i32, &mut CutTables) -> Result<Counts, Refusal>;
 
     #[test]
     fn it_does_what_the_library_does() {
@@ -183,9 +151,16 @@ mod tests {
                 PairingDamage::any(&mut random).apply(&mesh, &mut pairing, &mut random);
             }
             let h = random_height(&mesh, &mut random);
-            let run = |cut| run(cut, &mesh, &pairing, h, 400);
+            let run = |cut: Cut| {
+                let mut left = Work::new(400);
+                let paired = PairedMesh {
+                    mesh: lend(&mesh),
+                    pairing: &pairing,
+                };
+                (cut(paired, h, &mut left.lend().cut), left)
+            };
             let expected = run(wadroles::cut);
-            assert_eq!(run(cut), expected, "round {round}");
+            assert!(run(cut) == expected, "round {round}");
             met.insert(expected.0.map_or_else(|refusal| refusal.number, |_| 0));
         }
         assert!(met.into_iter().eq([0, 1, 2, 3, 4, 7, 9]));
@@ -194,7 +169,7 @@ mod tests {
     #[test]
     fn a_walk_into_a_used_crossing_names_it() {
         let walk = |marks: [u32; 5]| walk(&mut marks.clone(), &mut [0; 5], &mut [0; 5]);
-        let closed = Layer {
+        let closed = Counts {
             contours: 2,
             points: 4,
         };

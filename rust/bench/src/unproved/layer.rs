@@ -1,63 +1,46 @@
 //! Layer by a ring table that is made anew at each height and copied into the marks.
 
 use super::cut::{below, mark_successors, outline, rising_corner, NONE};
-use super::tables::{refuse, test_order, test_pairing, test_room, test_sizes, test_values};
-use wadroles::{LayerTables, MeshTables, Refusal, Rise, State};
+use super::tables::{front, refuse, test_order, test_pairing, test_room, test_sizes, test_values};
+use wadroles::{Counts, CutTables, PairedMesh, Refusal, Sweep};
 
 /// Does what `wadroles::layer` does.
-pub fn layer(
-    mesh: MeshTables<'_>,
-    ring: &mut [u32],
-    state: State,
-    h: i32,
-    tables: LayerTables<'_>,
-) -> Result<Rise, Refusal> {
-    let MeshTables {
-        coords,
-        corners,
-        pairing,
-        order,
-    } = mesh;
-    let (n, vertices) = (corners.len(), coords.len() / 3);
-    let passed = state.passed;
-    test_sizes(coords, corners)?;
-    test_room(&tables, n)?;
-    test_values(coords, corners)?;
-    test_pairing(corners, pairing)?;
-    test_order(coords, order)?;
+pub fn layer(sweep: &mut Sweep<'_>, h: i32, tables: &mut CutTables<'_>) -> Result<Counts, Refusal> {
+    let (ordered, passed) = (sweep.ordered, sweep.passed);
+    let (paired, order) = (ordered.paired, ordered.order);
+    let mesh = paired.mesh;
+    let (n, vertices) = (mesh.corners.len(), mesh.vertices());
+    test_sizes(mesh)?;
+    test_room(tables, n)?;
+    test_values(mesh)?;
+    test_pairing(paired)?;
+    test_order(ordered)?;
     if passed > vertices {
         return refuse(Refusal::PASSED, 0);
     }
-    let z = |vertex: u32| coords[3 * vertex as usize + 2];
+    let z = |vertex: u32| mesh.coords[3 * vertex as usize + 2];
     let (last_z, after) = match passed.checked_sub(1).map(|last| order[last]) {
         Some(last) => (z(last), last + 1),
         None => (i32::MIN, 0),
     };
-    test_ring(mesh, ring, before(coords, last_z, after))?;
+    test_ring(paired, sweep.ring, before(mesh.coords, last_z, after))?;
     if passed > 0 && last_z >= h {
         return refuse(Refusal::HEIGHT, 0);
     }
 
     let unpassed = &order[passed..vertices];
     let risen = unpassed.iter().take_while(|&&v| z(v) < h).count();
-    let ring = &mut ring[..n];
-    mark_successors(corners, pairing, below(coords, h), ring);
-    let mut tables = LayerTables {
-        names: &mut tables.names[..n],
-        points: &mut tables.points[..2 * n],
-        ends: &mut tables.ends[..n],
-        marks: &mut tables.marks[..n],
-    };
+    let ring = &mut sweep.ring[..n];
+    mark_successors(paired, below(mesh.coords, h), ring);
+    let mut tables = front(tables, n);
     tables.marks.copy_from_slice(ring);
-    match outline(coords, corners, h, &mut tables) {
-        Ok(layer) => Ok(Rise {
-            state: State {
-                passed: passed + risen,
-            },
-            layer,
-        }),
+    match outline(mesh, h, &mut tables) {
+        Ok(counts) => {
+            sweep.passed += risen;
+            Ok(counts)
+        }
         Err(refusal) => {
-            mark_successors(corners, pairing, before(coords, last_z, after), ring);
+            mark_successors(paired, before(mesh.coords, last_z, after), ring);
             Err(refusal)
         }
     }
@@ -72,15 +55,16 @@ fn before(coords: &[i32], h: i32, k: u32) -> impl Fn(u32) -> bool + Copy + '_ {
 }
 
 fn test_ring(
-    mesh: MeshTables<'_>,
+    paired: PairedMesh<'_>,
     ring: &[u32],
     passed: impl Fn(u32) -> bool + Copy,
 ) -> Result<(), Refusal> {
-    for triangle in 0..mesh.corners.len() / 3 {
+    let (corners, pairing) = (paired.mesh.corners, paired.pairing);
+    for triangle in 0..corners.len() / 3 {
         let mut entries = [NONE; 3];
-        if let Some(corner) = rising_corner(mesh.corners, passed, triangle) {
-            let paired = mesh.pairing[corner] as usize / 3;
-            let after = rising_corner(mesh.corners, passed, paired);
+        if let Some(corner) = rising_corner(corners, passed, triangle) {
+            let across = pairing[corner] as usize / 3;
+            let after = rising_corner(corners, passed, across);
             entries[corner - 3 * triangle] = after.map_or(NONE, |corner| corner as u32);
         }
         for (corner, entry) in (3 * triangle..).zip(entries) {
@@ -95,57 +79,62 @@ fn test_ring(
 #[cfg(test)]
 mod tests {
     use super::*;
+    use crate::owned::{Ordered, Work};
     use meshes::{
-        closed_mesh, random_height, random_pairing, shared_edges, vertex_order, Damage, Mesh,
-        OrderDamage, PairingDamage, Random, RingDamage,
+        closed_mesh, random_height, random_pairing, shared_edges, Damage, OrderDamage,
+        PairingDamage, Random, RingDamage,
     };
     use std::collections::BTreeSet;
 
-    type Layer = fn(MeshTables, &mut [u32], State, i32, LayerTables) -> Result<Rise, Refusal>;
+    const ROOM: usize = 400;
+
+    type Layer = fn(&mut Sweep, i32, &mut CutTables) -> Result<Counts, Refusal>;
 
     /// A sweep under way.
     #[derive(Clone)]
-    struct Sweep {
-        mesh: Mesh,
-        pairing: Vec<u32>,
-        order: Vec<u32>,
+    struct Under {
+        input: Ordered,
         ring: Vec<u32>,
-        state: State,
-        room: usize,
+        passed: usize,
     }
 
-    impl Sweep {
-        fn tables(&self) -> MeshTables<'_> {
-            MeshTables {
-                coords: &self.mesh.coords,
-                corners: &self.mesh.corners,
-                pairing: &self.pairing,
-                order: &self.order,
+    impl Under {
+        fn new(mesh: meshes::Mesh, random: &mut Random) -> Self {
+            let ring = vec![NONE; ROOM.max(mesh.corners.len())];
+            let mut input = Ordered::new(mesh);
+            input.pairing = random_pairing(&input.mesh, random);
+            Under {
+                input,
+                ring,
+                passed: 0,
             }
         }
 
-        /// The answer, and what it leaves in the ring table, names, ends, marks and points.
-        fn run(&self, layer: Layer, h: i32) -> (Result<Rise, Refusal>, [Vec<u32>; 4], Vec<i32>) {
-            let [mut names, mut ends, mut marks] = [7, 8, 9].map(|junk| vec![junk; self.room]);
-            let (mut points, mut ring) = (vec![-7; 2 * self.room], self.ring.clone());
-            let tables = LayerTables {
-                names: &mut names,
-                points: &mut points,
-                ends: &mut ends,
-                marks: &mut marks,
+        /// The answer; what it leaves in the ring table and as the count; and in the other tables.
+        fn run(&self, layer: Layer, h: i32) -> (Result<Counts, Refusal>, Vec<u32>, usize, Work) {
+            let (mut ring, mut left) = (self.ring.clone(), Work::new(ROOM));
+            let mut sweep = Sweep {
+                ordered: self.input.lend(),
+                ring: &mut ring,
+                passed: self.passed,
             };
-            let answer = layer(self.tables(), &mut ring, self.state, h, tables);
-            (answer, [ring, names, ends, marks], points)
+            let answer = layer(&mut sweep, h, &mut left.lend().cut);
+            let passed = sweep.passed;
+            (answer, ring, passed, left)
         }
 
         fn spoil(&mut self, random: &mut Random) {
-            let Sweep { mesh, .. } = self;
+            let Ordered {
+                mesh,
+                pairing,
+                order,
+            } = &mut self.input;
             match random.below(6) {
                 0 => Damage::any(random).apply(mesh, random),
-                1 => PairingDamage::any(random).apply(mesh, &mut self.pairing, random),
-                2 => OrderDamage::any(random).apply(mesh, &mut self.order, random),
+                1 => PairingDamage::any(random).apply(mesh, pairing, random),
+                2 => OrderDamage::any(random).apply(mesh, order, random),
                 3 => RingDamage::any(random).apply(&mut self.ring, random),
-                4 => self.state.passed += random.choose(&[1, 2, 100]),
+                4 => self.passed += random.choose(&[1, 2, 100]),
                 _ => self.ring.truncate(random.below(400)),
             }
         }
@@ -160,27 +149,20 @@ mod tests {
                 0 => closed_mesh(&mut random),
                 _ => shared_edges(&mut random),
             };
-            let mut sweep = Sweep {
-                pairing: random_pairing(&mesh, &mut random),
-                order: vertex_order(&mesh),
-                ring: vec![NONE; 400.max(mesh.corners.len())],
-                state: State { passed: 0 },
-                room: 400,
-                mesh,
-            };
+            let mut under = Under::new(mesh, &mut random);
             for _ in 0..4 {
-                let h = random_height(&sweep.mesh, &mut random);
-                let mut perhaps_spoiled = sweep.clone();
+                let h = random_height(&under.input.mesh, &mut random);
+                let mut perhaps_spoiled = under.clone();
                 if random.one_in(2) {
                     perhaps_spoiled.spoil(&mut random);
                 }
                 let expected = perhaps_spoiled.run(wadroles::layer, h);
-                assert_eq!(perhaps_spoiled.run(layer, h), expected, "round {round}");
+                let met_here = perhaps_spoiled.run(layer, h);
+                assert!(met_here == expected, "round {round}");
                 met.insert(expected.0.map_or_else(|refusal| refusal.number, |_| 0));
 
-                if let (Ok(rise), [ring, ..], _) = sweep.run(layer, h) {
-                    sweep.ring = ring;
-                    sweep.state = rise.state;
+                if let (Ok(_), ring, passed, _) = under.run(layer, h) {
+                    (under.ring, under.passed) = (ring, passed);
                 }
             }
         }

@@ -2,7 +2,7 @@
 
 use super::numbers::{plain_length, sent, Writer};
 use super::tables::{refuse, test_order, test_pairing, test_room, test_sizes, test_values};
-use wadroles::{Layer, LayerTables, MeshTables, Refusal, MAX_LAYERS};
+use wadroles::{Counts, CutTables, OrderedMesh, Refusal, WorkTables, MAX_LAYERS};
 
 /// From the lowest z to the first default height.
 const FIRST_HEIGHT: i64 = 50;
@@ -12,32 +12,26 @@ const NEXT_HEIGHT: usize = 100;
 
 /// Makes the tests, and gives the heights.
 pub fn test(
-    mesh: MeshTables<'_>,
+    ordered: OrderedMesh<'_>,
     heights: &[i32],
-    tables: &LayerTables<'_>,
-    ring: &[u32],
+    work: &WorkTables<'_>,
 ) -> Result<Vec<i32>, Refusal> {
-    let MeshTables {
-        coords,
-        corners,
-        pairing,
-        order,
-    } = mesh;
-    test_sizes(coords, corners)?;
+    let mesh = ordered.paired.mesh;
+    test_sizes(mesh)?;
     let heights = match heights {
-        [] => default_heights(coords),
+        [] => default_heights(mesh.coords),
         given => given.to_vec(),
     };
     if heights.len() > MAX_LAYERS {
         return refuse(Refusal::SIZE, 0);
     }
-    test_room(tables, corners.len())?;
-    if ring.len() < corners.len() {
+    test_room(&work.cut, mesh.corners.len())?;
+    if work.ring.len() < mesh.corners.len() {
         return refuse(Refusal::ROOM, 0);
     }
-    test_values(coords, corners)?;
-    test_pairing(corners, pairing)?;
-    test_order(coords, order)?;
+    test_values(mesh)?;
+    test_pairing(ordered.paired)?;
+    test_order(ordered)?;
     match heights.windows(2).position(|pair| pair[1] <= pair[0]) {
         Some(before) => refuse(Refusal::HEIGHT, before + 1),
         None => Ok(heights),
@@ -56,12 +50,12 @@ fn default_heights(coords: &[i32]) -> Vec<i32> {
 
 /// The points of each contour, x and y of each.
 fn contours<'a>(
-    layer: Layer,
-    tables: &'a LayerTables<'_>,
+    counts: Counts,
+    tables: &'a CutTables<'_>,
 ) -> impl Iterator<Item = &'a [[i32; 2]]> + 'a {
     let (points, _) = tables.points.as_chunks::<2>();
     let mut start = 0;
-    tables.ends[..layer.contours].iter().map(move |&end| {
+    tables.ends[..counts.contours].iter().map(move |&end| {
         let contour = &points[start..end as usize];
         start = end as usize;
         contour
@@ -69,9 +63,9 @@ fn contours<'a>(
 }
 
 /// The bytes that a layer takes.
-pub fn layer_length(h: i32, layer: Layer, tables: &LayerTables<'_>) -> usize {
-    let mut length = plain_length(sent(h)) + plain_length(layer.contours as u32);
-    for contour in contours(layer, tables) {
+pub fn layer_length(h: i32, counts: Counts, tables: &CutTables<'_>) -> usize {
+    let mut length = plain_length(sent(h)) + plain_length(counts.contours as u32);
+    for contour in contours(counts, tables) {
         length += plain_length(contour.len() as u32);
         let mut before = [0; 2];
         for &[x, y] in contour {
@@ -82,10 +76,10 @@ pub fn layer_length(h: i32, layer: Layer, tables: &LayerTables<'_>) -> usize {
     length
 }
 
-pub fn write_layer(h: i32, layer: Layer, tables: &LayerTables<'_>, writer: &mut Writer<'_>) {
+pub fn write_layer(h: i32, counts: Counts, tables: &CutTables<'_>, writer: &mut Writer<'_>) {
     writer.signed(h);
-    writer.plain(layer.contours as u32);
-    for contour in contours(layer, tables) {
+    writer.plain(counts.contours as u32);
+    for contour in contours(counts, tables) {
         writer.plain(contour.len() as u32);
         let mut before = [0; 2];
         for &[x, y] in contour {
@@ -97,12 +91,12 @@ pub fn write_layer(h: i32, layer: Layer, tables: &LayerTables<'_>, writer: &mut 
 }
 
 /// Zeroes the work tables, which are as long as they need be.
-pub fn clear(tables: &mut LayerTables<'_>, ring: &mut [u32]) {
-    tables.names.fill(0);
-    tables.points.fill(0);
-    tables.ends.fill(0);
-    tables.marks.fill(0);
-    ring.fill(0);
+pub fn clear(work: &mut WorkTables<'_>) {
+    work.cut.names.fill(0);
+    work.cut.points.fill(0);
+    work.cut.ends.fill(0);
+    work.cut.marks.fill(0);
+    work.ring.fill(0);
 }
 
 #[cfg(test)]

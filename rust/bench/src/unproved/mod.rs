@@ -26,8 +26,7 @@ pub use layer::layer;
 pub use read_layer::read_layer;
 pub use read_part::read_part;
 
-use wadroles::{LayerTables, MeshTables, Refusal};
+use wadroles::{OrderedMesh, Refusal, WorkTables};
 
 /// A version of All layers.
-pub type AllLayers =
-    fn(MeshTables, &[i32], LayerTables, &mut [u32], &mut [u8]) -> Result<usize, Refusal>;
+pub type AllLayers = fn(OrderedMesh, &[i32], &mut WorkTables, &mut [u8]) -> Result<usize, Refusal>;

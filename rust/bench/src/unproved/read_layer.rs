@@ -2,28 +2,25 @@
 
 use super::numbers::Reader;
 use super::tables::refuse;
-use wadroles::{LayerRead, Refusal, MAX_COORDINATE, MAX_LAYERS, MAX_POINTS};
+use wadroles::{Counts, FlatLayer, Reading, Refusal, MAX_COORDINATE, MAX_LAYERS, MAX_POINTS};
 
 /// Does what `wadroles::read_layer` does.
-pub fn read_layer(
-    file: &[u8],
-    i: usize,
-    points: &mut [i32],
-    ends: &mut [u32],
-) -> Result<LayerRead, Refusal> {
-    let Some((layer, contours)) = find(file, i)? else {
+pub fn read_layer(file: &[u8], i: usize, layer: &mut FlatLayer<'_>) -> Result<Reading, Refusal> {
+    let FlatLayer { points, ends } = layer;
+    let Some((reading, first)) = find(file, i)? else {
         return refuse(Refusal::LAYER, 0);
     };
-    if points.len() < 2 * layer.points || ends.len() < layer.contours {
+    let counts = reading.counts;
+    if points.len() < 2 * counts.points || ends.len() < counts.contours {
         return refuse(Refusal::ROOM, 0);
     }
-    let points = &mut points[..2 * layer.points];
-    fill(contours, points, &mut ends[..layer.contours])?;
-    Ok(layer)
+    let points = &mut points[..2 * counts.points];
+    fill(first, points, &mut ends[..counts.contours])?;
+    Ok(reading)
 }
 
 /// Checks the file, and gives layer `i` with the position of its first contour.
-fn find(file: &[u8], i: usize) -> Result<Option<(LayerRead, Reader<'_>)>, Refusal> {
+fn find(file: &[u8], i: usize) -> Result<Option<(Reading, Reader<'_>)>, Refusal> {
     let mut reader = Reader::new(file);
     let layers = reader.plain()? as usize;
     if layers > MAX_LAYERS {
@@ -42,13 +39,16 @@ fn find(file: &[u8], i: usize) -> Result<Option<(LayerRead, Reader<'_>)>, Refusa
         let first = reader;
         let points = check_contours(&mut reader, contours)?;
         if layer == i {
-            let read = LayerRead {
-                layers,
-                height,
+            let counts = Counts {
                 contours: contours as usize,
                 points,
             };
-            found = Some((read, first));
+            let reading = Reading {
+                layers,
+                height,
+                counts,
+            };
+            found = Some((reading, first));
         }
     }
     reader.end()?;
@@ -111,14 +111,18 @@ mod tests {
     use oracle::encode_layers;
     use std::collections::BTreeSet;
 
-    type Read = fn(&[u8], usize, &mut [i32], &mut [u32]) -> Result<LayerRead, Refusal>;
+    type Read = fn(&[u8], usize, &mut FlatLayer) -> Result<Reading, Refusal>;
 
     /// The answer, and what it leaves in points and ends.
-    type Outcome = (Result<LayerRead, Refusal>, Vec<i32>, Vec<u32>);
+    type Outcome = (Result<Reading, Refusal>, Vec<i32>, Vec<u32>);
 
     fn run(read: Read, file: &[u8], i: usize) -> Outcome {
         let (mut points, mut ends) = (vec![-7; 60], vec![7; 20]);
-        let answer = read(file, i, &mut points, &mut ends);
+        let mut layer = FlatLayer {
+            points: &mut points,
+            ends: &mut ends,
+        };
+        let answer = read(file, i, &mut layer);
         (answer, points, ends)
     }
 

@@ -2,15 +2,15 @@
 
 use super::numbers::Reader;
 use super::tables::refuse;
-use wadroles::{Part, Refusal};
+use wadroles::{Part, PartCounts, Refusal};
 
 /// Does what `wadroles::read_part` does.
-pub fn read_part(
-    file: &[u8],
-    coords: &mut [i32],
-    corners: &mut [u32],
-    heights: &mut [i32],
-) -> Result<Part, Refusal> {
+pub fn read_part(file: &[u8], part: &mut Part<'_>) -> Result<PartCounts, Refusal> {
+    let Part {
+        coords,
+        corners,
+        heights,
+    } = part;
     let mut reader = Reader::new(file);
     let vertices = reader.plain()? as usize;
     let triangles = reader.plain()? as usize;
@@ -34,7 +34,7 @@ pub fn read_part(
     )?;
     fill(first_corner, &mut corners[..3 * triangles], Reader::plain)?;
     fill(first_height, &mut heights[..height_count], Reader::signed)?;
-    Ok(Part {
+    Ok(PartCounts {
         vertices,
         triangles,
         heights: height_count,
@@ -68,15 +68,20 @@ mod tests {
     use oracle::encode_part;
     use std::collections::BTreeSet;
 
-    type Read = fn(&[u8], &mut [i32], &mut [u32], &mut [i32]) -> Result<Part, Refusal>;
+    type Read = fn(&[u8], &mut Part) -> Result<PartCounts, Refusal>;
 
     /// The answer, and what it leaves in coords, corners and heights.
-    type Outcome = (Result<Part, Refusal>, Vec<i32>, Vec<u32>, Vec<i32>);
+    type Outcome = (Result<PartCounts, Refusal>, Vec<i32>, Vec<u32>, Vec<i32>);
 
     fn run(read: Read, file: &[u8]) -> Outcome {
         let (mut coords, mut corners) = (vec![-7; 300], vec![7; 600]);
         let mut heights = vec![-9; 5];
-        let answer = read(file, &mut coords, &mut corners, &mut heights);
+        let mut part = Part {
+            coords: &mut coords,
+            corners: &mut corners,
+            heights: &mut heights,
+        };
+        let answer = read(file, &mut part);
         (answer, coords, corners, heights)
     }
 

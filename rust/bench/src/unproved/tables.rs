@@ -1,6 +1,8 @@
 //! The tests that several operations make of their tables.
 
-use wadroles::{LayerTables, Refusal, MAX_COORDINATE, MAX_TRIANGLES, MAX_VERTICES};
+use wadroles::{
+    CutTables, Mesh, OrderedMesh, PairedMesh, Refusal, MAX_COORDINATE, MAX_TRIANGLES, MAX_VERTICES,
+};
 
 pub fn refuse<T>(number: u32, place: usize) -> Result<T, Refusal> {
     Err(Refusal {
@@ -17,7 +19,8 @@ fn refuse_first<T>(number: u32, table: &[T], wrong: impl Fn(&T) -> bool) -> Resu
     }
 }
 
-pub fn test_sizes(coords: &[i32], corners: &[u32]) -> Result<(), Refusal> {
+pub fn test_sizes(mesh: Mesh<'_>) -> Result<(), Refusal> {
+    let Mesh { coords, corners } = mesh;
     let whole = coords.len().is_multiple_of(3) && corners.len().is_multiple_of(3);
     let small = coords.len() <= 3 * MAX_VERTICES && corners.len() <= 3 * MAX_TRIANGLES;
     if whole && small {
@@ -28,7 +31,7 @@ pub fn test_sizes(coords: &[i32], corners: &[u32]) -> Result<(), Refusal> {
 }
 
 /// Refusal 9 of the tables of a layer.
-pub fn test_room(tables: &LayerTables<'_>, corners: usize) -> Result<(), Refusal> {
+pub fn test_room(tables: &CutTables<'_>, corners: usize) -> Result<(), Refusal> {
     let short = [&tables.names, &tables.ends, &tables.marks].map(|table| table.len() < corners);
     if short.contains(&true) || tables.points.len() < 2 * corners {
         return refuse(Refusal::ROOM, 0);
@@ -36,14 +39,25 @@ pub fn test_room(tables: &LayerTables<'_>, corners: usize) -> Result<(), Refusal
     Ok(())
 }
 
+/// The first entries of the tables of a layer, as many as so many corners need.
+pub fn front<'a>(tables: &'a mut CutTables<'_>, corners: usize) -> CutTables<'a> {
+    CutTables {
+        names: &mut tables.names[..corners],
+        points: &mut tables.points[..2 * corners],
+        ends: &mut tables.ends[..corners],
+        marks: &mut tables.marks[..corners],
+    }
+}
+
 pub fn test_range(numbers: &[i32]) -> Result<(), Refusal> {
     let range = -MAX_COORDINATE..=MAX_COORDINATE;
     refuse_first(Refusal::RANGE, numbers, |x| !range.contains(x))
 }
 
-pub fn test_values(coords: &[i32], corners: &[u32]) -> Result<(), Refusal> {
+pub fn test_values(mesh: Mesh<'_>) -> Result<(), Refusal> {
+    let Mesh { coords, corners } = mesh;
     test_range(coords)?;
-    let vertices = coords.len() / 3;
+    let vertices = mesh.vertices();
     refuse_first(Refusal::VERTEX, corners, |&v| v as usize >= vertices)?;
     let twice = |t: &[u32]| t[0] == t[1] || t[1] == t[2] || t[2] == t[0];
     match corners.chunks_exact(3).position(twice) {
@@ -52,7 +66,8 @@ pub fn test_values(coords: &[i32], corners: &[u32]) -> Result<(), Refusal> {
     }
 }
 
-pub fn test_pairing(corners: &[u32], pairing: &[u32]) -> Result<(), Refusal> {
+pub fn test_pairing(paired: PairedMesh<'_>) -> Result<(), Refusal> {
+    let (corners, pairing) = (paired.mesh.corners, paired.pairing);
     match (0..corners.len()).find(|&corner| !is_paired(corners, pairing, corner)) {
         Some(corner) => refuse(Refusal::PAIRING, corner),
         None => Ok(()),
@@ -70,8 +85,9 @@ fn is_paired(corners: &[u32], pairing: &[u32], corner: usize) -> bool {
         && pairing.get(pair) == Some(&(corner as u32))
 }
 
-pub fn test_order(coords: &[i32], order: &[u32]) -> Result<(), Refusal> {
-    let vertices = coords.len() / 3;
+pub fn test_order(ordered: OrderedMesh<'_>) -> Result<(), Refusal> {
+    let (mesh, order) = (ordered.paired.mesh, ordered.order);
+    let (coords, vertices) = (mesh.coords, mesh.vertices());
     let key = |vertex: u32| (coords[3 * vertex as usize + 2], vertex);
     let order = &order[..vertices.min(order.len())];
     let rises = |pair: &[u32]| key(pair[0]) < key(pair[1]);

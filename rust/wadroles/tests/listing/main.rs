@@ -12,6 +12,7 @@ use oracle::{encode_part, listing, Part};
 use program::{fails_without_input, run};
 use std::collections::BTreeMap;
 use std::env;
+use std::io::{self, Write};
 
 const DEFAULT_SEED: u64 = 20_250_101;
 const ROUNDS: u64 = 600;
@@ -190,10 +191,15 @@ fn random_file(random: &mut Random) -> Vec<u8> {
     file
 }
 
+/// Prints a line past the capture of test output, so that the log of every run has it.
+fn report(line: &str) {
+    writeln!(io::stderr(), "{line}").expect("the error output takes a line");
+}
+
 #[test]
 fn random_parts_are_listed_as_the_oracle_lists_them() {
     let seed = env::var("WADROLES_SEED").map_or(DEFAULT_SEED, |text| text.parse().expect("a seed"));
-    println!("listing: seed {seed}, {ROUNDS} rounds");
+    report(&format!("listing: seed {seed}, {ROUNDS} rounds"));
     let mut met: BTreeMap<String, u64> = BTreeMap::new();
     for round in 0..ROUNDS {
         let file = random_file(&mut Random::of_round(seed, round));
@@ -204,7 +210,7 @@ fn random_parts_are_listed_as_the_oracle_lists_them() {
             .take(if text.starts_with('r') { 2 } else { 1 });
         *met.entry(key.collect::<Vec<_>>().join(" ")).or_default() += 1;
     }
-    println!("{met:?}");
+    report(&format!("listing: {met:?}"));
     for answer in ["layers", "refused 1", "refused 12", "refused 13"] {
         assert!(
             met.get(answer).is_some_and(|&count| count > 5),

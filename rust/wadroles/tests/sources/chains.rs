@@ -54,7 +54,7 @@ fn is_named(before: &[Word<'_>], after: &[Word<'_>]) -> bool {
         [.., (above, _), (line, _), (_, from), (_, "="), (_, first)] if from == first => {
             above < line && after.is_empty()
         }
-        [.., (above, _), (line, _), (_, "="), (_, _)] => above < line,
+        [.., (above, _), (line, _), (_, "="), (_, _)] => above < line && after.is_empty(),
         _ => false,
     }
 }
@@ -107,6 +107,8 @@ abbrev startOf : tie.After-f -> tie.Start
 startOf at = at .before .before .before .before .before
 
 add-c c = c .before .before .before .before .before .inv
+
+held = c .before .before .before .before .before .ok
 ";
-    assert_eq!(long_chains(text), [(5, 5), (6, 5), (14, 5)]);
+    assert_eq!(long_chains(text), [(5, 5), (6, 5), (14, 5), (16, 5)]);
 }

@@ -10,13 +10,13 @@ use crate::tree;
 
 /// The crates whose top module has the operations, and the public functions that are there at least.
 const OPERATIONS: [(&str, &[&str]); 9] = [
-    ("checker", &["check"]),
+    ("check_mesh", &["check"]),
     ("contours", &["area", "contour"]),
-    ("cutter", &["cut"]),
-    ("filing", &["all_layers"]),
-    ("lister", &["list"]),
-    ("parts", &["read_part"]),
-    ("reader", &["read_layer"]),
+    ("cut", &["cut"]),
+    ("all_layers", &["all_layers"]),
+    ("list_part", &["list"]),
+    ("read_part", &["read_part"]),
+    ("read_layer", &["read_layer"]),
     ("sweep", &["start", "step", "layer"]),
     (
         "wadroles",

@@ -22,7 +22,7 @@ fn uses_of_laws(text: &str) -> Vec<(usize, &str)> {
 }
 
 /// Whether a path is that of a file of definitions.
-fn is_definition_file(path: &str) -> bool {
+pub fn is_definition_file(path: &str) -> bool {
     let name = path.rsplit('/').next().expect("a name");
     path.contains("/specs/") && !name.ends_with("Laws.antt") && !name.starts_with("Worked")
 }
@@ -69,7 +69,7 @@ fn uses_of_laws_are_seen() {
 -- Internal: see AreaLaws.
 use mir.ValLaws.{toZ-ofZ}
 use Rattle.mesh.specs.Tests.{size}
-unfoldable pub use Rattle.formats.specs.PositionLaws.{ParsedAt}
+unfoldable pub use Rattle.file_formats.specs.PositionLaws.{ParsedAt}
 -- use Rattle.mesh.specs.TestLaws.{Paired}
 ghost use Rattle.mesh.specs.OperationLaws.{Nowhere};
 pub mod AreaLaws
@@ -81,6 +81,6 @@ pub mod AreaLaws
     assert!(opens_as_internal(text));
     assert!(is_definition_file("crates/mesh/specs/Tests.antt"));
     assert!(!is_definition_file("crates/mesh/specs/TestLaws.antt"));
-    assert!(!is_definition_file("crates/cutter/specs/Worked.antt"));
-    assert!(!is_definition_file("crates/cutter/proofs/cut/Proof.antt"));
+    assert!(!is_definition_file("crates/cut/specs/Worked.antt"));
+    assert!(!is_definition_file("crates/cut/proofs/cut/Proof.antt"));
 }

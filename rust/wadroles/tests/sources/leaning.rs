@@ -4,10 +4,18 @@ use crate::tree;
 use std::collections::{BTreeMap, BTreeSet};
 
 const CUTTING: [&str; 10] = [
-    "section", "tracer", "points", "cutter", "contours", "sweep", "active", "rounds", "layers",
-    "filing",
+    "section",
+    "cut_trace",
+    "cut_points",
+    "cut",
+    "contours",
+    "sweep",
+    "all_active",
+    "all_contours",
+    "all_sweep",
+    "all_layers",
 ];
-const CHECKING: [&str; 3] = ["checker", "pairing", "order"];
+const CHECKING: [&str; 3] = ["check_mesh", "check_pairing", "check_order"];
 
 type Leaning<'a> = BTreeMap<&'a str, Vec<&'a str>>;
 
@@ -61,9 +69,13 @@ fn cutting_leans_on_no_checking() {
 
 #[test]
 fn leaning_through_another_is_seen() {
-    let text = "# names\nmesh:\norder: mesh\nchecker: mesh order\ntracer: mesh order\nsection: mesh\nfiling: section tracer\n";
+    let text = "# names\nmesh:\ncheck_order: mesh\ncheck_mesh: mesh check_order\ncut_trace: mesh check_order\n\
+                section: mesh\nall_layers: section cut_trace\n";
     assert_eq!(
         faults(text),
-        ["tracer leans on order", "filing leans on order"]
+        [
+            "cut_trace leans on check_order",
+            "all_layers leans on check_order"
+        ]
     );
 }

@@ -1,9 +1,13 @@
-//! Checks of the sources: what the prover does not ask of contracts, of `crates.txt` and of the
-//! text of proofs. They read the repository that this package lies in and call nothing.
+//! Checks of the sources and documents: what the prover does not ask of contracts, modules, names,
+//! `crates.txt`, the text of proofs, and what the documents cite. They read the repository that
+//! this package lies in and call nothing.
 
 mod chains;
 mod contracts;
 mod definitions;
+mod documents;
 mod leaning;
 mod lines;
+mod modules;
+mod names;
 mod tree;

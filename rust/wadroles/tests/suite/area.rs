@@ -1,32 +1,20 @@
-//! Area: cases worked by hand, limits, random points against the oracle, and the C function.
+//! Area: cases worked by hand, limits, and random points against the oracle.
 
-use crate::pointers::{pointer, written, UNTOUCHED};
-use crate::runs::rounds;
-use crate::tally::Tally;
+use crate::harness::{
+    assert_answer, assert_common_faults_noticed, assert_noticed, test_product, Answer, Case, Fault,
+    Operation, Rounds,
+};
+use crate::operations::Area;
 use meshes::Random;
-use std::cell::RefCell;
-use wadroles::raw::wadroles_area;
 use wadroles::{contour, MAX_POINTS};
 
 /// The farthest a coordinate may be from zero.
 const M: i32 = 1_048_576;
 
-/// The doubled area, or the number and the place of a refusal.
-type Answer = Result<i64, (u32, u64)>;
-
-fn library(points: &[i32]) -> Answer {
-    wadroles::area(points).map_err(|r| (r.number, r.place))
-}
-
-fn oracle(points: &[i32]) -> Answer {
-    oracle::area(points).map_err(|r| (r.number, r.place))
-}
-
-/// Asserts that library and oracle agree on this answer.
+/// Asserts that product and oracle agree on this answer.
 #[track_caller]
-fn assert_area(points: &[i32], answer: Answer) {
-    assert_eq!(oracle(points), answer);
-    assert_eq!(library(points), answer);
+fn assert_area(points: &[i32], answer: Answer<i64>) {
+    assert_answer(&Case::<Area>::exact(points.to_vec()), answer);
 }
 
 #[test]
@@ -57,9 +45,9 @@ fn equal_neighbours_and_the_start_do_not_matter() {
 #[test]
 fn a_part_from_the_middle_of_a_table_is_taken() {
     let points = [9, 9, 1, 1, 3, 1, 3, 2, 1, 2, -7, -7];
-    assert_eq!(library(contour(&points, &[1, 5, 6], 1)), Ok(4));
-    assert_eq!(library(contour(&points, &[1, 5, 6], 0)), Ok(0));
-    assert_eq!(library(contour(&points, &[1, 5, 6], 3)), Ok(0));
+    for (j, doubled) in [(1, 4), (0, 0), (3, 0)] {
+        assert_eq!(wadroles::area(contour(&points, &[1, 5, 6], j)), Ok(doubled));
+    }
 }
 
 #[test]
@@ -147,68 +135,71 @@ fn random_number(wild: bool, random: &mut Random) -> i32 {
     }
 }
 
+/// Points that are in range as a rule.
+fn random_points(random: &mut Random) -> Vec<i32> {
+    let wild = random.one_in(4);
+    let length = match random.below(16) {
+        0 => random.below(40),
+        _ => 2 * random.below(20),
+    };
+    (0..length).map(|_| random_number(wild, random)).collect()
+}
+
 #[test]
 fn random_points_against_the_oracle() {
-    let tally = RefCell::new(Tally::default());
-    let share = rounds("area, random points", 1, |random| {
-        let wild = random.one_in(4);
-        let length = match random.below(16) {
-            0 => random.below(40),
-            _ => 2 * random.below(20),
-        };
-        let points: Vec<i32> = (0..length).map(|_| random_number(wild, random)).collect();
-        let answer = library(&points);
-        assert_eq!(answer, oracle(&points), "{points:?}");
-        tally
-            .borrow_mut()
-            .add(answer.err().map_or(0, |(number, _)| number));
-        answer.is_ok_and(|area| area != 0)
+    let tally = test_product::<Area>("random points", 1, random_points);
+    tally.require(&[0], 100);
+    tally.require_refusals(Area::REFUSALS, 100);
+}
+
+#[test]
+fn most_random_points_have_an_area() {
+    let share = Rounds::one_in(100, "area, of random points").share(|random| {
+        let points = random_points(random);
+        wadroles::area(&points).is_ok_and(|doubled| doubled != 0)
     });
-    tally.borrow().require(&[0, 1, 2], 100);
     assert!(share > 0.5, "too few areas");
+}
+
+/// As many points as there may be, or nearly so, or too many.
+fn long_run(random: &mut Random) -> Vec<i32> {
+    let wild = random.one_in(2);
+    let length = 2 * (MAX_POINTS - random.below(3)) + random.choose(&[0, 0, 0, 1, 2, 4]);
+    let mut points: Vec<i32> = (0..length).map(|_| random.within(-M..=M)).collect();
+    if wild {
+        let position = random.below(points.len());
+        points[position] = random.choose(&[i32::MIN, -M - 1, M + 1]);
+    }
+    points
 }
 
 #[test]
 fn long_runs_of_random_points_against_the_oracle() {
-    let share = rounds("area, long runs", 5000, |random| {
-        let wild = random.one_in(2);
-        let length = 2 * (MAX_POINTS - random.below(3)) + random.choose(&[0, 0, 0, 1, 2, 4]);
-        let mut points: Vec<i32> = (0..length).map(|_| random.within(-M..=M)).collect();
-        if wild {
-            let position = random.below(points.len());
-            points[position] = random.choose(&[i32::MIN, -M - 1, M + 1]);
+    let tally = test_product::<Area>("long runs", 5_000, long_run);
+    assert!(tally.share(0) > 0.1, "too few areas");
+}
+
+fn turned_round(points: &Vec<i32>, (): &mut ()) -> Answer<i64> {
+    Area::oracle(points, &mut ()).map(|doubled| -doubled)
+}
+
+fn not_closed(points: &Vec<i32>, (): &mut ()) -> Answer<i64> {
+    let doubled = Area::oracle(points, &mut ())?;
+    match points[..] {
+        [x, y, .., last_x, last_y] => {
+            let [x, y, last_x, last_y] = [x, y, last_x, last_y].map(i64::from);
+            Ok(doubled - (last_x * y - x * last_y))
         }
-        let answer = library(&points);
-        assert_eq!(answer, oracle(&points));
-        answer.is_ok()
-    });
-    assert!(share > 0.1, "too few areas");
-}
-
-/// What the C function returns and leaves in the words of output.
-fn call(points: &[i32]) -> (u32, [u64; 4]) {
-    let before = points.to_vec();
-    let mut out = UNTOUCHED;
-    // SAFETY: the length is that of the slice, and `out` has 4 entries.
-    let number = unsafe { wadroles_area(pointer(points), points.len(), out.as_mut_ptr()) };
-    assert_eq!(points, before);
-    (number, out)
+        _ => Ok(doubled),
+    }
 }
 
 #[test]
-fn the_area_is_written_as_twos_complement_and_the_other_words_left() {
-    assert_eq!(call(&[5, 0, 0, 5, 0, 0]), (0, written([25])));
-    let negative = u64::MAX - 24;
-    assert_eq!(call(&[0, 0, 0, 5, 5, 0]), (0, written([negative])));
-}
-
-#[test]
-fn a_refusal_writes_its_place_and_leaves_the_other_words() {
-    assert_eq!(call(&[1, 2, 3]), (1, written([0])));
-    assert_eq!(call(&[1, 2, 3, M + 1]), (2, written([3])));
-}
-
-#[test]
-fn an_empty_table_may_be_null() {
-    assert_eq!(call(&[]), (0, written([0])));
+fn faults_are_noticed() {
+    let faults: [Fault<Area>; 2] = [
+        ("turned round", turned_round, "answer Ok("),
+        ("not closed", not_closed, "answer Ok("),
+    ];
+    assert_noticed::<Area>(1_000, random_points, &faults);
+    assert_common_faults_noticed::<Area>(1_000, random_points);
 }

@@ -1,22 +1,22 @@
-//! Contour j: cases worked by hand, random ends against the oracle, and the C function.
+//! Contour j: cases worked by hand, and random ends against the oracle.
 
-use crate::pointers::{pointer, written, UNTOUCHED};
-use crate::runs::rounds;
+use crate::harness::{
+    assert_answer, assert_noticed, test_product, Answer, Case, Fault, Operation, Rounds,
+};
+use crate::operations::{Contour, Ends};
 use meshes::Random;
 use wadroles::contour;
-use wadroles::raw::wadroles_contour;
 
 /// Points that differ everywhere, so that a part shows where it comes from.
 fn points(length: usize) -> Vec<i32> {
     (0..length as i32).map(|i| 100 - i).collect()
 }
 
-/// Asserts that the library gives these elements of the points, and the oracle too.
+/// Asserts that the product gives these elements of the points, and the oracle too.
 #[track_caller]
 fn assert_part(length: usize, ends: &[u32], j: usize, part: std::ops::Range<usize>) {
-    let points = points(length);
-    assert_eq!(oracle::contour(&points, ends, j), &points[part.clone()]);
-    assert_eq!(contour(&points, ends, j), &points[part]);
+    let case = Case::<Contour>::exact(Ends::new(&points(length), ends, j));
+    assert_answer(&case, Ok((part.start, part.len())));
 }
 
 #[test]
@@ -96,66 +96,60 @@ fn random_end(most: usize, random: &mut Random) -> u32 {
     }
 }
 
+/// Points, with ends that rise half of the times, and mostly the number of one of them.
+fn random_ends(random: &mut Random) -> Ends {
+    let points = points(random.below(30));
+    let mut ends: Vec<u32> = (0..random.below(8))
+        .map(|_| random_end(points.len() / 2, random))
+        .collect();
+    if random.one_in(2) {
+        ends.sort();
+    }
+    let j = match random.below(16) {
+        0 => random.word() as usize,
+        _ => random.below(ends.len() + 2),
+    };
+    Ends { points, ends, j }
+}
+
 #[test]
 fn random_ends_against_the_oracle() {
-    let share = rounds("contour, random ends", 1, |random| {
-        let points = points(random.below(30));
-        let mut ends: Vec<u32> = (0..random.below(8))
-            .map(|_| random_end(points.len() / 2, random))
-            .collect();
-        if random.one_in(2) {
-            ends.sort();
-        }
-        let j = match random.below(16) {
-            0 => random.word() as usize,
-            _ => random.below(ends.len() + 2),
-        };
-        let part = contour(&points, &ends, j);
-        assert_eq!(part, oracle::contour(&points, &ends, j), "{ends:?}, {j}");
-        !part.is_empty()
+    test_product::<Contour>("random ends", 1, random_ends).require(&[0], 100);
+    let share = Rounds::one_in(100, "contour, with points").share(|random| {
+        let Ends { points, ends, j } = random_ends(random);
+        !contour(&points, &ends, j).is_empty()
     });
     assert!(share > 0.1, "too few contours have points");
 }
 
-/// What the C function returns and leaves in the words of output.
-fn call(points: &[i32], ends: &[u32], j: usize) -> (u32, [u64; 4]) {
-    let before = (points.to_vec(), ends.to_vec());
-    let mut out = UNTOUCHED;
-    // SAFETY: the lengths are those of the slices, and `out` has 4 entries.
-    let number = unsafe {
-        wadroles_contour(
-            pointer(points),
-            points.len(),
-            pointer(ends),
-            ends.len(),
-            j,
-            out.as_mut_ptr(),
-        )
+type Part = Answer<(usize, usize)>;
+
+fn last_point_dropped(input: &Ends, (): &mut ()) -> Part {
+    let (first, length) = Contour::oracle(input, &mut ())?;
+    Ok((first, length.saturating_sub(2)))
+}
+
+fn last_end_of_all_taken(input: &Ends, (): &mut ()) -> Part {
+    let last = input.ends.len().saturating_sub(1);
+    let within = Ends {
+        j: input.j.min(last),
+        ..input.clone()
     };
-    assert_eq!((points, ends), (&before.0[..], &before.1[..]));
-    (number, out)
+    Contour::oracle(&within, &mut ())
+}
+
+fn falling_ends_exchanged(input: &Ends, (): &mut ()) -> Part {
+    let mut sorted = input.clone();
+    sorted.ends.sort();
+    Contour::oracle(&sorted, &mut ())
 }
 
 #[test]
-fn position_and_length_are_written_and_the_other_words_left() {
-    let (points, ends) = (points(20), [3, 7, 7, 2, 10]);
-    for (j, words) in [
-        (0, [0, 6]),
-        (1, [6, 8]),
-        (2, [0, 0]),
-        (3, [0, 0]),
-        (4, [4, 16]),
-        (5, [0, 0]),
-        (usize::MAX, [0, 0]),
-    ] {
-        assert_eq!(call(&points, &ends, j), (0, written(words)), "{j}");
-    }
-}
-
-#[test]
-fn empty_tables_may_be_null() {
-    assert_eq!(call(&[], &[], 0), (0, written([0, 0])));
-    assert_eq!(call(&[1, 2], &[], 0), (0, written([0, 0])));
-    assert_eq!(call(&[], &[0, 1], 0), (0, written([0, 0])));
-    assert_eq!(call(&[], &[0, 1], 1), (0, written([0, 0])));
+fn faults_are_noticed() {
+    let faults: [Fault<Contour>; 3] = [
+        ("last point", last_point_dropped, "contour: answer Ok(("),
+        ("last end", last_end_of_all_taken, "not Ok((0, 0))"),
+        ("falling ends", falling_ends_exchanged, "answer Ok(("),
+    ];
+    assert_noticed::<Contour>(1_000, random_ends, &faults);
 }

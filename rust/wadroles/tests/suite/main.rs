@@ -1,4 +1,5 @@
-//! Tests of the library through its Rust wrapper, against the oracle and against worked cases.
+//! Tests of the library through its Rust wrapper and its C functions, against the oracle and against
+//! worked cases. All operations are tested by one [`harness`].
 //!
 //! Run them by `cargo test --release`. The random tests print their seed, and a failure names seed
 //! and round. The environment variable `WADROLES_SEED` gives another seed, and `WADROLES_ROUNDS`
@@ -6,17 +7,18 @@
 
 mod all_layers;
 mod area;
+mod c_functions;
 mod chains;
 mod check;
 mod contour;
 mod cut;
 mod examples;
+mod harness;
 mod header;
-mod lent;
-mod pointers;
+mod inputs;
+mod mesh_operations;
+mod operations;
 mod read_layer;
 mod read_part;
-mod runs;
 mod sweep;
-mod tally;
-mod variants;
+mod version;

@@ -1,9 +1,10 @@
 //! How long a layer file can be, by the bound of `docs/INTEGRATING.md`.
 
-use super::compare::{file, Given};
-use crate::cut::random_mesh;
-use crate::runs::rounds;
-use meshes::{random_pairing, rising_heights, vertex_order, Mesh};
+use super::file;
+use crate::harness::Rounds;
+use crate::inputs::random_mesh;
+use crate::operations::Given;
+use meshes::{rising_heights, Mesh};
 use oracle::decode_layers;
 
 /// The farthest a coordinate may be from zero.
@@ -16,27 +17,21 @@ fn most_bytes(points: impl Iterator<Item = usize>) -> usize {
 
 #[test]
 fn files_of_random_meshes() {
-    let share = rounds("all layers, bound", 500, |random| {
-        let mesh = random_mesh(random);
-        let given = Given {
-            pairing: random_pairing(&mesh, random),
-            order: vertex_order(&mesh),
-            heights: vec![0],
-            mesh,
-        };
-        let heights = rising_heights(&given.mesh, random);
-        let given = match heights.is_empty() {
-            true => given,
-            false => Given { heights, ..given },
-        };
-        let file = file(&given);
+    let share = Rounds::one_in(500, "all layers, bound").share(|random| {
+        let given = Given::paired(random_mesh(random), random);
+        let mut heights = rising_heights(&given.mesh, random);
+        if heights.is_empty() {
+            heights.push(0);
+        }
+        let triangles = given.mesh.triangle_count();
+        let file = file(given.over(&heights));
         let layers = decode_layers(&file).unwrap();
         let points: Vec<usize> = layers
             .iter()
             .map(|layer| layer.contours.iter().map(Vec::len).sum())
             .collect();
         let most = points.iter().max().copied().unwrap_or(0);
-        assert!(most <= given.mesh.triangle_count());
+        assert!(most <= triangles);
         assert!(file.len() <= most_bytes(points.into_iter()));
         most > 0
     });
@@ -58,10 +53,10 @@ fn the_bound_is_reached_but_for_two_bytes() {
         pairing: pairing.collect(),
         order: vec![0, 1, 2],
         heights: vec![M],
-        mesh,
+        ..Given::bare(mesh)
     };
     // One byte for the count of layers and not two, and four for the height and not five.
     let longest = most_bytes([65_536].into_iter());
     assert_eq!(longest, 557_066);
-    assert_eq!(file(&given).len(), longest - 2);
+    assert_eq!(file(given).len(), longest - 2);
 }

@@ -1,25 +1,20 @@
-//! The random comparison notices faults: each function here does what the oracle does but for one
-//! fault.
+//! Faults that the random rounds notice.
 
-use super::compare::{oracle, AllLayers, Answer, Given, Tables};
-use super::random::{perhaps_damaged, run_rounds};
-use crate::runs::Runs;
-use meshes::vertex_order;
+use super::random::perhaps_damaged;
+use crate::harness::{assert_common_faults_noticed, assert_noticed, Fault, Lent, Operation};
+use crate::operations::{AllLayers, FileTables, Given};
+use meshes::{vertex_order, Random};
 
-fn corners(given: &Given) -> usize {
-    given.mesh.corners.len()
+type Answer = crate::harness::Answer<usize>;
+
+fn oracle(given: &Given, tables: &mut FileTables) -> Answer {
+    AllLayers::oracle(given, tables)
 }
 
 /// With heights given where none are: the lowest z and a distance, and every so many after it.
-fn other_default(given: &Given, tables: &mut Tables, from: i64, each: usize) -> Answer {
-    let z: Vec<i32> = given
-        .mesh
-        .coords
-        .iter()
-        .skip(2)
-        .step_by(3)
-        .copied()
-        .collect();
+fn other_default(given: &Given, tables: &mut FileTables, from: i64, each: usize) -> Answer {
+    let coords = given.mesh.coords.iter();
+    let z: Vec<i32> = coords.skip(2).step_by(3).copied().collect();
     let (Some(&low), Some(&high)) = (z.iter().min(), z.iter().max()) else {
         return oracle(given, tables);
     };
@@ -28,22 +23,18 @@ fn other_default(given: &Given, tables: &mut Tables, from: i64, each: usize) -> 
     if !given.heights.is_empty() || heights.is_empty() {
         return oracle(given, tables);
     }
-    let other = Given {
-        heights,
-        ..given.clone()
-    };
-    oracle(&other, tables)
+    oracle(&given.clone().over(&heights), tables)
 }
 
-fn default_from_the_lowest(given: &Given, tables: &mut Tables) -> Answer {
+fn default_from_the_lowest(given: &Given, tables: &mut FileTables) -> Answer {
     other_default(given, tables, 0, 100)
 }
 
-fn default_each_50(given: &Given, tables: &mut Tables) -> Answer {
+fn default_each_50(given: &Given, tables: &mut FileTables) -> Answer {
     other_default(given, tables, 50, 50)
 }
 
-fn order_not_tested(given: &Given, tables: &mut Tables) -> Answer {
+fn order_not_tested(given: &Given, tables: &mut FileTables) -> Answer {
     let ordered = Given {
         order: vertex_order(&given.mesh),
         ..given.clone()
@@ -51,13 +42,10 @@ fn order_not_tested(given: &Given, tables: &mut Tables) -> Answer {
     oracle(&ordered, tables)
 }
 
-fn equal_heights_taken_once(given: &Given, tables: &mut Tables) -> Answer {
+fn equal_heights_taken_once(given: &Given, tables: &mut FileTables) -> Answer {
     let mut heights = given.heights.clone();
     heights.dedup();
-    let other = Given {
-        heights,
-        ..given.clone()
-    };
+    let other = given.clone().over(&heights);
     let before = tables.clone();
     match oracle(given, tables) {
         Err((12, place)) => oracle(&other, tables).map_err(|_| {
@@ -68,14 +56,7 @@ fn equal_heights_taken_once(given: &Given, tables: &mut Tables) -> Answer {
     }
 }
 
-fn place_of_the_forerunner(given: &Given, tables: &mut Tables) -> Answer {
-    oracle(given, tables).map_err(|(number, place)| match number {
-        12 => (12, place - 1),
-        _ => (number, place),
-    })
-}
-
-fn vertex_on_the_plane_passed(given: &Given, tables: &mut Tables) -> Answer {
+fn vertex_on_the_plane_passed(given: &Given, tables: &mut FileTables) -> Answer {
     let before = tables.clone();
     let length = oracle(given, tables)?;
     let mut other = given.clone();
@@ -90,25 +71,25 @@ fn vertex_on_the_plane_passed(given: &Given, tables: &mut Tables) -> Answer {
     })
 }
 
-fn last_byte_left(given: &Given, tables: &mut Tables) -> Answer {
+fn last_byte_left(given: &Given, tables: &mut FileTables) -> Answer {
     let before = tables.output.clone();
     let length = oracle(given, tables)?;
     tables.output.table()[length - 1] = before.view()[length - 1];
     Ok(length)
 }
 
-fn output_cleared_past_the_file(given: &Given, tables: &mut Tables) -> Answer {
+fn output_cleared_past_the_file(given: &Given, tables: &mut FileTables) -> Answer {
     let length = oracle(given, tables)?;
     tables.output.table()[length..].fill(0);
     Ok(length)
 }
 
-fn length_of_the_output(given: &Given, tables: &mut Tables) -> Answer {
+fn length_of_the_output(given: &Given, tables: &mut FileTables) -> Answer {
     oracle(given, tables)?;
     Ok(tables.output.view().len())
 }
 
-fn written_before_14(given: &Given, tables: &mut Tables) -> Answer {
+fn written_before_14(given: &Given, tables: &mut FileTables) -> Answer {
     let answer = oracle(given, tables);
     if answer == Err((14, 0)) {
         if let Some(first) = tables.output.table().first_mut() {
@@ -118,7 +99,7 @@ fn written_before_14(given: &Given, tables: &mut Tables) -> Answer {
     answer
 }
 
-fn one_byte_more_asked_for(given: &Given, tables: &mut Tables) -> Answer {
+fn one_byte_more_asked_for(given: &Given, tables: &mut FileTables) -> Answer {
     let before = tables.output.clone();
     let length = oracle(given, tables)?;
     if length == tables.output.view().len() {
@@ -128,13 +109,13 @@ fn one_byte_more_asked_for(given: &Given, tables: &mut Tables) -> Answer {
     Ok(length)
 }
 
-fn ring_left_at_the_top(given: &Given, tables: &mut Tables) -> Answer {
+fn ring_left_at_the_top(given: &Given, tables: &mut FileTables) -> Answer {
     let length = oracle(given, tables)?;
-    tables.ring.table()[..corners(given)].fill(u32::MAX);
+    tables.work.ring.table()[..given.corners()].fill(u32::MAX);
     Ok(length)
 }
 
-fn work_left_after_14(given: &Given, tables: &mut Tables) -> Answer {
+fn work_left_after_14(given: &Given, tables: &mut FileTables) -> Answer {
     let before = tables.clone();
     let answer = oracle(given, tables);
     if answer == Err((14, 0)) {
@@ -143,43 +124,29 @@ fn work_left_after_14(given: &Given, tables: &mut Tables) -> Answer {
     answer
 }
 
-fn half_of_points_cleared(given: &Given, tables: &mut Tables) -> Answer {
-    let before = tables.layer.points.clone();
+fn half_of_points_cleared(given: &Given, tables: &mut FileTables) -> Answer {
+    let before = tables.work.cut.points.clone();
     let length = oracle(given, tables)?;
-    let corners = corners(given);
+    let corners = given.corners();
     let kept = &before.view()[corners..2 * corners];
-    tables.layer.points.table()[corners..2 * corners].copy_from_slice(kept);
+    tables.work.cut.points.table()[corners..2 * corners].copy_from_slice(kept);
     Ok(length)
 }
 
-fn work_cleared_before_12(given: &Given, tables: &mut Tables) -> Answer {
+fn ring_not_asked_for(given: &Given, tables: &mut FileTables) -> Answer {
     let answer = oracle(given, tables);
-    if matches!(answer, Err((12, _))) {
-        tables.layer.marks.table()[..corners(given)].fill(0);
-    }
-    answer
-}
-
-fn surplus_cleared(given: &Given, tables: &mut Tables) -> Answer {
-    let length = oracle(given, tables)?;
-    tables.layer.names.table().fill(0);
-    Ok(length)
-}
-
-fn ring_not_asked_for(given: &Given, tables: &mut Tables) -> Answer {
-    let answer = oracle(given, tables);
-    let short = tables.ring.view().len() < corners(given);
+    let short = tables.work.ring.view().len() < given.corners();
     if answer == Err((9, 0)) && short {
-        let ring = tables.ring.clone();
-        tables.ring = crate::lent::Lent::new(corners(given), &mut meshes::Random::new(1));
+        let ring = tables.work.ring.clone();
+        tables.work.ring = Lent::new(given.corners(), &mut Random::new(1));
         let answer = oracle(given, tables);
-        tables.ring = ring;
+        tables.work.ring = ring;
         return answer;
     }
     answer
 }
 
-fn most_heights_lowered(given: &Given, tables: &mut Tables) -> Answer {
+fn most_heights_lowered(given: &Given, tables: &mut FileTables) -> Answer {
     let before = tables.clone();
     let answer = oracle(given, tables);
     if given.heights.len() > 40 && given.heights.len() <= 4_096 {
@@ -189,67 +156,35 @@ fn most_heights_lowered(given: &Given, tables: &mut Tables) -> Answer {
     answer
 }
 
-fn most_heights_raised(given: &Given, tables: &mut Tables) -> Answer {
+fn most_heights_raised(given: &Given, tables: &mut FileTables) -> Answer {
     let answer = oracle(given, tables);
     if answer == Err((1, 0)) && given.heights.len() > 4_096 {
-        let fewer = Given {
-            heights: given.heights[..4_096].to_vec(),
-            ..given.clone()
-        };
-        return oracle(&fewer, tables);
+        let fewer = &given.heights[..4_096];
+        return oracle(&given.clone().over(fewer), tables);
     }
     answer
 }
 
 #[test]
 fn faults_are_noticed() {
-    let faulty: [(&str, AllLayers, &str); 19] = [
+    let faults: [Fault<AllLayers>; 16] = [
         ("from the lowest", default_from_the_lowest, "answer Ok("),
         ("each 50", default_each_50, "answer "),
         ("order", order_not_tested, "not Err((8, "),
         ("equal heights", equal_heights_taken_once, "not Err((12, "),
-        ("forerunner", place_of_the_forerunner, "answer Err((12, "),
         ("plane", vertex_on_the_plane_passed, "answer "),
         ("last byte", last_byte_left, "but output entry"),
-        (
-            "past the file",
-            output_cleared_past_the_file,
-            "output entry",
-        ),
+        ("past", output_cleared_past_the_file, "output entry"),
         ("length", length_of_the_output, "answer Ok("),
         ("before 14", written_before_14, "but output entry"),
-        (
-            "one byte more",
-            one_byte_more_asked_for,
-            "answer Err((14, 0))",
-        ),
-        ("ring left", ring_left_at_the_top, "but ring entry"),
+        ("byte more", one_byte_more_asked_for, "answer Err((14, 0))"),
+        ("ring left", ring_left_at_the_top, "ring entry"),
         ("work left", work_left_after_14, "answer Err((14, 0)), but"),
-        ("half of points", half_of_points_cleared, "but points entry"),
-        ("before 12", work_cleared_before_12, "but marks entry"),
-        ("surplus", surplus_cleared, "but names entry"),
+        ("half of points", half_of_points_cleared, "points entry"),
         ("ring not asked", ring_not_asked_for, "not Err((9, 0))"),
         ("lowered", most_heights_lowered, "answer Err((1, 0)), not"),
         ("raised", most_heights_raised, "not Err((1, 0))"),
     ];
-    let runs = Runs {
-        seed: 1,
-        rounds: 2000,
-    };
-    for (name, all_layers, words) in faulty {
-        match run_rounds(all_layers, runs, perhaps_damaged) {
-            Ok(_) => panic!("{name}: not noticed"),
-            Err(failure) => assert!(failure.contains(words), "{name}: {failure}"),
-        }
-    }
-}
-
-#[test]
-fn a_failure_names_seed_and_round() {
-    let runs = Runs {
-        seed: 42,
-        rounds: 2000,
-    };
-    let failure = run_rounds(last_byte_left, runs, perhaps_damaged).err();
-    assert!(failure.unwrap().starts_with("seed 42, round "));
+    assert_noticed::<AllLayers>(2_000, perhaps_damaged, &faults);
+    assert_common_faults_noticed::<AllLayers>(2_000, perhaps_damaged);
 }

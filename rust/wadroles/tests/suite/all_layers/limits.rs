@@ -1,25 +1,21 @@
-//! Meshes at the limits: counts that pass and one above, the most layers, the most points.
+//! The largest meshes, the most layers, the most points.
 
-use super::compare::{assert_answer, compare, file, library, Case, Given};
-use meshes::shapes::{bipyramid, cuboid, torus};
-use meshes::{Mesh, Random};
-
-/// `p` and `q` are both even.
-fn largest_torus() -> Mesh {
-    torus(128, 256, 700_000, 300_000)
-}
+use super::file;
+use crate::inputs::largest_torus;
+use crate::operations::Given;
+use meshes::shapes::{bipyramid, cuboid};
+use meshes::Random;
 
 #[test]
 fn the_largest_mesh_is_swept() {
     let heights = [-300_001, -299_999, -5, 5, 123_456, 300_000, 300_001];
     let mut mesh = largest_torus();
-    compare(&Case::exact(Given::new(mesh.clone(), &heights)), library)
-        .unwrap()
-        .unwrap();
+    let as_made = file(Given::new(mesh.clone()).over(&heights));
     mesh.shuffle(&mut Random::new(1));
-    compare(&Case::exact(Given::new(mesh, &heights)), library)
-        .unwrap()
-        .unwrap();
+    let shuffled = file(Given::new(mesh).over(&heights));
+    for file in [as_made, shuffled] {
+        assert!(file.len() > 5 * 512, "{}", file.len());
+    }
 }
 
 #[test]
@@ -29,14 +25,14 @@ fn every_triangle_may_be_crossed() {
         let (i, j) = (vertex / 256, vertex % 256);
         *z = if (i + j) % 2 == 0 { -7 } else { 7 };
     }
-    let file = file(&Given::new(mesh, &[-7, -6, 0, 7, 8]));
+    let file = file(Given::new(mesh).over(&[-7, -6, 0, 7, 8]));
     assert!(file.len() > 3 * 65_536, "{}", file.len());
 }
 
 #[test]
 fn the_longest_contour_of_a_double_cone() {
     let mesh = bipyramid(32_766, 1_000_000, 1_000_000);
-    let file = file(&Given::new(mesh, &[-400_000, 0, 400_000]));
+    let file = file(Given::new(mesh).over(&[-400_000, 0, 400_000]));
     assert!(file.len() > 3 * 32_766, "{}", file.len());
 }
 
@@ -44,19 +40,9 @@ fn the_longest_contour_of_a_double_cone() {
 fn the_most_layers_with_contours() {
     let heights: Vec<i32> = (1..=4_096).collect();
     let mesh = cuboid([-9, -9, 0], [9, 9, 5_000]);
-    let file = file(&Given::new(mesh, &heights));
+    let file = file(Given::new(mesh).over(&heights));
     // Eight points of two bytes, their count, and the height; and one count of contours.
     let height = |h: i32| if h < 64 { 1 } else { 2 };
     let layers: usize = heights.iter().map(|&h| height(h) + 1 + 1 + 16).sum();
     assert_eq!(file.len(), 2 + layers);
-}
-
-#[test]
-fn one_vertex_or_triangle_too_many_is_refused() {
-    let mut more_vertices = largest_torus();
-    more_vertices.coords.extend([0; 3]);
-    assert_answer(&Case::exact(Given::new(more_vertices, &[5])), Err((1, 0)));
-    let mut more_triangles = largest_torus();
-    more_triangles.corners.extend([0, 1, 2]);
-    assert_answer(&Case::exact(Given::new(more_triangles, &[5])), Err((1, 0)));
 }

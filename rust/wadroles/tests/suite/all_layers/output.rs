@@ -1,12 +1,13 @@
 //! Outputs of every length around that of the file, and what is left in the work tables.
 
-use super::compare::{assert_answer, compare, library, Case, Given, Tables};
-use super::worked::{part_p, FILE_P};
-use crate::cut::{random_mesh, LayerTables};
-use crate::lent::{Entry, Lent};
-use crate::runs::rounds;
+use super::with_output;
+use crate::harness::{agree, assert_answer, number, Entry, Lent, Operation, Rounds, Tables};
+use crate::inputs::{part_p, random_mesh, LAYER_FILE_P};
+use crate::operations::{AllLayers, Given, WorkTables};
+use meshes::rising_heights;
 use meshes::shapes::torus;
-use meshes::{rising_heights, Random};
+
+type Case = crate::harness::Case<AllLayers>;
 
 /// Whether a table is zero in so many entries, and all else in it is as before.
 fn is_zero<T: Entry + From<u8>>(after: &Lent<T>, before: &Lent<T>, needed: usize) -> bool {
@@ -17,22 +18,22 @@ fn is_zero<T: Entry + From<u8>>(after: &Lent<T>, before: &Lent<T>, needed: usize
 
 /// Asserts that the work tables are zero in exactly the entries asked for.
 #[track_caller]
-fn assert_work_is_zero(after: &Tables, before: &Tables, corners: usize) {
-    let (layer, old) = (&after.layer, &before.layer);
-    assert!(is_zero(&layer.names, &old.names, corners), "names");
-    assert!(is_zero(&layer.points, &old.points, 2 * corners), "points");
-    assert!(is_zero(&layer.ends, &old.ends, corners), "ends");
-    assert!(is_zero(&layer.marks, &old.marks, corners), "marks");
+fn assert_work_is_zero(after: &WorkTables, before: &WorkTables, corners: usize) {
+    let (cut, old) = (&after.cut, &before.cut);
+    assert!(is_zero(&cut.names, &old.names, corners), "names");
+    assert!(is_zero(&cut.points, &old.points, 2 * corners), "points");
+    assert!(is_zero(&cut.ends, &old.ends, corners), "ends");
+    assert!(is_zero(&cut.marks, &old.marks, corners), "marks");
     assert!(is_zero(&after.ring, &before.ring, corners), "ring");
 }
 
-/// Runs the library over an output of so many bytes, and asks of the whole output and of the work
-/// tables what document 01 says of them, without the oracle.
+/// Runs the product over an output of so many bytes, and asks of the whole output and of the work
+/// tables what the specification says of them, without the oracle.
 #[track_caller]
 fn assert_output(case: &Case, length: usize, file: &[u8]) {
-    let before = case.clone().with_output(length);
+    let before = with_output(case.clone(), length);
     let mut after = before.clone();
-    let answer = after.run(library);
+    let answer = after.run(AllLayers::product);
     let mut output = before.tables.output.clone();
     if length < file.len() {
         assert_eq!(answer, Err((14, 0)), "length {length}");
@@ -41,34 +42,33 @@ fn assert_output(case: &Case, length: usize, file: &[u8]) {
         output.table()[..file.len()].copy_from_slice(file);
     }
     assert_eq!(after.tables.output.difference(&output), None);
-    let corners = case.given.mesh.corners.len();
-    assert_work_is_zero(&after.tables, &before.tables, corners);
+    let corners = case.input.corners();
+    assert_work_is_zero(&after.tables.work, &before.tables.work, corners);
 }
 
 #[test]
 fn every_length_of_output_for_part_p() {
     let case = Case::exact(part_p());
     for length in 0..60 {
-        assert_output(&case, length, &FILE_P);
+        assert_output(&case, length, &LAYER_FILE_P);
         let answer = if length < 23 { Err((14, 0)) } else { Ok(23) };
-        assert_answer(&case.clone().with_output(length), answer);
+        assert_answer(&with_output(case.clone(), length), answer);
     }
 }
 
 #[test]
 fn lengths_of_output_around_that_of_any_file() {
-    let share = rounds("all layers, output", 250, |random| {
+    let share = Rounds::one_in(250, "all layers, output").share(|random| {
         let mesh = random_mesh(random);
         let heights = rising_heights(&mesh, random);
-        let mut case = Case::exact(Given::new(mesh, &heights));
-        if let Err(refusal) = case.run(library) {
+        let mut case = Case::exact(Given::new(mesh).over(&heights));
+        if let Err(refusal) = case.run(AllLayers::product) {
             assert_eq!(refusal, (1, 0), "the default of a tall mesh");
             return false;
         }
         let file = case.tables.output.view().to_vec();
-        let (length, corners) = (file.len(), case.given.mesh.corners.len());
-        case.tables.layer = LayerTables::long(corners, random);
-        case.tables.ring = Lent::long(corners, random);
+        let length = file.len();
+        let case = Case::long(case.input, random);
         let near = [length.saturating_sub(2), length - 1, length, length + 1];
         let between = [(); 3].map(|()| random.below(length));
         for length in near.into_iter().chain(between).chain([0, 1, length + 2]) {
@@ -83,10 +83,9 @@ fn lengths_of_output_around_that_of_any_file() {
 fn a_longer_file_is_written_whole_or_not_at_all() {
     let mesh = torus(24, 18, 700_000, 300_000);
     let heights: Vec<i32> = (-30..30).map(|k| 10_007 * k).collect();
-    let case = Case::exact(Given::new(mesh, &heights));
-    compare(&case, library).unwrap().unwrap();
+    let case = Case::exact(Given::new(mesh).over(&heights));
     let mut written = case.clone();
-    let length = written.run(library).unwrap();
+    let length = agree(&mut written).unwrap();
     assert!(length > 10_000, "{length}");
     let file = written.tables.output.view();
     for length in [0, 1, 2, length / 2, length - 2, length - 1, length] {
@@ -100,27 +99,25 @@ fn a_longer_file_is_written_whole_or_not_at_all() {
 #[test]
 fn refusals_but_14_leave_the_work_tables() {
     let refusals: [fn(&mut Case); 10] = [
-        |case| case.given.mesh.coords.push(0),
-        |case| case.given.heights = (0..4_097).collect(),
-        |case| case.tables.ring = case.tables.ring.shortened(11),
-        |case| case.tables.layer.ends = case.tables.layer.ends.shortened(11),
-        |case| case.given.mesh.coords[5] = 1_048_577,
-        |case| case.given.mesh.corners[4] = 4,
-        |case| case.given.mesh.corners[8] = 0,
-        |case| case.given.pairing[11] = 11,
-        |case| case.given.order.swap(1, 2),
-        |case| case.given.heights[3] = 10,
+        |case| case.input.mesh.coords.push(0),
+        |case| case.input.heights = (0..4_097).collect(),
+        |case| case.tables.shorten(4, 11),
+        |case| case.tables.shorten(2, 11),
+        |case| case.input.mesh.coords[5] = 1_048_577,
+        |case| case.input.mesh.corners[4] = 4,
+        |case| case.input.mesh.corners[8] = 0,
+        |case| case.input.pairing[11] = 11,
+        |case| case.input.order.swap(1, 2),
+        |case| case.input.heights[3] = 10,
     ];
     for spoil in refusals {
         for output in [0, 22, 23, 30] {
-            let mut before = Case::exact(part_p()).with_output(output);
-            before.tables.ring = Lent::new(15, &mut Random::new(5));
+            let mut before = Case::lent(part_p(), [12, 24, 12, 12, 15, output]);
             spoil(&mut before);
             let mut after = before.clone();
-            let (number, _) = after.run(library).unwrap_err();
-            assert_ne!(number, 14);
+            let number = number(&agree(&mut after));
+            assert!(number != 0 && number != 14, "{number}");
             assert_eq!(after.tables.difference(&before.tables), None);
-            compare(&before, library).unwrap().unwrap_err();
         }
     }
 }

@@ -1,12 +1,13 @@
-//! What document 01 says of every file, asked of the library: it holds, byte by byte, the layers
+//! What the specification says of every file, asked of the product: it holds, byte by byte, the layers
 //! that single cuts give, and they are read back. Of the oracle only its encoder has a part in it.
 
-use super::compare::{library, Case, Given};
-use crate::cut::{contours, random_mesh};
-use crate::runs::rounds;
-use meshes::{random_pairing, rising_heights, vertex_order, Random};
+use crate::cut::contours;
+use crate::harness::{Case, Operation, Rounds};
+use crate::inputs::random_mesh;
+use crate::operations::{AllLayers, Given};
+use meshes::{rising_heights, Random};
 use oracle::{encode_layers, FileLayer};
-use wadroles::{contour, read_layer};
+use wadroles::{contour, read_layer, FlatLayer};
 
 /// The heights that All layers takes by default, one by one.
 fn default_heights(z: &[i32]) -> Vec<i32> {
@@ -22,21 +23,21 @@ fn default_heights(z: &[i32]) -> Vec<i32> {
     heights
 }
 
-/// The layers that the library cuts at each height by itself.
+/// The layers that the product cuts at each height by itself.
 fn single_cuts(given: &Given, heights: &[i32]) -> Vec<FileLayer> {
     heights
         .iter()
         .map(|&height| FileLayer {
             height,
-            contours: contours(&given.mesh, &given.pairing, height),
+            contours: contours(given, height),
         })
         .collect()
 }
 
-/// The file that the library writes.
+/// The file that the product writes.
 fn file(given: &Given) -> Vec<u8> {
-    let mut case = Case::exact(given.clone());
-    let length = case.run(library).unwrap();
+    let mut case = Case::<AllLayers>::exact(given.clone());
+    let length = case.run(AllLayers::product).unwrap();
     assert_eq!(length, case.tables.output.view().len());
     case.tables.output.view().to_vec()
 }
@@ -53,23 +54,12 @@ fn random_given(random: &mut Random) -> Given {
     if heights.is_empty() && default_heights(&z).len() > 100 {
         heights.push(z[0]);
     }
-    Given {
-        pairing: random_pairing(&mesh, random),
-        order: vertex_order(&mesh),
-        heights,
-        mesh,
-    }
+    Given::paired(mesh, random).over(&heights)
 }
 
 fn heights_taken(given: &Given) -> Vec<i32> {
-    let z: Vec<i32> = given
-        .mesh
-        .coords
-        .iter()
-        .skip(2)
-        .step_by(3)
-        .copied()
-        .collect();
+    let coords = given.mesh.coords.iter();
+    let z: Vec<i32> = coords.skip(2).step_by(3).copied().collect();
     match given.heights.as_slice() {
         [] => default_heights(&z),
         heights => heights.to_vec(),
@@ -78,7 +68,7 @@ fn heights_taken(given: &Given) -> Vec<i32> {
 
 #[test]
 fn the_file_is_that_of_single_cuts() {
-    let share = rounds("all layers, single cuts", 50, |random| {
+    let share = Rounds::one_in(50, "all layers, single cuts").share(|random| {
         let given = random_given(random);
         let layers = single_cuts(&given, &heights_taken(&given));
         assert_eq!(file(&given), encode_layers(&layers));
@@ -89,18 +79,22 @@ fn the_file_is_that_of_single_cuts() {
 
 #[test]
 fn the_layers_are_read_back() {
-    let share = rounds("all layers, read back", 250, |random| {
+    let share = Rounds::one_in(250, "all layers, read back").share(|random| {
         let given = random_given(random);
         let heights = heights_taken(&given);
         let layers = single_cuts(&given, &heights);
         let file = file(&given);
-        let room = given.mesh.corners.len();
+        let room = given.corners();
         for (i, layer) in layers.iter().enumerate() {
             let (mut points, mut ends) = (vec![0; 2 * room], vec![0; room]);
-            let read = read_layer(&file, i, &mut points, &mut ends).unwrap();
+            let mut tables = FlatLayer {
+                points: &mut points,
+                ends: &mut ends,
+            };
+            let read = read_layer(&file, i, &mut tables).unwrap();
             assert_eq!((read.layers, read.height), (heights.len(), heights[i]));
-            let ends = &ends[..read.contours];
-            let contours = (0..read.contours).map(|j| {
+            let ends = &ends[..read.counts.contours];
+            let contours = (0..ends.len()).map(|j| {
                 let part = contour(&points, ends, j).chunks(2);
                 part.map(|p| [p[0], p[1]]).collect::<Vec<_>>()
             });

@@ -1,77 +1,11 @@
 //! Random meshes, tables and heights, right and damaged, against the oracle.
 
-use super::compare::{compare, library, number, AllLayers, Case, Given};
-use crate::cut::random_mesh;
-use crate::runs::{report, Runs};
-use crate::tally::Tally;
-use meshes::{
-    large_mesh, random_height, random_pairing, rising_heights, vertex_order, Damage, Mesh,
-    OrderDamage, PairingDamage, Random,
-};
-use std::thread;
+use crate::harness::{test_product, test_threads, Operation};
+use crate::inputs::{by_default, damage_mesh, paired, right};
+use crate::operations::{AllLayers, Given};
+use meshes::{large_mesh, random_height, OrderDamage, PairingDamage, Random};
 
-/// Compares `all_layers` with the oracle on a random case per round, until they differ.
-pub fn run_rounds(
-    all_layers: AllLayers,
-    runs: Runs,
-    random_given: fn(&mut Random) -> Given,
-) -> Result<Tally, String> {
-    let mut tally = Tally::default();
-    for round in 0..runs.rounds {
-        let mut random = Random::of_round(runs.seed, round);
-        let given = random_given(&mut random);
-        let case = Case::random(given, &mut random);
-        match compare(&case, all_layers) {
-            Ok(answer) => tally.add(number(answer)),
-            Err(difference) => {
-                return Err(format!("seed {}, round {round}: {difference}", runs.seed))
-            }
-        }
-    }
-    Ok(tally)
-}
-
-/// Runs the library through the rounds and reports seed and tally.
-fn test_library(name: &str, runs: Runs, random_given: fn(&mut Random) -> Given) -> Tally {
-    let Runs { seed, rounds } = runs;
-    report(format!("all layers, {name}: seed {seed}, {rounds} rounds"));
-    let tally = run_rounds(library, runs, random_given)
-        .unwrap_or_else(|failure| panic!("all layers, {name}: {failure}"));
-    report(format!("all layers, {name}: {tally}"));
-    tally
-}
-
-/// A mesh with its pairing, order and heights, all right.
-fn right(random: &mut Random) -> Given {
-    let mesh = random_mesh(random);
-    let heights = rising_heights(&mesh, random);
-    paired(mesh, heights, random)
-}
-
-fn paired(mesh: Mesh, heights: Vec<i32>, random: &mut Random) -> Given {
-    let mut given = Given {
-        pairing: random_pairing(&mesh, random),
-        order: vertex_order(&mesh),
-        heights,
-        mesh,
-    };
-    if random.one_in(4) {
-        given.pairing.extend([random.word() as u32; 3]);
-        given.order.extend([random.word() as u32; 2]);
-    }
-    given
-}
-
-/// A mesh whose default has a few heights.
-fn by_default(random: &mut Random) -> Given {
-    let mut mesh = random_mesh(random);
-    let reach = random.choose(&[20, 60, 200, 1_000]);
-    let heights = mesh.coords.iter_mut().skip(2).step_by(3);
-    heights.for_each(|z| *z = random.within(-reach..=reach));
-    paired(mesh, Vec::new(), random)
-}
-
-/// Of all these nothing, something or two things are damaged.
+/// Of mesh, pairing, order and heights nothing, something or two things are damaged.
 pub fn perhaps_damaged(random: &mut Random) -> Given {
     let mut given = if random.one_in(3) {
         by_default(random)
@@ -85,25 +19,14 @@ pub fn perhaps_damaged(random: &mut Random) -> Given {
 }
 
 fn damage(given: &mut Given, random: &mut Random) {
-    let Given {
-        mesh,
-        pairing,
-        order,
-        heights,
-    } = given;
     match random.below(4) {
-        0 => {
-            Damage::any(random).apply(mesh, random);
-            if random.one_in(2) {
-                *order = vertex_order(mesh);
-            }
-        }
-        1 => PairingDamage::any(random).apply(mesh, pairing, random),
-        2 => OrderDamage::any(random).apply(mesh, order, random),
-        _ if heights.is_empty() => *heights = vec![5; 2 + random.below(5_000)],
+        0 => damage_mesh(given, random),
+        1 => PairingDamage::any(random).apply(&given.mesh, &mut given.pairing, random),
+        2 => OrderDamage::any(random).apply(&given.mesh, &mut given.order, random),
+        _ if given.heights.is_empty() => given.heights = vec![5; 2 + random.below(5_000)],
         _ => {
-            let place = random.below(heights.len());
-            heights[place] = random_height(mesh, random);
+            let place = random.below(given.heights.len());
+            given.heights[place] = random_height(&given.mesh, random);
         }
     }
 }
@@ -114,45 +37,36 @@ fn near_the_limits(random: &mut Random) -> Given {
     let mut heights = [(); 3].map(|()| random_height(&mesh, random)).to_vec();
     heights.sort();
     heights.dedup();
-    paired(mesh, heights, random)
+    paired(mesh, random).over(&heights)
 }
 
 #[test]
 fn right_meshes() {
-    let runs = Runs::from_environment().one_in(100);
-    let tally = test_library("right meshes", runs, right);
+    let tally = test_product::<AllLayers>("right meshes", 100, right);
     tally.require(&[0, 1, 9, 14], 20);
 }
 
 #[test]
 fn default_heights() {
-    let runs = Runs::from_environment().one_in(50);
-    let tally = test_library("default heights", runs, by_default);
+    let tally = test_product::<AllLayers>("default heights", 50, by_default);
     tally.require(&[0, 9, 14], 20);
 }
 
 #[test]
 fn meshes_and_tables_right_and_damaged() {
-    let runs = Runs::from_environment().one_in(50);
-    let tally = test_library("right and damaged", runs, perhaps_damaged);
-    tally.require(&[0, 1, 9, 2, 3, 4, 7, 8, 12, 14], 10);
+    let tally = test_product::<AllLayers>("right and damaged", 50, perhaps_damaged);
+    tally.require(&[0], 10);
+    tally.require_refusals(AllLayers::REFUSALS, 10);
+    tally.require_places(12);
     assert_eq!(tally.count(16), 0);
 }
 
 #[test]
 fn meshes_near_the_limits() {
-    let runs = Runs::from_environment().one_in(100_000);
-    test_library("near the limits", runs, near_the_limits);
+    test_product::<AllLayers>("near the limits", 100_000, near_the_limits);
 }
 
 #[test]
 fn several_threads_at_once() {
-    let runs = Runs::from_environment().one_in(2000);
-    thread::scope(|scope| {
-        for thread in 0..4 {
-            let seed = runs.seed.wrapping_add(thread);
-            let runs = Runs { seed, ..runs };
-            scope.spawn(move || test_library("one of four threads", runs, perhaps_damaged));
-        }
-    });
+    test_threads::<AllLayers>(2_000, perhaps_damaged);
 }

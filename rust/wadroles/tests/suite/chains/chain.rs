@@ -1,37 +1,35 @@
-use super::operations::Operations;
-use super::tallies::Tallies;
-use crate::all_layers::compare::{self as all_layers, Given};
-use crate::check::compare as check;
-use crate::cut::{compare as cut, random_mesh, LayerTables};
-use crate::lent::Lent;
-use crate::read_layer::compare as read_layer;
-use crate::read_part::compare as read_part;
-use crate::runs::Runs;
-use crate::sweep::compare::{self as sweep, Call};
-use crate::sweep::spoil;
+use super::inputs::{random_calls, random_part};
+use crate::harness::{
+    compare_version, long, Answer, Case, Lent, Operation, Rounds, Tallies, Version,
+};
+use crate::operations::{
+    AllLayers, Area, Check, Contour, Cut, Ends, Given, LayerFile, ReadLayer, ReadPart, Versions,
+    WorkTables,
+};
+use crate::sweep::{random_cut_tables, spoil, Call, Swept};
+use files::Damage as FileDamage;
 use meshes::{
-    random_height, random_pairing, rising_heights, vertex_order, Damage, Mesh, OrderDamage,
-    PairingDamage, Random,
+    random_height, random_pairing, vertex_order, Damage, Mesh, OrderDamage, PairingDamage, Random,
 };
 use oracle::{encode_part, Part};
 
-/// Compares the operations with the oracle on a random chain per round, until they differ.
-pub fn run_rounds(operations: &Operations, runs: Runs) -> Result<Tallies, String> {
+/// Compares versions of all operations with the oracle on a random chain per round, until they
+/// differ.
+pub fn compare_chains(rounds: &Rounds, versions: Versions) -> Result<Tallies, String> {
     let mut tallies = Tallies::default();
-    for round in 0..runs.rounds {
+    rounds.each(|random| {
         let mut chain = Chain {
-            operations,
-            random: &mut Random::of_round(runs.seed, round),
+            versions,
+            random,
             tallies: &mut tallies,
         };
-        let done = chain.run();
-        done.map_err(|difference| format!("seed {}, round {round}: {difference}", runs.seed))?;
-    }
+        chain.run()
+    })?;
     Ok(tallies)
 }
 
 struct Chain<'a> {
-    operations: &'a Operations,
+    versions: Versions,
     random: &'a mut Random,
     tallies: &'a mut Tallies,
 }
@@ -42,7 +40,7 @@ impl Chain<'_> {
         let given = self.check(part)?;
         for _ in 0..3 {
             let height = random_height(&given.mesh, self.random);
-            self.cut(&given, height)?;
+            self.cut(given.clone().at(height))?;
         }
         self.sweep(&given)?;
         match self.all_layers(&given)? {
@@ -51,20 +49,17 @@ impl Chain<'_> {
         }
     }
 
-    /// Notes an answer on which both agree, or says in which operation they differ.
-    fn note<T>(
+    /// Makes a call with tables that are mostly long enough, and notes its answer. What it leaves is
+    /// in the case.
+    fn call<O: Operation>(
         &mut self,
-        operation: &'static str,
-        answer: Result<Result<T, (u32, u64)>, String>,
-    ) -> Result<(), String> {
-        match answer {
-            Ok(answer) => {
-                let number = answer.err().map_or(0, |(number, _)| number);
-                self.tallies.add(operation, number);
-                Ok(())
-            }
-            Err(difference) => Err(format!("{operation}: {difference}")),
-        }
+        input: O::Input,
+        version: Version<O>,
+    ) -> Result<(Answer<O::Values>, Case<O>), String> {
+        let mut case = Case::random(input, self.random);
+        let answer = compare_version(&mut case, version)?;
+        self.tallies.add(O::NAME, &answer);
+        Ok((answer, case))
     }
 
     /// Reads the file of a random part, now and then a damaged one. Where it is refused, the chain
@@ -73,12 +68,10 @@ impl Chain<'_> {
         let part = random_part(self.random);
         let mut file = encode_part(&part);
         if self.random.one_in(4) {
-            files::Damage::any(self.random).apply(&mut file, self.random);
+            FileDamage::any(self.random).apply(&mut file, self.random);
         }
-        let mut case = read_part::Case::random(file, self.random);
-        let answer = read_part::compare(&case, self.operations.read_part);
-        self.note("read part", answer)?;
-        Ok(match case.run(self.operations.read_part) {
+        let (answer, case) = self.call::<ReadPart>(file, self.versions.read_part)?;
+        Ok(match answer {
             Ok((vertices, triangles, heights)) => Part {
                 coords: case.tables.coords.view()[..3 * vertices].to_vec(),
                 corners: case.tables.corners.view()[..3 * triangles].to_vec(),
@@ -97,46 +90,35 @@ impl Chain<'_> {
         if self.random.one_in(4) {
             Damage::any(self.random).apply(&mut mesh, self.random);
         }
-        let mut case = check::Case::random(mesh, self.random);
-        let answer = check::compare(&case, self.operations.check);
-        self.note("check", answer)?;
-        let (mut pairing, mut order) = match case.run(self.operations.check) {
-            Ok(()) => (case.pairing.view().to_vec(), case.order.view().to_vec()),
+        let (answer, case) = self.call::<Check>(Given::bare(mesh), self.versions.check)?;
+        let (mut given, made) = (case.input.over(&part.heights), case.tables);
+        (given.pairing, given.order) = match answer {
+            Ok(()) => (made.pairing.view().to_vec(), made.order.view().to_vec()),
             Err(_) => (
-                random_pairing(&case.mesh, self.random),
-                vertex_order(&case.mesh),
+                random_pairing(&given.mesh, self.random),
+                vertex_order(&given.mesh),
             ),
         };
-        let mesh = case.mesh;
         if self.random.one_in(8) {
-            PairingDamage::any(self.random).apply(&mesh, &mut pairing, self.random);
+            PairingDamage::any(self.random).apply(&given.mesh, &mut given.pairing, self.random);
         }
         if self.random.one_in(8) {
-            OrderDamage::any(self.random).apply(&mesh, &mut order, self.random);
+            OrderDamage::any(self.random).apply(&given.mesh, &mut given.order, self.random);
         }
-        Ok(Given {
-            mesh,
-            pairing,
-            order,
-            heights: part.heights,
-        })
+        Ok(given)
     }
 
-    /// Cuts at a height, and takes the contours out of the layer.
-    fn cut(&mut self, given: &Given, height: i32) -> Result<(), String> {
-        let mut case = cut::Case::random(cut_at(given, height), self.random);
-        let answer = cut::compare(&case, self.operations.cut);
-        self.note("cut", answer)?;
-        if let Ok((contours, points)) = case.run(self.operations.cut) {
+    /// Cuts at a height, takes the contours out of the layer, and measures them.
+    fn cut(&mut self, given: Given) -> Result<(), String> {
+        let (answer, case) = self.call::<Cut>(given, self.versions.cut)?;
+        if let Ok((contours, points)) = answer {
             let points = &case.tables.points.view()[..2 * points];
             let ends = &case.tables.ends.view()[..contours];
             for j in 0..=contours {
-                let part = (self.operations.contour)(points, ends, j);
-                let expected = oracle::contour(points, ends, j);
-                if part != expected {
-                    return Err(format!("contour {j}: {part:?}, not {expected:?}"));
-                }
-                self.area(part)?;
+                let input = Ends::new(points, ends, j);
+                let (part, _) = self.call::<Contour>(input, self.versions.contour)?;
+                let (first, length) = part.expect("contour has no refusals");
+                self.area(&points[first..first + length])?;
             }
         }
         Ok(())
@@ -144,77 +126,59 @@ impl Chain<'_> {
 
     /// Measures a contour, and now and then a run of points that is none.
     fn area(&mut self, contour: &[i32]) -> Result<(), String> {
-        self.area_of(contour)?;
+        let _answer = self.call::<Area>(contour.to_vec(), self.versions.area)?;
         if self.random.one_in(8) {
             let mut points = contour.to_vec();
-            match points.first_mut() {
-                Some(x) if self.random.one_in(2) => *x = self.random.word() as i32,
-                _ => points.push(0),
+            if points.is_empty() || self.random.one_in(2) {
+                points.push(0);
+            } else {
+                let place = self.random.below(points.len());
+                points[place] = self.random.word() as i32;
             }
-            self.area_of(&points)?;
+            let _answer = self.call::<Area>(points, self.versions.area)?;
         }
         Ok(())
-    }
-
-    fn area_of(&mut self, points: &[i32]) -> Result<(), String> {
-        let answer = (self.operations.area)(points);
-        let expected = oracle::area(points).map_err(|r| (r.number, r.place));
-        let agreed = match answer == expected {
-            true => Ok(answer),
-            false => Err(format!("answer {answer:?}, not {expected:?}")),
-        };
-        self.note("area", agreed)
     }
 
     /// Starts a sweep, and goes on by steps and rises. Some of the calls get something wrong, on a
     /// copy.
     fn sweep(&mut self, given: &Given) -> Result<(), String> {
-        let corners = given.mesh.corners.len();
-        let mut case = sweep::Case {
-            given: sweep::Given {
-                mesh: given.mesh.clone(),
-                pairing: given.pairing.clone(),
-                order: given.order.clone(),
-                passed: 0,
-            },
-            tables: sweep::Tables {
-                ring: Lent::random(corners, self.random),
-                layer: LayerTables::long(corners, self.random),
-            },
-        };
-        self.call(&mut case, Call::Start)?;
+        let mut sweep = self.fresh_sweep(given);
+        sweep.call(Call::Start, &self.versions, self.tallies)?;
         for call in random_calls(&given.mesh, self.random) {
-            case.tables.layer = LayerTables::random(corners, self.random);
+            sweep.work.cut = random_cut_tables(given.corners(), self.random);
             if self.random.one_in(4) {
-                let mut copy = case.clone();
+                let mut copy = sweep.clone();
                 spoil(&mut copy, self.random);
-                self.call(&mut copy, call)?;
+                copy.call(call, &self.versions, self.tallies)?;
             } else {
-                self.call(&mut case, call)?;
+                sweep.call(call, &self.versions, self.tallies)?;
             }
         }
         Ok(())
     }
 
-    fn call(&mut self, case: &mut sweep::Case, call: Call) -> Result<(), String> {
-        let operation = match call {
-            Call::Start => "start",
-            Call::Step => "step",
-            Call::Layer(_) => "layer",
+    /// A sweep that has not started, with a ring table that is too short at times.
+    fn fresh_sweep(&mut self, given: &Given) -> Swept {
+        let corners = given.corners();
+        let length = match self.random.below(16) {
+            0 => self.random.below(corners + 1),
+            _ => long(corners, self.random),
         };
-        let answer = case.advance(self.operations.sweep, call);
-        self.note(operation, answer)
+        Swept {
+            given: given.clone(),
+            work: WorkTables {
+                cut: random_cut_tables(corners, self.random),
+                ring: Lent::new(length, self.random),
+            },
+        }
     }
 
     /// Writes the layer file, if it is not refused.
     fn all_layers(&mut self, given: &Given) -> Result<Option<Vec<u8>>, String> {
-        let mut case = all_layers::Case::random(given.clone(), self.random);
-        let answer = all_layers::compare(&case, self.operations.all_layers);
-        self.note("all layers", answer)?;
-        let length = case.run(self.operations.all_layers);
-        Ok(length
-            .ok()
-            .map(|length| case.tables.output.view()[..length].to_vec()))
+        let (length, case) = self.call::<AllLayers>(given.clone(), self.versions.all_layers)?;
+        let file = |length| case.tables.output.view()[..length].to_vec();
+        Ok(length.ok().map(file))
     }
 
     /// Reads some layers of the file, of which there may be none of that number, and then layers of
@@ -227,20 +191,17 @@ impl Chain<'_> {
         }
         for i in 0..2 {
             let mut damaged = file.to_vec();
-            files::Damage::any(self.random).apply(&mut damaged, self.random);
+            FileDamage::any(self.random).apply(&mut damaged, self.random);
             self.read_layer(&damaged, i)?;
         }
         Ok(())
     }
 
     /// A layer of a file, if it is not refused.
-    fn read_layer(&mut self, file: &[u8], i: usize) -> Result<Option<FileLayer>, String> {
-        let file = file.to_vec();
-        let mut case = read_layer::Case::random(read_layer::Given { file, i }, self.random);
-        let answer = read_layer::compare(&case, self.operations.read_layer);
-        self.note("read layer", answer)?;
-        let read = case.run(self.operations.read_layer).ok();
-        Ok(read.map(|(_, height, contours, points)| FileLayer {
+    fn read_layer(&mut self, file: &[u8], i: usize) -> Result<Option<FlatLayer>, String> {
+        let input = LayerFile::new(file, i);
+        let (answer, case) = self.call::<ReadLayer>(input, self.versions.read_layer)?;
+        Ok(answer.ok().map(|(_, height, contours, points)| FlatLayer {
             height,
             points: case.tables.points.view()[..2 * points].to_vec(),
             ends: case.tables.ends.view()[..contours].to_vec(),
@@ -248,13 +209,14 @@ impl Chain<'_> {
     }
 
     /// A layer that was read must be the one that a cut at its height gives.
-    fn compare_with_cut(&mut self, given: &Given, layer: &FileLayer) -> Result<(), String> {
+    fn compare_with_cut(&mut self, given: &Given, layer: &FlatLayer) -> Result<(), String> {
         let height = layer.height;
-        let mut case = cut::Case::exact(cut_at(given, height));
+        let mut case = Case::<Cut>::exact(given.clone().at(height));
+        let cut = self.versions.cut.unwrap_or(Cut::product);
         let (contours, points) = case
-            .run(self.operations.cut)
+            .run(cut)
             .map_err(|refusal| format!("cut at {height}: {refusal:?} after all layers"))?;
-        let cut = FileLayer {
+        let cut = FlatLayer {
             height,
             points: case.tables.points.view()[..2 * points].to_vec(),
             ends: case.tables.ends.view()[..contours].to_vec(),
@@ -268,52 +230,8 @@ impl Chain<'_> {
 
 /// A layer that was read from a file.
 #[derive(Debug, PartialEq, Eq)]
-struct FileLayer {
+struct FlatLayer {
     height: i32,
     points: Vec<i32>,
     ends: Vec<u32>,
-}
-
-fn cut_at(given: &Given, height: i32) -> cut::Given {
-    cut::Given {
-        mesh: given.mesh.clone(),
-        pairing: given.pairing.clone(),
-        height,
-    }
-}
-
-/// A part whose mesh has a right pairing, and whose heights rise, as a rule. At times it has no
-/// heights, and its default ones are few.
-fn random_part(random: &mut Random) -> Part {
-    let mut mesh = random_mesh(random);
-    let mut heights = rising_heights(&mesh, random);
-    if random.one_in(6) {
-        let z = mesh.coords.iter_mut().skip(2).step_by(3);
-        z.for_each(|z| *z = random.within(-300..=300));
-        heights.clear();
-    }
-    if random.one_in(8) && !heights.is_empty() {
-        let place = random.below(heights.len());
-        heights[place] = random_height(&mesh, random);
-    }
-    Part {
-        coords: mesh.coords,
-        corners: mesh.corners,
-        heights,
-    }
-}
-
-/// Some rises, to heights that rise as a rule, and some steps before each.
-fn random_calls(mesh: &Mesh, random: &mut Random) -> Vec<Call> {
-    let mut heights = rising_heights(mesh, random);
-    heights.truncate(4);
-    if random.one_in(4) {
-        heights.push(random_height(mesh, random));
-    }
-    let mut calls = Vec::new();
-    for height in heights {
-        calls.extend(vec![Call::Step; random.below(3)]);
-        calls.push(Call::Layer(height));
-    }
-    calls
 }

@@ -11,12 +11,13 @@
 
 mod chain;
 mod faults;
-mod operations;
-mod tallies;
+mod inputs;
 
-use crate::runs::{report, Runs, DEFAULT_ROUNDS};
-use chain::run_rounds;
-use operations::LIBRARY;
+use crate::harness::{report, Operation, Rounds, DEFAULT_ROUNDS};
+use crate::operations::{
+    AllLayers, Area, Check, Contour, Cut, Layer, ReadLayer, ReadPart, Start, Step, Versions,
+};
+use chain::compare_chains;
 
 /// Of so many rounds asked for one is a chain.
 const ONE_IN: u64 = 20;
@@ -24,35 +25,32 @@ const ONE_IN: u64 = 20;
 /// How often each operation must meet each of its refusals.
 const LEAST: u64 = 100;
 
-/// The operations and their refusals in document 01, but for 16. That one never arises: every
-/// operation that can answer it tests the pairing first, and with a right pairing no walk meets a
-/// used crossing.
-const REFUSALS: [(&str, &[u32]); 9] = [
-    ("read part", &[13, 9]),
-    ("check", &[1, 9, 2, 3, 4, 5, 6]),
-    ("cut", &[1, 9, 2, 3, 4, 7]),
-    ("area", &[1, 2]),
-    ("start", &[1, 9]),
-    ("step", &[1, 2, 3, 4, 7, 8, 10, 11]),
-    ("layer", &[1, 9, 2, 3, 4, 7, 8, 10, 11, 12]),
-    ("all layers", &[1, 9, 2, 3, 4, 7, 8, 12, 14]),
-    ("read layer", &[13, 15, 9]),
+/// The operations and their refusals.
+const OPERATIONS: [(&str, &[u32]); 10] = [
+    (ReadPart::NAME, ReadPart::REFUSALS),
+    (Check::NAME, Check::REFUSALS),
+    (Cut::NAME, Cut::REFUSALS),
+    (Contour::NAME, Contour::REFUSALS),
+    (Area::NAME, Area::REFUSALS),
+    (Start::NAME, Start::REFUSALS),
+    (Step::NAME, Step::REFUSALS),
+    (Layer::NAME, Layer::REFUSALS),
+    (AllLayers::NAME, AllLayers::REFUSALS),
+    (ReadLayer::NAME, ReadLayer::REFUSALS),
 ];
 
 #[test]
 fn chains_of_every_operation() {
-    let asked_for = Runs::from_environment();
-    let runs = asked_for.one_in(ONE_IN);
-    let Runs { seed, rounds } = runs;
-    report(format!("chains: seed {seed}, {rounds} rounds"));
-    let tallies = run_rounds(&LIBRARY, runs).unwrap_or_else(|failure| panic!("chains: {failure}"));
+    let rounds = Rounds::one_in(ONE_IN, "chains");
+    let tallies = compare_chains(&rounds, Versions::default())
+        .unwrap_or_else(|failure| panic!("chains: {failure}"));
 
-    for (operation, refusals) in REFUSALS {
+    for (operation, refusals) in OPERATIONS {
         let tally = tallies.of(operation);
         report(format!("chains, {operation}: {tally}"));
-        if asked_for.rounds >= DEFAULT_ROUNDS {
+        if Rounds::asked_for() >= DEFAULT_ROUNDS {
             tally.require(&[0], LEAST);
-            tally.require(refusals, LEAST);
+            tally.require_refusals(refusals, LEAST);
         }
         let others = (1..=16).filter(|number| !refusals.contains(number));
         others.for_each(|number| assert_eq!(tally.count(number), 0, "{operation}: {tally}"));

@@ -1,7 +1,7 @@
 //! Every corner table of a few triangles over a few vertices.
 
-use super::compare::{compare, library, number, Case};
-use crate::tally::Tally;
+use crate::harness::{agree, Case, Tally};
+use crate::operations::{Check, Given};
 use meshes::{Mesh, Triangle};
 
 /// All triangles over the names below `names`.
@@ -21,11 +21,8 @@ fn compare_all(points: &[[i32; 3]], choices: &[Triangle], count: u32, tally: &mu
     for sequence in 0..base.pow(count) {
         let digits = (0..count).map(|digit| sequence / base.pow(digit) % base);
         let triangles: Vec<Triangle> = digits.map(|digit| choices[digit]).collect();
-        let case = Case::exact(Mesh::new(points, &triangles));
-        match compare(&case, library) {
-            Ok(answer) => tally.add(number(answer)),
-            Err(difference) => panic!("{triangles:?}: {difference}"),
-        }
+        let given = Given::bare(Mesh::new(points, &triangles));
+        tally.add(&agree(&mut Case::<Check>::exact(given)));
     }
 }
 

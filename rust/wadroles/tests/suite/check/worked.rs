@@ -1,19 +1,20 @@
 //! Cases worked by hand.
 
-use super::compare::{assert_answer, library, Case};
-use meshes::shapes::{cuboid, octahedron, pillow, tetrahedron};
+use crate::harness::{agree, assert_answer, Case};
+use crate::inputs::{boxes_touching_along_an_edge, octahedra, part_p, PAIRING_P};
+use crate::operations::{Check, Given};
+use meshes::shapes::pillow;
 use meshes::Mesh;
 
-/// Part P of document 01.
-fn part_p() -> Mesh {
-    tetrahedron(10)
+fn exact(mesh: Mesh) -> Case<Check> {
+    Case::exact(Given::bare(mesh))
 }
 
 /// Part P after a change, with tables as long as needed.
-fn changed(change: impl FnOnce(&mut Mesh)) -> Case {
-    let mut mesh = part_p();
+fn changed(change: impl FnOnce(&mut Mesh)) -> Case<Check> {
+    let mut mesh = part_p().mesh;
     change(&mut mesh);
-    Case::exact(mesh)
+    exact(mesh)
 }
 
 /// Vertices at these heights, and no triangles.
@@ -22,33 +23,27 @@ fn vertices_at(heights: &[i32]) -> Mesh {
     Mesh::new(&points, &[])
 }
 
-fn joined(mut mesh: Mesh, other: &Mesh) -> Mesh {
-    mesh.join(other);
-    mesh
-}
-
-/// Pairing and order as the library writes them.
+/// Pairing and order as the product writes them.
 fn written(mesh: Mesh) -> (Vec<u32>, Vec<u32>) {
-    let mut case = Case::exact(mesh);
-    assert_answer(&case, Ok(()));
-    case.run(library).unwrap();
-    (case.pairing.table().to_vec(), case.order.table().to_vec())
+    let mut case = exact(mesh);
+    assert_eq!(agree(&mut case), Ok(()));
+    let tables = case.tables;
+    (tables.pairing.view().to_vec(), tables.order.view().to_vec())
 }
 
 #[test]
 fn part_p_is_paired_as_in_the_document() {
-    let (pairing, order) = written(part_p());
-    assert_eq!(pairing, [8, 9, 3, 2, 11, 6, 5, 10, 0, 1, 7, 4]);
+    let (pairing, order) = written(part_p().mesh);
+    assert_eq!(pairing, PAIRING_P);
     assert_eq!(order, [0, 1, 2, 3]);
 }
 
 #[test]
 fn part_p_without_triangle_3_is_open() {
     let mut case = changed(|p| p.remove_triangle(3));
-    assert_answer(&case, Err((6, 1)));
-    case.run(library).unwrap_err();
-    assert_eq!(case.pairing.table(), [0; 9]);
-    assert_eq!(case.order.table(), [0; 4]);
+    assert_eq!(agree(&mut case), Err((6, 1)));
+    assert_eq!(case.tables.pairing.view(), [0; 9]);
+    assert_eq!(case.tables.order.view(), [0; 4]);
 }
 
 #[test]
@@ -60,8 +55,9 @@ fn the_least_closed_mesh_is_paired() {
 
 #[test]
 fn none_of_either_passes() {
-    assert_answer(&Case::exact(Mesh::default()), Ok(()));
-    assert_answer(&Case::new(Mesh::default(), 4, 5), Ok(()));
+    assert_answer(&exact(Mesh::default()), Ok(()));
+    let longer = Case::<Check>::lent(Given::default(), [4, 5]);
+    assert_answer(&longer, Ok(()));
 }
 
 #[test]
@@ -80,68 +76,16 @@ fn only_z_orders_the_vertices() {
 }
 
 #[test]
-fn triangles_without_vertices_name_none() {
-    assert_answer(&changed(|p| p.coords.clear()), Err((3, 0)));
-}
-
-#[test]
-fn lengths_that_are_no_multiple_of_three_are_refused() {
-    for extra in 1..3 {
-        let extended = changed(|p| p.coords.extend(vec![0; extra]));
-        assert_answer(&extended, Err((1, 0)));
-        let extended = changed(|p| p.corners.extend(vec![0; extra]));
-        assert_answer(&extended, Err((1, 0)));
-        assert_answer(&changed(|p| p.coords.truncate(extra)), Err((1, 0)));
-        assert_answer(&changed(|p| p.corners.truncate(extra)), Err((1, 0)));
-    }
-}
-
-#[test]
 fn tables_need_an_entry_per_corner_and_per_vertex() {
-    let lent = |pairing, order| Case::new(part_p(), pairing, order);
-    for (pairing, order) in [(11, 4), (12, 3), (11, 3), (0, 4), (12, 0), (0, 0), (4, 12)] {
-        assert_answer(&lent(pairing, order), Err((9, 0)));
+    let lent = |lengths: [usize; 2]| Case::<Check>::lent(part_p(), lengths);
+    for lengths in [[11, 4], [12, 3], [11, 3], [0, 4], [12, 0], [0, 0], [4, 12]] {
+        assert_answer(&lent(lengths), Err((9, 0)));
     }
-    for (pairing, order) in [(12, 4), (13, 4), (12, 5), (40, 40)] {
-        assert_answer(&lent(pairing, order), Ok(()));
+    for lengths in [[12, 4], [13, 4], [12, 5], [40, 40]] {
+        assert_answer(&lent(lengths), Ok(()));
     }
-    assert_answer(&Case::new(vertices_at(&[0]), 9, 0), Err((9, 0)));
-}
-
-#[test]
-fn coordinates_pass_up_to_the_limit_at_every_position() {
-    for position in 0..12 {
-        for value in [-1_048_576, 1_048_576] {
-            assert_answer(&changed(|p| p.coords[position] = value), Ok(()));
-        }
-        for value in [i32::MIN, -1_048_577, 1_048_577, i32::MAX] {
-            let case = changed(|p| p.coords[position] = value);
-            assert_answer(&case, Err((2, position as u64)));
-        }
-    }
-}
-
-#[test]
-fn every_corner_must_name_a_vertex() {
-    for corner in 0..12 {
-        for name in [4, 5, 32_768, 65_536, 1 << 31, u32::MAX] {
-            let case = changed(|p| p.corners[corner] = name);
-            assert_answer(&case, Err((3, corner as u64)));
-        }
-    }
-}
-
-#[test]
-fn a_vertex_named_twice_is_refused_at_the_first_corner_of_the_triangle() {
-    for triangle in 0..4 {
-        for corner in 0..3 {
-            let case = changed(|p| {
-                let corners = p.triangle_mut(triangle);
-                corners[corner] = corners[(corner + 1) % 3];
-            });
-            assert_answer(&case, Err((4, 3 * triangle as u64)));
-        }
-    }
+    let one_vertex = Given::bare(vertices_at(&[0]));
+    assert_answer(&Case::<Check>::lent(one_vertex, [9, 0]), Err((9, 0)));
 }
 
 #[test]
@@ -157,8 +101,7 @@ fn a_flipped_triangle_doubles_its_edges() {
 
 #[test]
 fn shells_at_the_same_place_with_their_own_vertices_pass() {
-    let mesh = joined(octahedron(10), &octahedron(10));
-    let (pairing, _) = written(mesh);
+    let (pairing, _) = written(octahedra(10, 10));
     let (first, second) = pairing.split_at(24);
     assert!(first
         .iter()
@@ -168,23 +111,14 @@ fn shells_at_the_same_place_with_their_own_vertices_pass() {
 
 #[test]
 fn shells_sharing_one_vertex_pass() {
-    let mut mesh = joined(octahedron(10), &octahedron(10));
+    let mut mesh = octahedra(10, 10);
     mesh.weld(5, 10);
-    assert_answer(&Case::exact(mesh), Ok(()));
-}
-
-/// They touch along the edge from vertex 3 of the first, which is 8 of the second, to 7, which is
-/// 12.
-fn boxes_touching_along_an_edge() -> Mesh {
-    joined(
-        cuboid([0, 0, 0], [10, 10, 10]),
-        &cuboid([10, 10, 0], [20, 20, 10]),
-    )
+    assert_answer(&exact(mesh), Ok(()));
 }
 
 #[test]
 fn boxes_touching_along_an_edge_with_their_own_vertices_pass() {
-    assert_answer(&Case::exact(boxes_touching_along_an_edge()), Ok(()));
+    assert_answer(&exact(boxes_touching_along_an_edge()), Ok(()));
 }
 
 #[test]
@@ -193,5 +127,5 @@ fn an_edge_shared_by_four_triangles_is_doubled() {
     mesh.weld(3, 8);
     mesh.weld(7, 12);
     assert_eq!(mesh.edges().nth(22), Some((7, 3)));
-    assert_answer(&Case::exact(mesh), Err((5, 22)));
+    assert_answer(&exact(mesh), Err((5, 22)));
 }

@@ -1,15 +1,11 @@
 //! Sheets that touch: contours are linked by the pairing, and never by equal points.
 
-use super::compare::Given;
 use super::layer::{layer, Layer};
+use crate::inputs::{boxes_touching_along_an_edge, joined};
+use crate::operations::Given;
 use meshes::shapes::{cuboid, octahedron, tetrahedron};
 use meshes::Mesh;
 use std::collections::BTreeSet;
-
-fn joined(mut mesh: Mesh, other: &Mesh) -> Mesh {
-    mesh.join(other);
-    mesh
-}
 
 fn moved(mut mesh: Mesh, distances: [i32; 3]) -> Mesh {
     mesh.move_by(distances);
@@ -17,7 +13,7 @@ fn moved(mut mesh: Mesh, distances: [i32; 3]) -> Mesh {
 }
 
 fn cut(mesh: Mesh, height: i32) -> Layer {
-    layer(&Given::new(mesh, height))
+    layer(Given::new(mesh).at(height))
 }
 
 /// The points that two contours have both.
@@ -66,15 +62,6 @@ fn one_tip_on_another() {
     welded.weld(3, 8);
     assert_eq!(cut(welded.clone(), 10).points, [[[3, 3]; 3]]);
     assert_eq!(cut(welded, 11).ends, [4]);
-}
-
-/// They touch along the edge from vertex 3 of the first, which is 8 of the second, to 7, which is
-/// 12.
-fn boxes_touching_along_an_edge() -> Mesh {
-    joined(
-        cuboid([0, 0, 0], [10, 10, 10]),
-        &cuboid([10, 10, 0], [20, 20, 10]),
-    )
 }
 
 #[test]
@@ -146,12 +133,12 @@ fn an_edge_shared_by_four_triangles_is_linked_as_the_pairing_says() {
     assert!(down.iter().map(box_of).eq([0, 1]));
 
     let paired = |pairs: [(usize, usize); 2]| {
-        let mut given = Given::new(mesh.clone(), 5);
+        let mut given = Given::new(mesh.clone()).at(5);
         for (a, b) in pairs {
             given.pairing[a] = b as u32;
             given.pairing[b] = a as u32;
         }
-        layer(&given)
+        layer(given)
     };
     let apart = paired([(up[0], down[0]), (up[1], down[1])]);
     assert_eq!(apart.ends, [8, 16]);

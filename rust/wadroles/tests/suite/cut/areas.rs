@@ -1,24 +1,19 @@
 //! Areas of layers: of solids whose sections are known, and against a sum that needs no contours.
 
-use super::compare::Given;
-use super::layer::library_layer;
-use super::random::random_mesh;
-use crate::runs::rounds;
+use super::layer::product_layer;
+use crate::harness::Rounds;
+use crate::inputs::{joined, random_mesh};
+use crate::operations::Given;
 use meshes::shapes::{bipyramid, cuboid, octahedron, tetrahedron, torus};
-use meshes::{random_height, random_pairing, Mesh, Random};
+use meshes::{random_height, Mesh, Random};
 use oracle::section_area;
 
 fn areas(mesh: Mesh, height: i32) -> Vec<i64> {
-    library_layer(&Given::new(mesh, height)).areas
+    product_layer(Given::new(mesh).at(height)).areas
 }
 
 fn inside_out(mut mesh: Mesh) -> Mesh {
     (0..mesh.triangle_count()).for_each(|triangle| mesh.flip_triangle(triangle));
-    mesh
-}
-
-fn joined(mut mesh: Mesh, other: &Mesh) -> Mesh {
-    mesh.join(other);
     mesh
 }
 
@@ -32,7 +27,7 @@ fn displaced(mesh: &mut Mesh, random: &mut Random) -> i32 {
 
 #[test]
 fn tetrahedra_have_sections_of_their_own_shape() {
-    let share = rounds("layers, areas of tetrahedra", 100, |random| {
+    let share = Rounds::one_in(100, "layers, areas of tetrahedra").share(|random| {
         let size = random.within(1..=400_000);
         let height = random.within(1..=size);
         let mut mesh = tetrahedron(size);
@@ -46,7 +41,7 @@ fn tetrahedra_have_sections_of_their_own_shape() {
 
 #[test]
 fn boxes_have_the_same_section_everywhere() {
-    let share = rounds("layers, areas of boxes", 100, |random| {
+    let share = Rounds::one_in(100, "layers, areas of boxes").share(|random| {
         let [x, y, z] = [(); 3].map(|()| random.within(1..=400_000));
         let mut mesh = cuboid([-x, 0, 0], [x, y, z]);
         let up = displaced(&mut mesh, random);
@@ -60,7 +55,7 @@ fn boxes_have_the_same_section_everywhere() {
 
 #[test]
 fn octahedra_grow_to_the_middle_and_shrink_again() {
-    let share = rounds("layers, areas of octahedra", 100, |random| {
+    let share = Rounds::one_in(100, "layers, areas of octahedra").share(|random| {
         let size = random.within(1..=400_000);
         let height = random.within(1 - size..=size);
         let mut mesh = octahedron(size);
@@ -131,16 +126,12 @@ fn a_mesh_inside_out_has_all_areas_negated() {
 
 #[test]
 fn any_layer_has_the_area_of_its_triangles() {
-    let share = rounds("layers, areas of any mesh", 10, |random| {
+    let share = Rounds::one_in(10, "layers, areas of any mesh").share(|random| {
         let mesh = random_mesh(random);
         let height = random_height(&mesh, random);
         let expected = section_area(&mesh.coords, &mesh.corners, height);
-        let given = Given {
-            pairing: random_pairing(&mesh, random),
-            mesh,
-            height,
-        };
-        assert_eq!(i128::from(library_layer(&given).area()), expected);
+        let given = Given::paired(mesh, random).at(height);
+        assert_eq!(i128::from(product_layer(given).area()), expected);
         expected != 0
     });
     assert!(share > 0.1, "too few sections have an area");

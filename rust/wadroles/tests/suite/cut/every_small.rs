@@ -1,17 +1,14 @@
 //! Everything small: each pairing table of the least mesh, and each edge over a few units.
 
-use super::compare::{compare, library, number, Case, Given};
-use super::layer::library_layer;
-use crate::tally::Tally;
+use super::layer::product_layer;
+use crate::harness::{agree, Answer, Case, Tally};
+use crate::operations::{Cut, Given};
 use meshes::shapes::{pillow, tetrahedron};
 use meshes::Mesh;
 
 #[track_caller]
-fn answer_number(given: Given) -> u32 {
-    match compare(&Case::exact(given.clone()), library) {
-        Ok(answer) => number(answer),
-        Err(difference) => panic!("{given:?}: {difference}"),
-    }
+fn answer(given: Given) -> Answer<(usize, usize)> {
+    agree(&mut Case::<Cut>::exact(given))
 }
 
 #[test]
@@ -19,10 +16,9 @@ fn every_pairing_of_the_least_mesh() {
     let mut tally = Tally::default();
     for table in 0..7u32.pow(6) {
         let pairing = (0..6).map(|digit| table / 7u32.pow(digit) % 7).collect();
-        tally.add(answer_number(Given {
-            mesh: pillow(10),
+        tally.add(&answer(Given {
             pairing,
-            height: 5,
+            ..Given::bare(pillow(10)).at(5)
         }));
     }
     assert_eq!(tally.count(0), 1);
@@ -34,7 +30,7 @@ fn every_pairing_of_two_corners_of_a_doubled_mesh() {
     // The least mesh twice over the same vertices, so that each edge has two right partners.
     let mut mesh = pillow(10);
     mesh.corners.extend(pillow(10).corners);
-    let right = Given::new(mesh, 5);
+    let right = Given::new(mesh).at(5);
     let mut tally = Tally::default();
     for first in 0..12 {
         for second in 0..first {
@@ -42,7 +38,7 @@ fn every_pairing_of_two_corners_of_a_doubled_mesh() {
                 let mut given = right.clone();
                 given.pairing[first] = entries / 13;
                 given.pairing[second] = entries % 13;
-                tally.add(answer_number(given));
+                tally.add(&answer(given));
             }
         }
     }
@@ -62,7 +58,7 @@ fn every_right_pairing_of_a_doubled_mesh() {
     };
     let mut contours = Vec::new();
     for ways in 0..8 {
-        let mut given = Given::new(mesh.clone(), 5);
+        let mut given = Given::new(mesh.clone()).at(5);
         for (i, (from, to)) in [(0, 1), (1, 2), (2, 0)].into_iter().enumerate() {
             let (there, mut back) = (corners_of((from, to)), corners_of((to, from)));
             if ways >> i & 1 == 1 {
@@ -73,8 +69,8 @@ fn every_right_pairing_of_a_doubled_mesh() {
                 given.pairing[b as usize] = a;
             }
         }
-        assert_eq!(answer_number(given.clone()), 0);
-        contours.push(library_layer(&given).contours());
+        answer(given.clone()).unwrap();
+        contours.push(product_layer(given).contours());
     }
     // Two edges are crossed, 1 to 2 and 2 to 0: paired alike, they give two contours of two
     // points, and else one of four.
@@ -92,7 +88,7 @@ fn every_short_edge_at_every_height() {
                         coords: [[-1, 1, 0], to, to, to].concat(),
                         ..tetrahedron(1)
                     };
-                    assert_eq!(answer_number(Given::new(mesh, height)), 0);
+                    answer(Given::new(mesh).at(height)).unwrap();
                 }
             }
         }
@@ -101,7 +97,7 @@ fn every_short_edge_at_every_height() {
 
 #[test]
 fn every_tetrahedron_of_few_heights_at_every_height() {
-    let mut tally = Tally::default();
+    let mut with_contours = [0; 2];
     for heights in 0..4i32.pow(4) {
         let z = |vertex: u32| heights / 4i32.pow(vertex) % 4 - 2;
         let points = [[0, 0, z(0)], [5, 0, z(1)], [0, 5, z(2)], [-3, -4, z(3)]];
@@ -110,13 +106,11 @@ fn every_tetrahedron_of_few_heights_at_every_height() {
                 coords: points.concat(),
                 ..tetrahedron(1)
             };
-            let given = Given::new(mesh, height);
-            assert_eq!(answer_number(given.clone()), 0);
-            tally.add(library_layer(&given).contours() as u32);
+            let (contours, _) = answer(Given::new(mesh).at(height)).unwrap();
+            with_contours[contours] += 1;
         }
     }
     // Some vertex lies below the height and some does not: then there is one contour, never more.
     let crossed: u64 = (1..=4u64).map(|k| 256 - k.pow(4) - (4 - k).pow(4)).sum();
-    assert_eq!(tally.count(1), crossed);
-    assert_eq!(tally.count(0) + tally.count(1), 256 * 6);
+    assert_eq!(with_contours, [256 * 6 - crossed, crossed]);
 }

@@ -1,11 +1,11 @@
-//! A layer as the library gives it, taken out of the lent tables by contour and area.
+//! A layer as the product gives it, taken out of the lent tables by contour and area.
 
-use super::compare::{compare, library, Case, Given};
-use meshes::Mesh;
+use crate::harness::{agree, Case, Operation};
+use crate::operations::{Cut, Given};
 use wadroles::{area, contour};
 
 /// The contours of a layer. Each part of a list is for the contour of that number.
-#[derive(Clone, Debug, PartialEq, Eq)]
+#[derive(Clone, Debug, Default, PartialEq, Eq)]
 pub struct Layer {
     pub names: Vec<Vec<u32>>,
     pub points: Vec<Vec<[i32; 2]>>,
@@ -24,19 +24,23 @@ impl Layer {
     }
 }
 
-/// The layer of a cut that is not refused, on which library and oracle agree.
+/// The layer of a cut that is not refused, on which product and oracle agree.
 #[track_caller]
-pub fn layer(given: &Given) -> Layer {
-    let case = Case::exact(given.clone());
-    compare(&case, library).unwrap().unwrap();
-    library_layer(given)
+pub fn layer(given: Given) -> Layer {
+    let mut case = Case::exact(given);
+    let counts = agree(&mut case).unwrap();
+    taken_out(&case, counts)
 }
 
-/// The layer that the library cuts, whatever the oracle says.
+/// The layer that the product cuts, whatever the oracle says.
 #[track_caller]
-pub fn library_layer(given: &Given) -> Layer {
-    let mut case = Case::exact(given.clone());
-    let (contours, count) = case.run(library).unwrap();
+pub fn product_layer(given: Given) -> Layer {
+    let mut case = Case::exact(given);
+    let counts = case.run(Cut::product).unwrap();
+    taken_out(&case, counts)
+}
+
+fn taken_out(case: &Case<Cut>, (contours, count): (usize, usize)) -> Layer {
     let names = &case.tables.names.view()[..count];
     let points = &case.tables.points.view()[..2 * count];
     let ends = &case.tables.ends.view()[..contours];
@@ -54,15 +58,10 @@ pub fn library_layer(given: &Given) -> Layer {
     }
 }
 
-/// The contours that the library cuts, x and y of each point.
+/// The contours that the product cuts at a height, x and y of each point.
 #[track_caller]
-pub fn contours(mesh: &Mesh, pairing: &[u32], height: i32) -> Vec<Vec<[i32; 2]>> {
-    let given = Given {
-        mesh: mesh.clone(),
-        pairing: pairing.to_vec(),
-        height,
-    };
-    library_layer(&given).points
+pub fn contours(given: &Given, height: i32) -> Vec<Vec<[i32; 2]>> {
+    product_layer(given.clone().at(height)).points
 }
 
 fn pairs(points: &[i32]) -> Vec<[i32; 2]> {

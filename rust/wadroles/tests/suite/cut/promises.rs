@@ -1,27 +1,24 @@
-//! What document 01 says of every layer, asked of the library's layers one by one. The oracle has
+//! What the specification says of every layer, asked of the product's layers one by one. The oracle has
 //! no part in it.
 
-use super::compare::Given;
-use super::layer::{library_layer, Layer};
-use super::random::random_mesh;
-use crate::runs::rounds;
-use meshes::{random_height, random_pairing, Mesh, Random};
+use super::layer::{product_layer, Layer};
+use crate::harness::Rounds;
+use crate::inputs::random_mesh;
+use crate::operations::Given;
+use meshes::{random_height, Mesh, Random};
 
 /// A random mesh with a right pairing, and a height that crosses it as a rule.
 fn random_given(random: &mut Random) -> Given {
-    let mesh = random_mesh(random);
-    Given {
-        pairing: random_pairing(&mesh, random),
-        height: random_height(&mesh, random),
-        mesh,
-    }
+    let given = Given::paired(random_mesh(random), random);
+    let height = random_height(&given.mesh, random);
+    given.at(height)
 }
 
 /// Asks a question of random layers, and requires that enough of them have a contour.
 fn of_every_layer(name: &str, question: fn(&Given, &Layer)) {
-    let share = rounds(&format!("layers, {name}"), 25, |random| {
+    let share = Rounds::one_in(25, format!("layers, {name}")).share(|random| {
         let given = random_given(random);
-        let layer = library_layer(&given);
+        let layer = product_layer(given.clone());
         question(&given, &layer);
         layer.contours() > 0
     });
@@ -147,17 +144,17 @@ fn exact_way(given: &Given, from: usize, to: usize) -> [i128; 2] {
 
 #[test]
 fn moving_the_mesh_moves_the_layer() {
-    let share = rounds("layers, moved", 25, |random| {
+    let share = Rounds::one_in(25, "layers, moved").share(|random| {
         let mut given = random_given(random);
         let limit = 400_000;
         given.height %= limit;
         given.mesh.coords.iter_mut().for_each(|x| *x %= limit);
-        let before = library_layer(&given);
+        let before = product_layer(given.clone());
 
         let distances = [(); 3].map(|()| random.within(-limit..=limit));
         given.mesh.move_by(distances);
         given.height += distances[2];
-        let after = library_layer(&given);
+        let after = product_layer(given);
 
         let points = before.points.iter().map(|contour| {
             let moved = contour

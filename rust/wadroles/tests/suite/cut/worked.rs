@@ -1,20 +1,15 @@
 //! Cases worked by hand.
 
-use super::compare::{assert_answer, Case, Given, Lengths};
 use super::layer::{layer, Layer};
+use crate::harness::{assert_answer, Case};
+use crate::inputs;
+use crate::operations::{Cut, Given};
 use meshes::shapes::{cuboid, octahedron, pillow, tetrahedron};
 use meshes::Mesh;
 
-/// Part P of document 01.
+/// Part P of the specification.
 fn part_p() -> Mesh {
     tetrahedron(10)
-}
-
-/// Part P at height 5 after a change, with tables as long as needed.
-fn changed(change: impl FnOnce(&mut Given)) -> Case {
-    let mut given = Given::new(part_p(), 5);
-    change(&mut given);
-    Case::exact(given)
 }
 
 /// A mesh with the triangles of part P: vertex 0 leads to 1, 2 and 3 by the corners 3, 0 and 6.
@@ -26,16 +21,11 @@ fn like_part_p(points: [[i32; 3]; 4]) -> Mesh {
 }
 
 fn cut(mesh: Mesh, height: i32) -> Layer {
-    layer(&Given::new(mesh, height))
+    layer(Given::new(mesh).at(height))
 }
 
 fn no_layer() -> Layer {
-    Layer {
-        names: vec![],
-        points: vec![],
-        ends: vec![],
-        areas: vec![],
-    }
+    Layer::default()
 }
 
 /// A layer of one contour.
@@ -105,8 +95,8 @@ fn none_of_either_gives_no_contour() {
     assert_eq!(cut(Mesh::default(), 0), no_layer());
     let no_triangles = Mesh::new(&[[0, 0, -5], [0, 0, 5]], &[]);
     assert_eq!(cut(no_triangles, 0), no_layer());
-    let nothing = Given::new(Mesh::default(), 0);
-    assert_answer(&Case::new(nothing, [1, 2, 3, 4]), Ok((0, 0)));
+    let nothing = Case::<Cut>::lent(Given::default(), [1, 2, 3, 4]);
+    assert_answer(&nothing, Ok((0, 0)));
 }
 
 #[test]
@@ -200,22 +190,8 @@ fn heights_between_vertices_give_one_section_of_a_box() {
 }
 
 #[test]
-fn lengths_that_are_no_multiple_of_three_are_refused() {
-    for extra in 1..3 {
-        for change in [
-            |given: &mut Given, extra| given.mesh.coords.extend(vec![0; extra]),
-            |given: &mut Given, extra| given.mesh.corners.extend(vec![0; extra]),
-            |given: &mut Given, extra| given.mesh.coords.truncate(extra),
-            |given: &mut Given, extra| given.mesh.corners.truncate(extra),
-        ] {
-            assert_answer(&changed(|given| change(given, extra)), Err((1, 0)));
-        }
-    }
-}
-
-#[test]
 fn tables_need_an_entry_per_corner_and_points_two() {
-    let lent = |lengths: Lengths| Case::new(Given::new(part_p(), 5), lengths);
+    let lent = |lengths: [usize; 4]| Case::<Cut>::lent(inputs::part_p(), lengths);
     for lengths in [
         [11, 24, 12, 12],
         [12, 23, 12, 12],
@@ -241,95 +217,4 @@ fn tables_need_an_entry_per_corner_and_points_two() {
     ] {
         assert_answer(&lent(lengths), Ok((1, 3)));
     }
-}
-
-#[test]
-fn coordinates_pass_up_to_the_limit_at_every_position() {
-    for position in 0..12 {
-        for value in [-1_048_576, 1_048_576] {
-            let mut given = Given::new(part_p(), 5);
-            given.mesh.coords[position] = value;
-            layer(&given);
-        }
-        for value in [i32::MIN, -1_048_577, 1_048_577, i32::MAX] {
-            let case = changed(|given| given.mesh.coords[position] = value);
-            assert_answer(&case, Err((2, position as u64)));
-        }
-    }
-}
-
-#[test]
-fn every_corner_must_name_a_vertex() {
-    for corner in 0..12 {
-        for name in [4, 5, 32_768, 65_536, 1 << 31, u32::MAX] {
-            let case = changed(|given| given.mesh.corners[corner] = name);
-            assert_answer(&case, Err((3, corner as u64)));
-        }
-    }
-}
-
-#[test]
-fn a_vertex_named_twice_is_refused_at_the_first_corner_of_the_triangle() {
-    for triangle in 0..4 {
-        for corner in 0..3 {
-            let case = changed(|given| {
-                let corners = given.mesh.triangle_mut(triangle);
-                corners[corner] = corners[(corner + 1) % 3];
-            });
-            assert_answer(&case, Err((4, 3 * triangle as u64)));
-        }
-    }
-}
-
-#[test]
-fn a_wrong_entry_is_refused_at_its_corner_or_its_partner_if_that_is_less() {
-    let right = Given::new(part_p(), 5).pairing;
-    assert_eq!(right, [8, 9, 3, 2, 11, 6, 5, 10, 0, 1, 7, 4]);
-    for (corner, pair) in right.into_iter().enumerate() {
-        let others = (0..14).filter(|&entry| entry != pair);
-        for wrong in others.chain([32_768, 1 << 31, u32::MAX]) {
-            let case = changed(|given| given.pairing[corner] = wrong);
-            let place = (corner as u64).min(pair.into());
-            assert_answer(&case, Err((7, place)));
-        }
-    }
-}
-
-#[test]
-fn a_missing_entry_is_refused_and_so_is_what_is_paired_with_it() {
-    // The least corner that is missing or has a partner that is.
-    for (length, place) in [
-        (11, 4),
-        (10, 4),
-        (9, 1),
-        (8, 0),
-        (7, 0),
-        (5, 0),
-        (1, 0),
-        (0, 0),
-    ] {
-        let case = changed(|given| given.pairing.truncate(length));
-        assert_answer(&case, Err((7, place)));
-    }
-}
-
-#[test]
-fn a_missing_entry_is_not_read_as_corner_0() {
-    let mut given = Given::new(pillow(10), 5);
-    assert_eq!(given.pairing, [5, 4, 3, 2, 1, 0]);
-    given.pairing.truncate(5);
-    assert_answer(&Case::exact(given), Err((7, 0)));
-}
-
-#[test]
-fn entries_beyond_those_needed_are_ignored() {
-    for beyond in [0, 12, u32::MAX] {
-        let case = changed(|given| given.pairing.extend([beyond; 3]));
-        assert_answer(&case, Ok((1, 3)));
-    }
-}
-
-#[test]
-fn a_flipped_triangle_lacks_the_reverse_edges() {
-    assert_answer(&changed(|given| given.mesh.flip_triangle(1)), Err((7, 2)));
 }

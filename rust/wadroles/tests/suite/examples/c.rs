@@ -6,7 +6,9 @@
 
 use super::part_file::{changed_p, path_of_p, ROOT};
 use super::programs::{lend_file, work_directory, Run};
-use crate::all_layers::compare::{file, Given};
+use crate::all_layers::file;
+use crate::inputs::LAYER_FILE_P;
+use crate::operations::Given;
 use meshes::shapes::{tetrahedron, torus};
 use meshes::Mesh;
 use oracle::{decode_layers, encode_part, FileLayer, Part};
@@ -16,7 +18,7 @@ use std::path::{Path, PathBuf};
 use std::process::Command;
 use std::sync::OnceLock;
 
-/// What document 01 says of part P: a line for each layer as in its listing, and the count of layers
+/// What the specification says of part P: a line for each layer as in its listing, and the count of layers
 /// and bytes of its layer file.
 const LINES_P: &str = "\
 layer 0 0 0 0
@@ -25,12 +27,6 @@ layer 10 1 3 0
 layer 11 0 0 0
 layers 4, bytes 23
 ";
-
-/// The layer file of part P in document 01.
-const LAYERS_P: [u8; 23] = [
-    0x04, 0x00, 0x00, 0x0A, 0x01, 0x03, 0x0A, 0x00, 0x09, 0x0A, 0x00, 0x09, 0x14, 0x01, 0x03, 0x00,
-    0x00, 0x00, 0x00, 0x00, 0x00, 0x16, 0x00,
-];
 
 /// The example, compiled once.
 fn example() -> &'static Path {
@@ -85,7 +81,7 @@ fn part_p() {
     let layers = work_directory().join("p.layers");
     let run = Run::of(Command::new(example()).arg(path_of_p()).arg(&layers));
     assert_eq!(run, Run::content(LINES_P));
-    assert_eq!(fs::read(layers).unwrap(), LAYERS_P);
+    assert_eq!(fs::read(layers).unwrap(), LAYER_FILE_P);
 }
 
 #[test]
@@ -159,7 +155,7 @@ fn larger_parts_at_their_default_heights() {
 /// Runs a part without heights, and gives its layer file.
 #[track_caller]
 fn assert_as_the_oracle(name: &str, mesh: Mesh) -> Vec<u8> {
-    let file = file(&Given::new(mesh.clone(), &[]));
+    let file = file(Given::new(mesh.clone()));
     let layers = decode_layers(&file).unwrap();
     let lines: String = layers.iter().map(line).collect();
     let last = format!("layers {}, bytes {}\n", layers.len(), file.len());

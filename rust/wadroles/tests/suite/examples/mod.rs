@@ -1,4 +1,4 @@
-//! The examples that makers may copy: built, run, and held to what document 01 says of part P.
+//! The examples that makers may copy: built, run, and held to what the specification says of part P.
 
 mod c;
 mod part_file;

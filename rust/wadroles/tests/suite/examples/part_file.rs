@@ -1,6 +1,6 @@
 //! The part file `examples/p.part`, and part files that differ from it.
 
-use crate::read_part::PART_FILE_P;
+use crate::inputs::PART_FILE_P;
 use oracle::{decode_part, encode_part, Part};
 use std::fs;
 use std::path::{Path, PathBuf};

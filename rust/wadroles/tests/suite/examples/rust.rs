@@ -62,9 +62,9 @@ fn sweep() {
 fn read() {
     assert_writes(
         "read",
-        "Part { vertices: 4, triangles: 4, heights: 4 }: \
-         coords [0, 0, 0, 10, 0, 0, 0, 10, 0, 0, 0, 10], \
-         corners [0, 2, 1, 0, 1, 3, 0, 3, 2, 1, 2, 3], heights [0, 5, 10, 11]\n\
+        "PartCounts { vertices: 4, triangles: 4, heights: 4 }: \
+         Part { coords: [0, 0, 0, 10, 0, 0, 0, 10, 0, 0, 0, 10], \
+         corners: [0, 2, 1, 0, 1, 3, 0, 3, 2, 1, 2, 3], heights: [0, 5, 10, 11] }\n\
          layer 0 of 4: height 0\n\
          layer 1 of 4: height 5\n  \
            contour 0: points [5, 0, 0, 5, 0, 0]\n\

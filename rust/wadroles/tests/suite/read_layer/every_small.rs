@@ -1,32 +1,25 @@
 //! Everything near a small file, and every small file of certain bytes.
 
-use super::compare::{compare, library, number, Case, Given};
-use super::worked::FILE_P;
-use crate::tally::Tally;
-use crate::variants::{
+use super::exact;
+use crate::harness::{agree, Tally};
+use crate::inputs::{
     sequences, shortened, with_a_byte_changed, with_a_byte_inserted, with_a_byte_removed,
+    LAYER_FILE_P,
 };
 use oracle::{encode_layers, FileLayer};
 
-/// Compares the library with the oracle on each file, for these layers.
+/// Compares the product with the oracle on each file, for these layers.
 fn compare_all(files: impl Iterator<Item = Vec<u8>>, layers: &[usize]) -> Tally {
     let mut tally = Tally::default();
     for file in files {
         for &i in layers {
-            let given = Given {
-                file: file.clone(),
-                i,
-            };
-            match compare(&Case::exact(given), library) {
-                Ok(answer) => tally.add(number(answer)),
-                Err(difference) => panic!("layer {i} of {file:?}: {difference}"),
-            }
+            tally.add(&agree(&mut exact(&file, i)));
         }
     }
     tally
 }
 
-/// Small files: that of document 01's part P, one with values of several bytes, and some of the
+/// Small files: that of the specification's part P, one with values of several bytes, and some of the
 /// least.
 fn small_files() -> Vec<Vec<u8>> {
     let several_bytes = encode_layers(&[
@@ -44,7 +37,7 @@ fn small_files() -> Vec<Vec<u8>> {
         vec![1, 0, 0],
         vec![1, 255, 255, 255, 255, 15, 0],
         vec![2, 1, 0, 0, 1, 2, 1, 2, 3, 4],
-        FILE_P.to_vec(),
+        LAYER_FILE_P.to_vec(),
         several_bytes,
     ]
 }

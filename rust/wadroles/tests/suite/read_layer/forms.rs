@@ -1,7 +1,8 @@
 //! The form of values: groups that are needless, too many or over 32 bits, and counts that lie.
 
-use super::compare::{assert_answer, assert_broken, compare, library, Case, Given};
-use crate::variants::{with_a_wrong_form, with_value};
+use super::{assert_broken, exact};
+use crate::harness::{agree, assert_answer, Tally};
+use crate::inputs::{with_a_wrong_form, with_value};
 use files::values;
 use oracle::{encode_layers, encode_plain, FileLayer};
 
@@ -30,8 +31,7 @@ fn the_sample_is_right_and_has_values_of_all_lengths() {
     for length in 1..=5 {
         assert!(values(&file).iter().any(|value| value.len() == length));
     }
-    let given = Given { file, i: 0 };
-    assert_answer(&Case::exact(given), Ok((3, i32::MIN, 2, 132)));
+    assert_answer(&exact(&file, 0), Ok((3, i32::MIN, 2, 132)));
 }
 
 #[test]
@@ -90,15 +90,12 @@ fn a_point_count_that_lies_is_refused_at_once() {
 #[test]
 fn every_value_replaced_by_a_small_or_large_number() {
     let file = sample();
+    let mut met = Tally::default();
     for value in values(&file) {
         for number in (0..=4).chain(large_numbers()) {
-            let given = Given {
-                file: with_value(&file, value.clone(), &encode_plain(number)),
-                i: 1,
-            };
-            if let Err(difference) = compare(&Case::exact(given), library) {
-                panic!("{number} for the value at {value:?}: {difference}");
-            }
+            let changed = with_value(&file, value.clone(), &encode_plain(number));
+            met.add(&agree(&mut exact(&changed, 1)));
         }
     }
+    met.require(&[0, 13], 100);
 }

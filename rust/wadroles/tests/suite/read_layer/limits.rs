@@ -1,6 +1,8 @@
 //! Counts at their limits and one above.
 
-use super::compare::{assert_answer, assert_broken, Case, Given};
+use super::assert_broken;
+use crate::harness::{assert_answer, Case, Operation};
+use crate::operations::{LayerFile, ReadLayer};
 use meshes::Random;
 use oracle::{encode_layers, encode_plain, FileLayer};
 use wadroles::{MAX_LAYERS, MAX_POINTS};
@@ -26,18 +28,17 @@ fn layer(counts: &[usize]) -> FileLayer {
     }
 }
 
-/// The counts of contours and points, or the place of refusal 13.
+/// A layer of a file, with tables as long as it needs.
+fn exact(layers: &[FileLayer], i: usize) -> Case<ReadLayer> {
+    Case::exact(LayerFile::of(layers, i))
+}
+
+/// Asserts the counts of contours and points, or the place of refusal 13.
 #[track_caller]
 fn assert_points(counts: &[usize], answer: Result<(usize, usize), usize>) {
-    let given = Given::new(&[layer(counts)], 0);
-    match answer {
-        Ok((contours, points)) => {
-            assert_answer(&Case::exact(given), Ok((1, 7, contours, points)));
-        }
-        Err(place) => {
-            assert_answer(&Case::exact(given), Err((13, place as u64)));
-        }
-    }
+    let case = exact(&[layer(counts)], 0);
+    let values = answer.map(|(contours, points)| (1, 7, contours, points));
+    assert_answer(&case, values.map_err(|place| (13, place as u64)));
 }
 
 #[test]
@@ -47,9 +48,9 @@ fn layers_pass_up_to_the_limit() {
         let layers = empty_layers(count);
         for i in [0, 1, 2000, count - 1] {
             let answer = Ok((count, i as i32 - 2000, 0, 0));
-            assert_answer(&Case::exact(Given::new(&layers, i)), answer);
+            assert_answer(&exact(&layers, i), answer);
         }
-        assert_answer(&Case::exact(Given::new(&layers, count)), Err((15, 0)));
+        assert_answer(&exact(&layers, count), Err((15, 0)));
     }
     for count in [4_097, 4_098, 5_000] {
         assert_broken(&encode_layers(&empty_layers(count)), 0);
@@ -116,22 +117,22 @@ fn the_limit_is_on_each_layer() {
         .collect();
     for i in 0..3 {
         let answer = Ok((3, 10 * i as i32, 2, 98_304));
-        assert_answer(&Case::exact(Given::new(&layers, i)), answer);
+        assert_answer(&exact(&layers, i), answer);
     }
 }
 
 #[test]
 fn tables_one_too_short_for_the_largest_layer_are_refused() {
     for counts in [&[98_304][..], &[2; 49_152]] {
-        let given = Given::new(&[layer(counts)], 0);
-        let [points, ends] = given.needed();
-        assert_eq!([points, ends], [196_608, counts.len()]);
+        let input = LayerFile::of(&[layer(counts)], 0);
+        let (points, ends) = (196_608, counts.len());
+        assert_eq!(ReadLayer::lengths(&input), [points, ends]);
+        let lent = |lengths| Case::<ReadLayer>::lent(input.clone(), lengths);
         for lengths in [[points - 1, ends], [points, ends - 1], [points - 2, ends]] {
-            assert_answer(&Case::new(given.clone(), lengths), Err((9, 0)));
+            assert_answer(&lent(lengths), Err((9, 0)));
         }
-        let lengths = [points + 9, ends + 5];
         let answer = Ok((1, 7, counts.len(), 98_304));
-        assert_answer(&Case::new(given, lengths), answer);
+        assert_answer(&lent([points + 9, ends + 5]), answer);
     }
 }
 
@@ -140,10 +141,8 @@ fn the_last_point_of_the_largest_layer_is_tested() {
     let mut largest = layer(&[98_304]);
     largest.contours[0][98_303] = [0, 0];
     let right = encode_layers(&[largest.clone()]);
-    assert_answer(
-        &Case::exact(Given::new(&[largest.clone()], 0)),
-        Ok((1, 7, 1, 98_304)),
-    );
+    let case = exact(std::slice::from_ref(&largest), 0);
+    assert_answer(&case, Ok((1, 7, 1, 98_304)));
     for axis in 0..2 {
         let mut wrong = largest.clone();
         wrong.contours[0][98_303][axis] = 1_048_577;

@@ -1,19 +1,20 @@
-//! What document 01 says of every layer file, asked of the library. The oracle only writes files.
+//! What the specification says of every layer file, asked of the product. The oracle only writes files.
 
-use super::compare::{library, Case, Given, Tables};
-use crate::cut;
-use crate::runs::rounds;
+use crate::cut::contours;
+use crate::harness::{refused, Answer, Case, Operation, Rounds, Tables};
+use crate::inputs::random_mesh;
+use crate::operations::{Given, LayerFile, ReadLayer};
 use files::{random_layers, Damage};
-use meshes::{random_height, random_pairing, Random};
+use meshes::{random_height, Random};
 use oracle::{encode_layers, FileLayer};
 use std::collections::BTreeSet;
 
-/// The layers that the library reads out of a file, or a refusal's number and place.
-fn library_layers(file: &[u8]) -> Result<Vec<FileLayer>, (u32, u64)> {
+/// The layers that the product reads out of a file, or a refusal's number and place.
+fn product_layers(file: &[u8]) -> Answer<Vec<FileLayer>> {
     let mut layers = Vec::new();
     loop {
         let i = layers.len();
-        match library_layer(file, i) {
+        match product_layer(file, i) {
             Ok((layer, count)) if i + 1 < count => layers.push(layer),
             Ok((layer, _)) => {
                 layers.push(layer);
@@ -26,15 +27,19 @@ fn library_layers(file: &[u8]) -> Result<Vec<FileLayer>, (u32, u64)> {
     }
 }
 
-/// A layer that the library reads, and the number of layers in the file.
-fn library_layer(file: &[u8], i: usize) -> Result<(FileLayer, usize), (u32, u64)> {
+/// A layer that the product reads, and the number of layers in the file.
+fn product_layer(file: &[u8], i: usize) -> Answer<(FileLayer, usize)> {
     // Each value takes a byte at least.
     let (mut points, mut ends) = (vec![0; file.len()], vec![0; file.len()]);
-    let read = wadroles::read_layer(file, i, &mut points, &mut ends)
-        .map_err(|refusal| (refusal.number, refusal.place))?;
-    let ends = &ends[..read.contours];
-    assert_eq!(ends.last().map_or(0, |&end| end as usize), read.points);
-    let contours = (0..read.contours)
+    let mut tables = wadroles::FlatLayer {
+        points: &mut points,
+        ends: &mut ends,
+    };
+    let read = wadroles::read_layer(file, i, &mut tables).map_err(refused)?;
+    let counts = read.counts;
+    let ends = &ends[..counts.contours];
+    assert_eq!(ends.last().map_or(0, |&end| end as usize), counts.points);
+    let contours = (0..counts.contours)
         .map(|j| wadroles::contour(&points, ends, j))
         .map(|part| part.chunks(2).map(|p| [p[0], p[1]]).collect());
     let layer = FileLayer {
@@ -55,19 +60,16 @@ fn spoiled(random: &mut Random) -> Vec<u8> {
 
 #[test]
 fn layers_are_read_back_into_the_first_entries() {
-    let share = rounds("layer files, read back", 10, |random| {
+    let share = Rounds::one_in(10, "layer files, read back").share(|random| {
         let layers = random_layers(random);
         for (i, layer) in layers.iter().enumerate() {
             let (points, ends) = entries(layer);
-            let mut case = Case {
-                given: Given::new(&layers, i),
-                tables: Tables::long([points.len(), ends.len()], random),
-            };
+            let mut case = Case::<ReadLayer>::long(LayerFile::of(&layers, i), random);
             let mut filled = case.tables.clone();
             filled.points.table()[..points.len()].copy_from_slice(&points);
             filled.ends.table()[..ends.len()].copy_from_slice(&ends);
             let answer = (layers.len(), layer.height, ends.len(), points.len() / 2);
-            assert_eq!(case.run(library), Ok(answer));
+            assert_eq!(case.run(ReadLayer::product), Ok(answer));
             assert_eq!(case.tables.difference(&filled), None);
         }
         layers.iter().any(|layer| !layer.contours.is_empty())
@@ -87,9 +89,9 @@ fn entries(layer: &FileLayer) -> (Vec<i32>, Vec<u32>) {
 
 #[test]
 fn what_is_accepted_is_the_file_of_its_layers() {
-    let share = rounds("layer files, accepted", 5, |random| {
+    let share = Rounds::one_in(5, "layer files, accepted").share(|random| {
         let file = spoiled(random);
-        match library_layers(&file) {
+        match product_layers(&file) {
             Ok(layers) => {
                 assert_eq!(encode_layers(&layers), file);
                 true
@@ -105,13 +107,13 @@ fn what_is_accepted_is_the_file_of_its_layers() {
 
 #[test]
 fn the_bytes_before_the_place_are_right() {
-    let share = rounds("layer files, places", 5, |random| {
+    let share = Rounds::one_in(5, "layer files, places").share(|random| {
         let file = spoiled(random);
-        let Err((13, place)) = library_layers(&file) else {
+        let Err((13, place)) = product_layers(&file) else {
             return false;
         };
         // Up to the place it is a whole file, or one that lacks the next value.
-        match library_layers(&file[..place as usize]) {
+        match product_layers(&file[..place as usize]) {
             Ok(_) => assert!(file.len() as u64 > place),
             Err(refusal) => assert_eq!(refusal, (13, place)),
         }
@@ -122,19 +124,18 @@ fn the_bytes_before_the_place_are_right() {
 
 #[test]
 fn the_layers_of_a_mesh_are_read_back() {
-    let share = rounds("layer files, of cuts", 100, |random| {
-        let mesh = cut::random_mesh(random);
-        let pairing = random_pairing(&mesh, random);
-        let heights: BTreeSet<i32> = (0..5).map(|_| random_height(&mesh, random)).collect();
+    let share = Rounds::one_in(100, "layer files, of cuts").share(|random| {
+        let given = Given::paired(random_mesh(random), random);
+        let heights: BTreeSet<i32> = (0..5).map(|_| random_height(&given.mesh, random)).collect();
         let layers: Vec<FileLayer> = heights
             .into_iter()
             .map(|height| FileLayer {
                 height,
-                contours: cut::contours(&mesh, &pairing, height),
+                contours: contours(&given, height),
             })
             .collect();
         assert_eq!(
-            library_layers(&encode_layers(&layers)).as_ref(),
+            product_layers(&encode_layers(&layers)).as_ref(),
             Ok(&layers)
         );
         layers.iter().any(|layer| !layer.contours.is_empty())

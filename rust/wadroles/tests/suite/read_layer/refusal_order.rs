@@ -1,6 +1,7 @@
 //! Two or three faults at once: the earlier refusal wins wherever the faults lie.
 
-use super::compare::{assert_answer, Case, Given};
+use crate::harness::{assert_answer, Case};
+use crate::operations::{LayerFile, ReadLayer};
 use oracle::{encode_layers, FileLayer};
 
 /// Three layers, of one contour each.
@@ -11,6 +12,11 @@ fn layers() -> Vec<FileLayer> {
             contours: vec![vec![[k, 1]; 3]],
         })
         .collect()
+}
+
+/// A layer of a file, with tables of these lengths.
+fn lent(file: &[u8], i: usize, lengths: [usize; 2]) -> Case<ReadLayer> {
+    Case::lent(LayerFile::new(file, i), lengths)
 }
 
 /// Tables that are too short for each of the layers.
@@ -32,9 +38,7 @@ fn a_broken_file_is_refused_before_a_missing_layer_and_short_tables() {
     for (file, place) in broken {
         for i in [0, 1, 2, 3, usize::MAX] {
             for lengths in SHORT.into_iter().chain([[6, 1], [20, 20]]) {
-                let file = file.clone();
-                let case = Case::new(Given { file, i }, lengths);
-                assert_answer(&case, Err((13, place)));
+                assert_answer(&lent(&file, i, lengths), Err((13, place)));
             }
         }
     }
@@ -44,21 +48,20 @@ fn a_broken_file_is_refused_before_a_missing_layer_and_short_tables() {
 fn a_missing_layer_is_refused_before_short_tables() {
     for i in [3, 4, 1 << 32, usize::MAX] {
         for lengths in SHORT.into_iter().chain([[6, 1], [20, 20]]) {
-            let case = Case::new(Given::new(&layers(), i), lengths);
-            assert_answer(&case, Err((15, 0)));
+            let file = encode_layers(&layers());
+            assert_answer(&lent(&file, i, lengths), Err((15, 0)));
         }
     }
 }
 
 #[test]
 fn short_tables_are_refused_last() {
+    let file = encode_layers(&layers());
     for i in 0..3 {
         for lengths in SHORT {
-            let case = Case::new(Given::new(&layers(), i), lengths);
-            assert_answer(&case, Err((9, 0)));
+            assert_answer(&lent(&file, i, lengths), Err((9, 0)));
         }
-        let case = Case::new(Given::new(&layers(), i), [6, 1]);
-        assert_answer(&case, Ok((3, i as i32, 1, 3)));
+        assert_answer(&lent(&file, i, [6, 1]), Ok((3, i as i32, 1, 3)));
     }
 }
 
@@ -66,11 +69,11 @@ fn short_tables_are_refused_last() {
 fn tables_are_measured_by_the_layer_that_is_read() {
     let mut layers = layers();
     layers[1].contours = vec![vec![[0, 0]; 10]; 5];
+    let file = encode_layers(&layers);
     for (i, [points, ends]) in [(0, [6, 1]), (1, [100, 5]), (2, [6, 1])] {
-        let lent = |lengths| Case::new(Given::new(&layers, i), lengths);
-        assert_answer(&lent([points - 1, ends]), Err((9, 0)));
-        assert_answer(&lent([points, ends - 1]), Err((9, 0)));
+        assert_answer(&lent(&file, i, [points - 1, ends]), Err((9, 0)));
+        assert_answer(&lent(&file, i, [points, ends - 1]), Err((9, 0)));
         let answer = Ok((3, i as i32, ends, points / 2));
-        assert_answer(&lent([points, ends]), answer);
+        assert_answer(&lent(&file, i, [points, ends]), answer);
     }
 }

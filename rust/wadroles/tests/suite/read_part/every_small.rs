@@ -1,26 +1,23 @@
 //! Everything near a small file, and every small file of certain bytes.
 
-use super::compare::{compare, library, number, Case};
-use super::worked::FILE_P;
-use crate::tally::Tally;
-use crate::variants::{
+use super::exact;
+use crate::harness::{agree, Tally};
+use crate::inputs::{
     sequences, shortened, with_a_byte_changed, with_a_byte_inserted, with_a_byte_removed,
+    PART_FILE_P,
 };
 use oracle::{encode_part, Part};
 
-/// Compares the library with the oracle on each file.
+/// Compares the product with the oracle on each file.
 fn compare_all(files: impl Iterator<Item = Vec<u8>>) -> Tally {
     let mut tally = Tally::default();
     for file in files {
-        match compare(&Case::exact(&file), library) {
-            Ok(answer) => tally.add(number(answer)),
-            Err(difference) => panic!("{file:?}: {difference}"),
-        }
+        tally.add(&agree(&mut exact(&file)));
     }
     tally
 }
 
-/// Small files: that of document 01's part P, one with values of several bytes, and some of the
+/// Small files: that of the specification's part P, one with values of several bytes, and some of the
 /// least.
 fn small_files() -> Vec<Vec<u8>> {
     let several_bytes = Part {
@@ -32,7 +29,7 @@ fn small_files() -> Vec<Vec<u8>> {
         vec![0, 0, 0],
         vec![1, 0, 1, 2, 3, 0],
         vec![0, 1, 4, 5, 6, 1, 7],
-        FILE_P.to_vec(),
+        PART_FILE_P.to_vec(),
         encode_part(&several_bytes),
     ]
 }

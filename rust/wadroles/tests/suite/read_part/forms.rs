@@ -1,7 +1,8 @@
 //! The form of values: groups that are needless, too many or over 32 bits, and counts that lie.
 
-use super::compare::{assert_answer, assert_broken, compare, library, Case};
-use crate::variants::{with_a_wrong_form, with_value};
+use super::{assert_broken, exact, of};
+use crate::harness::{agree, assert_answer, Tally};
+use crate::inputs::{with_a_wrong_form, with_value};
 use files::values;
 use oracle::{encode_part, encode_plain, Part};
 
@@ -20,7 +21,7 @@ fn the_sample_is_right_and_has_values_of_all_lengths() {
     for length in 1..=5 {
         assert!(values(&file).iter().any(|value| value.len() == length));
     }
-    assert_answer(&Case::of(&sample()), Ok((2, 2, 3)));
+    assert_answer(&of(&sample()), Ok((2, 2, 3)));
 }
 
 #[test]
@@ -50,19 +51,18 @@ fn large_numbers() -> impl Iterator<Item = u64> {
 
 #[test]
 fn counts_that_lie_are_refused_at_once() {
+    let mut met = Tally::default();
     for count in large_numbers() {
         for place in 0..3 {
             // None of any kind but for the count, and so many zeros.
             for zeros in 0..9 {
                 let mut file = with_value(&[0, 0, 0], place..place + 1, &encode_plain(count));
                 file.extend(vec![0; zeros]);
-                let Err(difference) = compare(&Case::exact(&file), library) else {
-                    continue;
-                };
-                panic!("{file:?}: {difference}");
+                met.add(&agree(&mut exact(&file)));
             }
         }
     }
+    met.require(&[13], 1_000);
     // Read with 32 bits, three times the count would be 2.
     let count = encode_plain((1 << 32) / 3 + 1);
     assert_broken(&[&count[..], &[0, 0, 0, 0]].concat(), 9);
@@ -75,12 +75,12 @@ fn counts_that_lie_are_refused_at_once() {
 #[test]
 fn every_value_replaced_by_a_small_or_large_number() {
     let file = encode_part(&sample());
+    let mut met = Tally::default();
     for value in values(&file) {
         for number in (0..=4).chain(large_numbers()) {
             let changed = with_value(&file, value.clone(), &encode_plain(number));
-            if let Err(difference) = compare(&Case::exact(&changed), library) {
-                panic!("{number} for the value at {value:?}: {difference}");
-            }
+            met.add(&agree(&mut exact(&changed)));
         }
     }
+    met.require(&[0, 13], 100);
 }

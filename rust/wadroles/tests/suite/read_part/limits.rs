@@ -1,6 +1,7 @@
 //! Parts as large as a mesh may be, and larger.
 
-use super::compare::{assert_answer, assert_broken, lengths, Case};
+use super::{assert_broken, of};
+use crate::harness::assert_answer;
 use meshes::shapes::{bipyramid, torus};
 use meshes::Mesh;
 use oracle::{encode_part, Part};
@@ -16,25 +17,22 @@ fn part(mesh: Mesh, heights: usize) -> Part {
 #[test]
 fn parts_at_the_limits_of_a_mesh_are_read() {
     let largest = part(torus(128, 256, 700_000, 300_000), 4_096);
-    assert_answer(&Case::of(&largest), Ok((32_768, 65_536, 4_096)));
+    assert_answer(&of(&largest), Ok((32_768, 65_536, 4_096)));
     let cone = part(bipyramid(32_766, 1_048_576, 1_048_576), 1);
-    assert_answer(&Case::of(&cone), Ok((32_768, 65_532, 1)));
+    assert_answer(&of(&cone), Ok((32_768, 65_532, 1)));
 }
 
 #[test]
 fn parts_above_the_limits_of_a_mesh_are_read_too() {
     let larger = part(torus(200, 200, 700_000, 300_000), 5_000);
-    assert_answer(&Case::of(&larger), Ok((40_000, 80_000, 5_000)));
+    assert_answer(&of(&larger), Ok((40_000, 80_000, 5_000)));
 }
 
 #[test]
 fn tables_one_too_short_for_the_largest_part_are_refused() {
     let largest = part(torus(128, 256, 700_000, 300_000), 4_096);
-    let file = encode_part(&largest);
-    for short in 0..3 {
-        let mut lengths = lengths(&largest);
-        lengths[short] -= 1;
-        assert_answer(&Case::new(&file, lengths), Err((9, 0)));
+    for table in 0..3 {
+        assert_answer(&of(&largest).lacking(table, 1), Err((9, 0)));
     }
 }
 

@@ -1,29 +1,28 @@
-//! What document 01 says of every part file, asked of the library. The oracle only writes files.
+//! What the specification says of every part file, asked of the product. The oracle only writes files.
 
-use super::compare::{lengths, library, Case, Tables};
-use crate::runs::rounds;
+use crate::harness::{refused, Answer, Case, Operation, Rounds, Tables};
+use crate::operations::ReadPart;
 use files::{random_part, Damage};
 use meshes::Random;
 use oracle::{encode_part, Part};
 
-/// The part that the library reads out of a file, or a refusal's number and place.
-fn library_part(file: &[u8]) -> Result<Part, (u32, u64)> {
+/// The part that the product reads out of a file, or a refusal's number and place.
+fn product_part(file: &[u8]) -> Answer<Part> {
     // Each value takes a byte at least.
     let mut part = Part {
         coords: vec![0; file.len()],
         corners: vec![0; file.len()],
         heights: vec![0; file.len()],
     };
-    let Part {
-        coords,
-        corners,
-        heights,
-    } = &mut part;
-    let read = wadroles::read_part(file, coords, corners, heights)
-        .map_err(|refusal| (refusal.number, refusal.place))?;
-    coords.truncate(3 * read.vertices);
-    corners.truncate(3 * read.triangles);
-    heights.truncate(read.heights);
+    let mut tables = wadroles::Part {
+        coords: &mut part.coords,
+        corners: &mut part.corners,
+        heights: &mut part.heights,
+    };
+    let counts = wadroles::read_part(file, &mut tables).map_err(refused)?;
+    part.coords.truncate(3 * counts.vertices);
+    part.corners.truncate(3 * counts.triangles);
+    part.heights.truncate(counts.heights);
     Ok(part)
 }
 
@@ -38,19 +37,20 @@ fn spoiled(random: &mut Random) -> Vec<u8> {
 
 #[test]
 fn parts_are_read_back_into_the_first_entries() {
-    let share = rounds("part files, read back", 10, |random| {
+    let share = Rounds::one_in(10, "part files, read back").share(|random| {
         let part = random_part(random);
-        let lengths @ [coords, corners, heights] = lengths(&part);
-        let mut case = Case {
-            file: encode_part(&part),
-            tables: Tables::long(lengths, random),
-        };
+        let Part {
+            coords,
+            corners,
+            heights,
+        } = &part;
+        let mut case = Case::<ReadPart>::long(encode_part(&part), random);
         let mut filled = case.tables.clone();
-        filled.coords.table()[..coords].copy_from_slice(&part.coords);
-        filled.corners.table()[..corners].copy_from_slice(&part.corners);
-        filled.heights.table()[..heights].copy_from_slice(&part.heights);
-        let answer = Ok((coords / 3, corners / 3, heights));
-        assert_eq!(case.run(library), answer);
+        filled.coords.table()[..coords.len()].copy_from_slice(coords);
+        filled.corners.table()[..corners.len()].copy_from_slice(corners);
+        filled.heights.table()[..heights.len()].copy_from_slice(heights);
+        let answer = Ok((coords.len() / 3, corners.len() / 3, heights.len()));
+        assert_eq!(case.run(ReadPart::product), answer);
         assert_eq!(case.tables.difference(&filled), None);
         !part.corners.is_empty()
     });
@@ -59,9 +59,9 @@ fn parts_are_read_back_into_the_first_entries() {
 
 #[test]
 fn what_is_accepted_is_the_file_of_its_part() {
-    let share = rounds("part files, accepted", 10, |random| {
+    let share = Rounds::one_in(10, "part files, accepted").share(|random| {
         let file = spoiled(random);
-        match library_part(&file) {
+        match product_part(&file) {
             Ok(part) => {
                 assert_eq!(encode_part(&part), file);
                 true
@@ -77,13 +77,13 @@ fn what_is_accepted_is_the_file_of_its_part() {
 
 #[test]
 fn the_bytes_before_the_place_are_right() {
-    let share = rounds("part files, places", 10, |random| {
+    let share = Rounds::one_in(10, "part files, places").share(|random| {
         let file = spoiled(random);
-        let Err((13, place)) = library_part(&file) else {
+        let Err((13, place)) = product_part(&file) else {
             return false;
         };
         // Up to the place it is a whole file, or one that lacks the next value.
-        match library_part(&file[..place as usize]) {
+        match product_part(&file[..place as usize]) {
             Ok(_) => assert!(file.len() as u64 > place),
             Err(refusal) => assert_eq!(refusal, (13, place)),
         }

@@ -1,20 +1,22 @@
 //! Cases worked by hand.
 
-use super::compare::{assert_answer, assert_broken, library, Case};
+use super::{assert_broken, exact, of};
+use crate::harness::{agree, assert_answer, Case};
+use crate::inputs::PART_FILE_P;
+use crate::operations::ReadPart;
 use meshes::shapes::tetrahedron;
 use oracle::Part;
 
-/// The file of document 01's part P, with its heights 0, 5, 10 and 11.
-pub const FILE_P: [u8; 31] = [
-    0x04, 0x04, 0x00, 0x00, 0x00, 0x14, 0x00, 0x00, 0x00, 0x14, 0x00, 0x00, 0x00, 0x14, 0x00, 0x02,
-    0x01, 0x00, 0x01, 0x03, 0x00, 0x03, 0x02, 0x01, 0x02, 0x03, 0x04, 0x00, 0x0A, 0x14, 0x16,
-];
+/// A file, with tables of these lengths.
+fn lent(file: &[u8], lengths: [usize; 3]) -> Case<ReadPart> {
+    Case::lent(file.to_vec(), lengths)
+}
 
-/// The part as the library writes it.
+/// The part as the product writes it.
 #[track_caller]
 fn written(file: &[u8]) -> Part {
-    let mut case = Case::exact(file);
-    case.run(library).unwrap();
+    let mut case = exact(file);
+    agree(&mut case).unwrap();
     Part {
         coords: case.tables.coords.view().to_vec(),
         corners: case.tables.corners.view().to_vec(),
@@ -24,14 +26,14 @@ fn written(file: &[u8]) -> Part {
 
 #[test]
 fn part_p() {
-    assert_answer(&Case::exact(&FILE_P), Ok((4, 4, 4)));
+    assert_answer(&exact(&PART_FILE_P), Ok((4, 4, 4)));
     let mesh = tetrahedron(10);
     let expected = Part {
         coords: mesh.coords,
         corners: mesh.corners,
         heights: vec![0, 5, 10, 11],
     };
-    assert_eq!(written(&FILE_P), expected);
+    assert_eq!(written(&PART_FILE_P), expected);
 }
 
 #[test]
@@ -41,8 +43,8 @@ fn the_bytes_80_00_are_refused_at_place_0() {
 
 #[test]
 fn none_of_any_kind_passes() {
-    assert_answer(&Case::exact(&[0, 0, 0]), Ok((0, 0, 0)));
-    assert_answer(&Case::new(&[0, 0, 0], [5, 4, 3]), Ok((0, 0, 0)));
+    assert_answer(&exact(&[0, 0, 0]), Ok((0, 0, 0)));
+    assert_answer(&lent(&[0, 0, 0], [5, 4, 3]), Ok((0, 0, 0)));
     assert_broken(&[], 0);
     assert_broken(&[0], 1);
     assert_broken(&[0, 0], 2);
@@ -55,7 +57,7 @@ fn each_table_is_filled_from_its_own_values() {
     assert_eq!(written(&[0, 1, 2, 4, 6, 0]).corners, [2, 4, 6]);
     assert_eq!(written(&[0, 0, 3, 2, 4, 6]).heights, [1, 2, 3]);
     let all = [1, 2, 1, 3, 5, 1, 3, 5, 7, 9, 11, 2, 1, 2];
-    assert_answer(&Case::exact(&all), Ok((1, 2, 2)));
+    assert_answer(&exact(&all), Ok((1, 2, 2)));
     let expected = Part {
         coords: vec![-1, -2, -3],
         corners: vec![1, 3, 5, 7, 9, 11],
@@ -72,13 +74,12 @@ fn only_the_form_of_values_is_ruled() {
         corners: vec![u32::MAX, 7, 7, 1 << 31, 2, 3],
         heights: vec![5, 5, i32::MAX, i32::MIN, 0],
     };
-    assert_answer(&Case::of(&part), Ok((2, 2, 5)));
+    assert_answer(&of(&part), Ok((2, 2, 5)));
     assert_eq!(written(&oracle::encode_part(&part)), part);
 }
 
 #[test]
 fn tables_need_three_entries_per_vertex_and_triangle_and_one_per_height() {
-    let lent = |lengths| Case::new(&FILE_P, lengths);
     for lengths in [
         [11, 12, 4],
         [12, 11, 4],
@@ -90,7 +91,7 @@ fn tables_need_three_entries_per_vertex_and_triangle_and_one_per_height() {
         [0, 0, 0],
         [40, 40, 3],
     ] {
-        assert_answer(&lent(lengths), Err((9, 0)));
+        assert_answer(&lent(&PART_FILE_P, lengths), Err((9, 0)));
     }
     for lengths in [
         [12, 12, 4],
@@ -99,24 +100,24 @@ fn tables_need_three_entries_per_vertex_and_triangle_and_one_per_height() {
         [12, 12, 5],
         [40, 40, 40],
     ] {
-        assert_answer(&lent(lengths), Ok((4, 4, 4)));
+        assert_answer(&lent(&PART_FILE_P, lengths), Ok((4, 4, 4)));
     }
 }
 
 #[test]
 fn a_broken_file_is_refused_before_short_tables() {
-    let left_over = [&FILE_P[..], &[0]].concat();
+    let left_over = [&PART_FILE_P[..], &[0]].concat();
     for lengths in [[11, 12, 4], [12, 11, 4], [12, 12, 3], [0, 0, 0]] {
-        assert_answer(&Case::new(&FILE_P[..30], lengths), Err((13, 30)));
-        assert_answer(&Case::new(&left_over, lengths), Err((13, 31)));
-        assert_answer(&Case::new(&[0x80, 0x00], lengths), Err((13, 0)));
+        assert_answer(&lent(&PART_FILE_P[..30], lengths), Err((13, 30)));
+        assert_answer(&lent(&left_over, lengths), Err((13, 31)));
+        assert_answer(&lent(&[0x80, 0x00], lengths), Err((13, 0)));
     }
 }
 
 #[test]
 fn a_missing_value_has_the_length_of_the_file_as_its_place() {
     for length in 0..31 {
-        assert_broken(&FILE_P[..length], length as u64);
+        assert_broken(&PART_FILE_P[..length], length as u64);
     }
 }
 
@@ -142,7 +143,7 @@ fn bytes_left_over_are_refused_at_the_first() {
         &[128, 0],
         &[255; 9],
     ] {
-        assert_broken(&[&FILE_P[..], left_over].concat(), 31);
+        assert_broken(&[&PART_FILE_P[..], left_over].concat(), 31);
         assert_broken(&[&[0, 0, 0], left_over].concat(), 3);
     }
 }

@@ -1,10 +1,13 @@
-pub mod compare;
+mod calls;
 mod faults;
 mod limits;
+mod list;
 mod lists;
 mod promises;
-mod raw;
-mod refusals;
+mod random;
+mod rings;
+mod swept;
 mod worked;
 
-pub use lists::spoil;
+pub use calls::{random_cut_tables, spoil, Call};
+pub use swept::Swept;

@@ -1,41 +1,45 @@
-//! What document 01 says of every list of calls, asked of the library. The oracle has no part in
+//! What the specification says of every list of calls, asked of the product. The oracle has no part in
 //! it.
 
-use super::compare::{library, Call, Done, Given, Tables};
-use crate::cut::{random_mesh, LayerTables};
-use crate::lent::Lent;
-use crate::runs::rounds;
-use meshes::{random_height, random_pairing, OrderDamage, PairingDamage, Random, RingDamage};
+use crate::harness::{long, Answer, Lent, Operation, Rounds, Tables};
+use crate::inputs::random_mesh;
+use crate::operations::{Cut, CutTables, Given, Layer, Ring, Start, Step, WorkTables};
+use meshes::{random_height, OrderDamage, PairingDamage, Random, RingDamage};
 use wadroles::NO_CORNER;
 
+/// Tables of a layer that are long enough for so many corners.
+fn long_tables(corners: usize, random: &mut Random) -> CutTables {
+    let needed = CutTables::needed(corners).into_iter();
+    let lengths: Vec<usize> = needed.map(|needed| long(needed, random)).collect();
+    CutTables::filled(&lengths, random)
+}
+
 /// A sweep on a right mesh, with its pairing and order, and the plain sweep beside it.
+#[derive(Clone)]
 struct Run {
     given: Given,
-    tables: Tables,
+    ring: Ring,
     /// The plane's position in the plain sweep.
     position: usize,
 }
 
 impl Run {
     fn start(random: &mut Random) -> Self {
-        let mut given = Given::new(random_mesh(random));
-        given.pairing = random_pairing(&given.mesh, random);
-        let corners = given.mesh.corners.len();
-        let mut tables = Tables {
-            ring: Lent::long(corners, random),
-            layer: LayerTables::long(corners, random),
+        let given = Given::paired(random_mesh(random), random);
+        let length = long(given.corners(), random);
+        let mut ring = Ring {
+            ring: Lent::new(length, random),
         };
-        let answer = library(&given, Call::Start, &mut tables);
-        assert_eq!(answer, Ok(Done::Fresh(0)));
+        assert_eq!(Start::product(&given, &mut ring), Ok(0));
         Run {
             given,
-            tables,
+            ring,
             position: 0,
         }
     }
 
     fn corners(&self) -> usize {
-        self.given.mesh.corners.len()
+        self.given.corners()
     }
 
     /// The number of vertices with z < h.
@@ -45,65 +49,78 @@ impl Run {
     }
 
     fn step(&mut self) {
-        let before = self.tables.clone();
+        let before = self.ring.clone();
         let top = self.given.mesh.vertex_count();
-        let answer = library(&self.given, Call::Step, &mut self.tables);
+        let answer = Step::product(&self.given, &mut self.ring);
         if self.position == top {
-            assert_eq!(answer, Ok(Done::Top));
-            assert_eq!(self.tables.ring, before.ring);
+            assert_eq!(answer, Ok(None));
+            assert_eq!(self.ring.ring, before.ring);
             return;
         }
         self.position += 1;
-        assert_eq!(answer, Ok(Done::Stepped(self.position)));
+        assert_eq!(answer, Ok(Some(self.position)));
         self.given.passed = self.position;
         let vertex = self.given.order[self.position - 1];
         for corner in 0..self.corners() {
             let first = self.given.pairing[corner] as usize / 3 * 3;
             let paired = &self.given.mesh.corners[first..first + 3];
             if !paired.contains(&vertex) {
-                let entry = |tables: &Tables| tables.ring.view()[corner];
-                assert_eq!(entry(&self.tables), entry(&before));
+                let entry = |ring: &Ring| ring.ring.view()[corner];
+                assert_eq!(entry(&self.ring), entry(&before));
             }
         }
     }
 
     fn rise(&mut self, h: i32, random: &mut Random) {
-        self.tables.layer = LayerTables::long(self.corners(), random);
-        let mut cut_tables = self.tables.layer.clone();
-        let before = self.tables.ring.clone();
-        let answer = library(&self.given, Call::Layer(h), &mut self.tables);
+        let mut cut_tables = long_tables(self.corners(), random);
+        let before = self.ring.ring.clone();
+        let (answer, left) = self.layer(h, cut_tables.clone());
         // A passed vertex lies at h or above exactly if fewer than those passed lie below.
         if self.below(h) < self.position {
             assert_eq!(answer, Err((12, 0)));
-            assert_eq!(self.tables.ring, before);
+            assert_eq!(self.ring.ring, before);
             return;
         }
         self.position = self.below(h);
-        let Given { mesh, pairing, .. } = &self.given;
-        let tables = cut_tables.for_library();
-        let cut = wadroles::cut(&mesh.coords, &mesh.corners, pairing, h, tables).unwrap();
-        let expected = Done::Risen(self.position, cut.contours, cut.points);
-        assert_eq!(answer, Ok(expected));
-        assert_eq!(self.tables.layer.difference(&cut_tables), None);
+        let cut = Cut::product(&self.given.clone().at(h), &mut cut_tables);
+        let (contours, points) = cut.unwrap();
+        assert_eq!(answer, Ok((self.position, contours, points)));
+        assert_eq!(left.difference(&cut_tables), None);
         self.given.passed = self.position;
+    }
+
+    /// The answer of a rise, and what it leaves in the tables of the layer.
+    fn layer(&mut self, h: i32, cut: CutTables) -> (Answer<(usize, usize, usize)>, CutTables) {
+        let mut work = WorkTables {
+            cut,
+            ring: self.ring.ring.clone(),
+        };
+        let answer = Layer::product(&self.given.clone().at(h), &mut work);
+        self.ring.ring = work.ring;
+        (answer, work.cut)
     }
 
     /// A call that is refused, on tables of its own.
     fn refused_call(&self, random: &mut Random) {
-        let (mut given, mut tables) = (self.given.clone(), self.tables.clone());
-        let call = match random.below(2) {
-            0 => Call::Step,
-            _ => Call::Layer(random_height(&given.mesh, random)),
-        };
+        let mut copy = self.clone();
+        let given = &mut copy.given;
+        let h = random_height(&given.mesh, random);
         match random.below(4) {
             0 => given.passed = given.mesh.vertex_count() + 1 + random.below(9),
             1 => PairingDamage::any(random).apply(&given.mesh, &mut given.pairing, random),
             2 => OrderDamage::any(random).apply(&given.mesh, &mut given.order, random),
-            _ => RingDamage::any(random).apply(tables.ring.table(), random),
+            _ => RingDamage::any(random).apply(copy.ring.ring.table(), random),
         }
-        let before = tables.ring.clone();
-        if library(&given, call, &mut tables).is_err() {
-            assert_eq!(tables.ring, before);
+        let before = copy.ring.ring.clone();
+        let is_refused = match random.below(2) {
+            0 => Step::product(&copy.given, &mut copy.ring).is_err(),
+            _ => {
+                let cut = long_tables(copy.corners(), random);
+                copy.layer(h, cut).0.is_err()
+            }
+        };
+        if is_refused {
+            assert_eq!(copy.ring.ring, before);
         }
     }
 
@@ -134,7 +151,7 @@ impl Run {
     fn assert_entries(&self) {
         let rising = self.rising();
         for corner in 0..self.corners() {
-            let entry = self.tables.ring.view()[corner];
+            let entry = self.ring.ring.view()[corner];
             if rising[corner] {
                 let successor = entry as usize;
                 assert!(rising[successor]);
@@ -148,7 +165,7 @@ impl Run {
     /// From each crossed edge the entries lead back to it, meeting no crossing twice on the way.
     fn assert_rings(&self) {
         let rising = self.rising();
-        let ring = self.tables.ring.view();
+        let ring = self.ring.ring.view();
         for start in (0..self.corners()).filter(|&corner| rising[corner]) {
             let mut met = vec![false; self.corners()];
             let mut corner = start;
@@ -166,7 +183,7 @@ impl Run {
 
 #[test]
 fn after_any_list_the_rings_are_those_of_the_plain_sweep() {
-    let share = rounds("sweep, plain sweep", 50, |random| {
+    let share = Rounds::one_in(50, "sweep, plain sweep").share(|random| {
         let mut run = Run::start(random);
         for _ in 0..random.below(12) {
             run.any_call(random);
@@ -181,7 +198,7 @@ fn after_any_list_the_rings_are_those_of_the_plain_sweep() {
 
 #[test]
 fn steps_lead_from_the_bottom_to_the_top() {
-    let share = rounds("sweep, all steps", 1000, |random| {
+    let share = Rounds::one_in(1000, "sweep, all steps").share(|random| {
         let mut run = Run::start(random);
         for _ in 0..=run.given.mesh.vertex_count() {
             run.step();
@@ -195,7 +212,7 @@ fn steps_lead_from_the_bottom_to_the_top() {
 
 #[test]
 fn rises_over_rising_heights_give_every_cut() {
-    let share = rounds("sweep, rising heights", 100, |random| {
+    let share = Rounds::one_in(100, "sweep, rising heights").share(|random| {
         let mut run = Run::start(random);
         let mut heights = [(); 8].map(|()| random_height(&run.given.mesh, random));
         heights.sort();

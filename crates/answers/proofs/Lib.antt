@@ -1,2 +1,0 @@
--- Lemmas that belong to no one function.
-pub mod Words

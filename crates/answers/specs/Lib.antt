@@ -1,3 +1,0 @@
--- Answers of the C interface.
-pub mod Answers
-pub mod AnswerLaws

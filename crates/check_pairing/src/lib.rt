@@ -1,0 +1,2 @@
+// The partner of every corner, for Check.
+pub mod unchecked_pairs;

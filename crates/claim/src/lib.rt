@@ -1,1 +1,0 @@
-// Demand 3, proved; see specs/. The product has no function here.

@@ -1,0 +1,44 @@
+-- Points (POINT-1 to POINT-3): where an edge meets the height h, exactly and as a point.
+use Prim.Native.Nat.{ℕ}
+use mathlib.Core.List.{List, [], _∷_}
+use lib.IntN.{ℤ, pos, natAbs, _+ℤ_, _-ℤ_, _*ℤ_}
+use lib.Signed.{shrZ}
+use Rattle.mesh.specs.Corners.{startOf, endOf, coordOf, zOf}
+use Rattle.mesh.specs.Meshes.{Mesh}
+
+-- on an edge from u0 at height z0 up to u1 at height z1 the exact x (or y) at height h is numerator / denominator,
+-- which is u0 + (u1 − u0) (h − z0) / (z1 − z0) (POINT-1)
+unfoldable pub numerator : ℤ → ℤ → ℤ → ℤ → ℤ → ℤ
+numerator u0 u1 z0 z1 h = u0 *ℤ (z1 -ℤ z0) +ℤ (u1 -ℤ u0) *ℤ (h -ℤ z0)
+
+-- and this, above 0 as the edge goes up
+unfoldable pub denominator : ℤ → ℤ → ℤ
+denominator z0 z1 = z1 -ℤ z0
+
+-- n / d rounded down, also below zero (WRONG-9), for d above 0
+abbrev pub floored : ℤ → ℤ → ℤ
+floored n d = shrZ n (natAbs d)
+
+-- n / d rounded to the nearest whole number, halves to the larger (POINT-2), for d above 0
+unfoldable pub rounded : ℤ → ℤ → ℤ
+rounded n d = floored (pos 2 *ℤ n +ℤ d) (pos 2 *ℤ d)
+
+-- the exact x (axis 0) or y (axis 1) on the edge of corner c is exactOver / exactUnder (POINT-1)
+unfoldable pub exactOver : Mesh → ℤ → ℕ → ℕ → ℤ
+exactOver m h axis c =
+    let u = startOf (m .corners) c in
+    let v = endOf (m .corners) c in
+    numerator (coordOf (m .coords) axis u) (coordOf (m .coords) axis v) (zOf (m .coords) u) (zOf (m .coords) v) h
+
+-- the denominator, the same for both
+unfoldable pub exactUnder : Mesh → ℕ → ℤ
+exactUnder m c = denominator (zOf (m .coords) (startOf (m .corners) c)) (zOf (m .coords) (endOf (m .corners) c))
+
+-- x or y of the point of corner c (POINT-2)
+unfoldable pub pointAt : Mesh → ℤ → ℕ → ℕ → ℤ
+pointAt m h axis c = rounded (exactOver m h axis c) (exactUnder m c)
+
+-- x and y of the point of each name, in turn (CUT-3), equal ones kept (POINT-3)
+unfoldable pub pointsOf : Mesh → ℤ → List ℕ → List ℤ
+pointsOf m h [] = []
+pointsOf m h (c ∷ cs) = pointAt m h 0 c ∷ pointAt m h 1 c ∷ pointsOf m h cs

@@ -1,3 +1,0 @@
-// Numbers in decimal, and texts, written into an output.
-
-pub mod internal;

@@ -1,0 +1,96 @@
+-- The third demand about All layers (RUN-8): its file is the layer file of Cut at each height
+-- taken, which is what Layer leaves on the way up from a start. Below it the demand whole (RUN-10).
+use Prim.Native.Nat.{ℕ}
+use mathlib.Core.Path.{_≡_}
+use mathlib.Core.Bool.{true}
+use mathlib.Core.List.{List, [], _∷_, _++_, map}
+use lib.ListN.{length, take, drop}
+use lib.IntN.{ℤ}
+use Rattle.mesh.specs.Meshes.{PairedMesh, OrderedMesh}
+use Rattle.mesh.specs.Operation.{fine, Condition, verdict}
+use Rattle.mesh.specs.Refusals.{Told}
+use Rattle.mesh.specs.Tests.{orders}
+use Rattle.file_formats.specs.LayerFile as files
+use Rattle.file_write.specs.Written.{layerOf}
+use Rattle.cut.specs.Cut.{CutTables, lengthsOf, cutRoomFor, Cuts}
+use Rattle.cut.specs.declared.CutAnswer.{CutAnswer}
+use Rattle.cut.specs.declared.CutAnswer.the-variants.{Layer as CutLayer}
+use Rattle.sweep.specs.declared.State.{State}
+use Rattle.sweep.specs.declared.StartAnswer.the-variants.{Fresh}
+use Rattle.sweep.specs.declared.LayerAnswer.the-variants.{Layer}
+use Rattle.sweep.specs.Sweep.{Sweep, freshRing}
+use Rattle.sweep.specs.Operations.{at, linkedTests, Starts, Rises}
+use Rattle.all_heights.specs.Heights.{heightsTaken}
+use Rattle.all_heights.specs.Taking.{RisingHeights}
+use Rattle.all_sweep.specs.declared.AllLayersAnswer.the-variants.{Length}
+use Rattle.all_sweep.specs.AllLayers.{cutLayer, cutFile, WorkTables, Files}
+use Rattle.demand_three.specs.Claim.{Call, rise, Run, SweepClaim}
+
+-- ---- the layer of a height
+
+-- this is the layer of Cut at h: Cut is not refused where its tables have room, whatever is in them, and leaves this layer in them; and so does every
+-- unrefused rise to h
+pub record LayerOfCut (m : PairedMesh) (h : ℤ) (layer : files.Layer) : Type 0 where
+  pub cuts : (t t′ : CutTables) (answer : CutAnswer) → cutRoomFor (length (m .mesh .corners)) (lengthsOf t) ≡ true → Cuts m h t answer t′
+      → (j : ℕ) × (k : ℕ) × (answer ≡ CutLayer j k) × (layerOf h (t′ .points) (t′ .ends) j ≡ layer)
+  pub rises : (s : Sweep) → s .ordered .paired ≡ m → (t t′ : CutTables) (state : State) (j k : ℕ) (ring′ : List ℕ) → Rises s h t (Layer state j k) ring′ t′
+      → layerOf h (t′ .points) (t′ .ends) j ≡ layer
+
+-- ---- up the heights by Layer
+
+-- the calls are unrefused rises, and the tables that they leave hold these layers, with the heights of the calls
+pub data Leave : List Call → List files.Layer → Type 0 where
+  no-call : Leave [] []
+  next-call : {s : Sweep} {h : ℤ} {t t′ : CutTables} {state : State} {j k : ℕ} {ring′ : List ℕ} {cs : List Call} {ls : List files.Layer}
+      (ok : Rises s h t (Layer state j k) ring′ t′) → Leave cs ls
+      → Leave (rise s h t (Layer state j k) ring′ t′ ok ∷ cs) (layerOf h (t′ .points) (t′ .ends) j ∷ ls)
+
+-- with n passed and ring table r, calls of Layer, none refused, leave these layers
+pub record Ascent (m : OrderedMesh) (n : ℕ) (r : List ℕ) (ls : List files.Layer) : Type 0 where
+  pub calls : List Call
+  pub passed : ℕ
+  pub ring : List ℕ
+  pub run : Run m n r calls passed ring
+  pub leave : Leave calls ls
+
+-- the tests of mesh, pairing and order: 1, 2, 3, 4, 7 and 8. A caller can pass them all: a mesh that Check accepts passes the first four, and the tables that
+-- Check then fills pass 7 and 8
+abbrev pub rightTests : OrderedMesh → List (Condition Told)
+rightTests m = linkedTests (m .paired) ++ (orders (m .paired .mesh .coords) (m .order) ∷ [])
+
+-- Strictly rising heights can be climbed by Layer from a start, on a right mesh with tables that have room, and what the calls leave is the layer of Cut at
+-- each of them.
+abbrev pub ClimbClaim : Type 0
+ClimbClaim =
+    (m : OrderedMesh) → verdict (rightTests m) ≡ fine → (t : CutTables) → cutRoomFor (length (m .paired .mesh .corners)) (lengthsOf t) ≡ true
+    → (ring : List ℕ) (fresh : State) (ring₀ : List ℕ) → Starts (m .paired .mesh) ring (Fresh fresh) ring₀
+    → (hs : List ℤ) → RisingHeights hs → Ascent m (fresh .passed) ring₀ (map (cutLayer (m .paired)) hs)
+
+-- ---- All layers
+
+-- an answer n and an output are the length and the bytes of the layer file of Cut at each of these heights
+pub record FileOfCuts (m : OrderedMesh) (hs : List ℤ) (w : WorkTables) (output : List ℕ) (n : ℕ) (output′ : List ℕ) : Type 0 where
+  -- the layers of the file are those of Cut
+  pub cut : (h : ℤ) → LayerOfCut (m .paired) h (cutLayer (m .paired) h)
+  pub size : n ≡ length (cutFile (m .paired) hs)
+  pub bytes : take n output′ ≡ cutFile (m .paired) hs
+  -- what was in the output past them stays
+  pub past : drop n output′ ≡ drop n output
+  -- Start is not refused the lent ring table, and calls of Layer from there, none refused, leave the layers of the file
+  pub start : Starts (m .paired .mesh) (w .ring) (Fresh (at 0)) (freshRing (m .paired .mesh .corners) (w .ring))
+  pub ascent : Ascent m 0 (freshRing (m .paired .mesh .corners) (w .ring)) (map (cutLayer (m .paired)) hs)
+
+-- The third demand about All layers (RUN-8): where it is not refused, it gives the length and the bytes of the layer
+-- file of Cut at each height taken. A caller can meet the hypothesis: only a listed condition refuses (`all-layers-given`,
+-- all_sweep/LayersLaws), and after Check none but those of heights and room (`FiledAfter`, composed).
+abbrev pub FileClaim : Type 0
+FileClaim =
+    (m : OrderedMesh) (heights : List ℤ) (w w′ : WorkTables) (output output′ : List ℕ) (n : ℕ) → Files m heights w output (Length n) w′ output′
+    → FileOfCuts m (heightsTaken (m .paired .mesh .coords) heights) w output n output′
+
+-- ---- the third demand, whole (RUN-10)
+
+pub record DemandThree : Type 0 where
+  pub sweeps : SweepClaim
+  pub climbs : ClimbClaim
+  pub files : FileClaim

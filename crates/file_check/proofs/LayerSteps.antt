@@ -1,0 +1,90 @@
+-- Layers one by one, and the end of the file: a lemma for each return of `read_height`, `check_layers` and `check_last`.
+use mathlib.Core.Path.{_≡_, ap}
+use mathlib.Core.Bool.{true, false}
+use mathlib.Core.List.{List}
+use Prim.Native.Nat.{ℕ, _-_, _<_, _≤_}
+use native.Mathlib.Omega.{arith}
+use lib.ListN.{length, drop}
+use lib.IntN.{ℤ}
+use lib.Signed.{ltZ}
+use Rattle.file_formats.specs.Formats.{Format, sequence}
+use Rattle.file_formats.specs.Numbers.{largestWord, unzigzag}
+use Rattle.file_formats.specs.LayerFile.{heightAbove, layerFormat, heightOf}
+use Rattle.file_formats.specs.LayerFileLaws.{height-bad, height-low, height-above}
+use Rattle.file_formats.specs.Positions.{numberAt, extentAt}
+use Rattle.file_formats.specs.PositionLaws.{took, not-took}
+use Rattle.file_formats.specs.declared.Number.the-variants.{Value, Bad as NumberBad}
+use Rattle.file_formats.specs.declared.Extent.the-variants.{End as ExtentEnd, Refused as ExtentRefused}
+use Rattle.file_check.specs.declared.Height.the-variants.{Above, Bad as HeightBad}
+use Rattle.file_check.specs.declared.CountsExtent.the-variants.{End as CountsEnd, Refused as CountsRefused}
+use Rattle.file_check.specs.declared.LevelsExtent.{LevelsExtent}
+use Rattle.file_check.specs.declared.LevelsExtent.the-variants.{End, Refused}
+use Rattle.file_check.specs.Answers.{heightToldAt, countsAt, levelsAt, final}
+use Rattle.file_check.specs.AnswerLaws.{told-parsed, told-refused, Off, counts-read, levels-read, levels-off, final-off, final-over, final-whole}
+use Rattle.file_check.specs.AnswerLaws.{layer-no-height, height-inside, layer-no-contours, layer-read}
+use Rattle.file_check.proofs.Runs.{Running, run-off, run-next}
+
+-- ---- a height
+
+module _ (low : ℤ) (file : List ℕ) (at : ℕ) where
+  pub no-height : numberAt largestWord file at ≡ NumberBad → HeightBad ≡ heightToldAt low file at
+  no-height e = told-refused Above (λ q. HeightBad) (heightAbove low) file at (drop at file) (height-bad low (drop at file) (not-took largestWord file at e))
+
+  module _ {m next : ℕ} (e : numberAt largestWord file at ≡ Value m next) where
+    pub not-above : ltZ low (unzigzag m) ≡ false → HeightBad ≡ heightToldAt low file at
+    not-above t =
+        told-refused Above (λ q. HeightBad) (heightAbove low) file at (drop at file)
+        (height-low low (drop at file) m (drop next file) (took e .parses) t)
+
+    pub above : ltZ low (unzigzag m) ≡ true → Above (unzigzag m) next ≡ heightToldAt low file at
+    above t =
+        let w = took e in
+        told-parsed Above (λ q. HeightBad) (heightAbove low) file at (unzigzag m) next
+        (record { inside = w .inside; parses = height-above low (drop at file) m (drop next file) (w .parses) t })
+
+-- ---- the loop over the layers
+
+abbrev pub LayerRun : List ℕ → LevelsExtent → ℤ → ℕ → ℕ → Type 0
+LayerRun file total low i left = Running layerFormat heightOf (λ z next. End next z) Refused file total low i left
+
+module _ {file : List ℕ} {total : LevelsExtent} {low : ℤ} {i left : ℕ} (w : LayerRun file total low i left) (h : 0 < left) where
+  pub height-stops : heightToldAt low file i ≡ HeightBad → Refused i ≡ total
+  height-stops e = run-off layerFormat heightOf (λ z next. End next z) Refused file left w h i (layer-no-height low file i (w .inside) e)
+
+  module _ {z : ℤ} {j : ℕ} (e : heightToldAt low file i ≡ Above z j) where
+    pub height-in : j ≤ length file
+    height-in = height-inside low file i (w .inside) z j e
+
+    pub contours-stop : {k : ℕ} → countsAt file j ≡ CountsRefused k → Refused k ≡ total
+    contours-stop {k} f = run-off layerFormat heightOf (λ z next. End next z) Refused file left w h k (layer-no-contours low file i (w .inside) z j e k f)
+
+    pub layer-passes : {next c p : ℕ} → countsAt file j ≡ CountsEnd next c p → LayerRun file total z next (left - 1)
+    layer-passes {next} {c} {p} f =
+        let q = counts-read file j height-in next c p f in
+        run-next layerFormat heightOf (λ z next. End next z) Refused file left w h (record { height = z; contours = q .0 }) next
+        (layer-read low file i (w .inside) z j e (q .0) next c p (q .1))
+
+-- ---- the end of the file
+
+extent-off : {A : Type 0} (F : Format A) (file : List ℕ) (at i : ℕ) → Off F file at i → ExtentRefused i ≡ extentAt F file at
+unfolding extentAt
+extent-off F file at i o = let p = o .parses in simp p (ap ExtentRefused (o .place))
+
+module _ (n : ℕ) (low : ℤ) (file : List ℕ) (at : ℕ) where
+  pub layers-stop : {i : ℕ} → levelsAt n low file at ≡ Refused i → ExtentRefused i ≡ extentAt (final (sequence layerFormat heightOf n low)) file at
+  layers-stop {i} e =
+      extent-off (final (sequence layerFormat heightOf n low)) file at i
+      (final-off (sequence layerFormat heightOf n low) file at i (levels-off file at n low i e))
+
+  module _ (h : at ≤ length file) {i : ℕ} {z : ℤ} (e : levelsAt n low file at ≡ End i z) where
+    pub left-over : i < length file → ExtentRefused i ≡ extentAt (final (sequence layerFormat heightOf n low)) file at
+    left-over k =
+        let q = levels-read file at n low h i z e in
+        extent-off (final (sequence layerFormat heightOf n low)) file at i (final-over (sequence layerFormat heightOf n low) file at (q .0) i (q .1) k)
+
+    pub all-passed : length file ≤ i → ExtentEnd i ≡ extentAt (final (sequence layerFormat heightOf n low)) file at
+    unfolding extentAt
+    all-passed k =
+        let q = levels-read file at n low h i z e in
+        let p = final-whole (sequence layerFormat heightOf n low) file at (q .0) i (q .1) k in
+        simp p (ap ExtentEnd (omega (arith, q .1 .inside)))

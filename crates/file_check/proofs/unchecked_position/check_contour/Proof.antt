@@ -1,0 +1,80 @@
+-- `check_contour` meets its contract.
+use mathlib.Core.Path.{_≡_, sym, _∙_}
+use native.Mathlib.Omega.{arith}
+use Rattle.file_formats.specs.Positions.{numberAt}
+use Rattle.file_formats.specs.PositionLaws.{took}
+use Rattle.file_formats.specs.declared.Number.the-variants.{Value}
+use Rattle.file_check.proofs.ContourSteps.{no-count, few-points, points-pass, points-stop}
+use borrow.Author.Needs.{needs}
+use Rattle.file_check.proofs.unchecked_position.check_contour.Statement.{statement}
+use Rattle.file_check.proofs.unchecked_position.check_contour.Tie as tie
+
+read-number-requires : tie.Need-read-number-requires
+read-number-requires c κs = search needs
+
+enum-known-n : tie.Need-enum-known-n
+enum-known-n c = search needs
+
+enum-told : tie.Need-enum-told
+enum-told c = search needs
+
+returns : tie.Need-returns
+returns c = no-count _ _ _ (c .before .before .before .before .pre) (sym (c .before .before .read-number .ensures) ∙ c .enum-told .given .1)
+
+-- the count read
+count : (c : tie.After-known-told)
+    → let start = c .before .before .before .before .before in
+    numberAt (start .args .room) (start .args .file .now) (start .args .at)
+    ≡ Value (c .before .n .given .0 .0) (c .before .n .given .0 .1 .0)
+count c = sym (c .before .before .before .read-number .ensures) ∙ c .before .n .given .1
+
+returns-2 : tie.Need-returns-2
+returns-2 c =
+    let start = c .before .before .before .before .before .before in
+    few-points _ _ _ (start .pre) (count (c .before)) (omega (arith, c .if1 .taken))
+
+check-points-requires : tie.Need-check-points-requires
+check-points-requires c κs = took (count (c .before)) .inside
+
+enum-known-p : tie.Need-enum-known-p
+enum-known-p c = search needs
+
+sub-t12 : tie.Need-sub-t12
+sub-t12 c =
+    let at-told = c .before .before .before .before .before in
+    took (count at-told) .low
+
+enum-known-p-2 : tie.Need-enum-known-p-2
+enum-known-p-2 c = search needs
+
+returns-3 : tie.Need-returns-3
+returns-3 c =
+    let at-check-points = c .before .before .before in
+    let at-if1 = at-check-points .before in
+    let at-told = at-if1 .before in
+    let start = at-told .before .before .before .before .before in
+    points-pass _ _ _ (start .pre) (count at-told) (at-if1 .if1 .left) (sym (at-check-points .check-points .ensures) ∙ c .before .p .given .1)
+
+returns-4 : tie.Need-returns-4
+returns-4 c =
+    let at-check-points = c .before .before .before in
+    let at-if1 = at-check-points .before in
+    let at-told = at-if1 .before in
+    let start = at-told .before .before .before .before .before in
+    points-stop _ _ _ (start .pre) (count at-told) (at-if1 .if1 .left) (sym (at-check-points .check-points .ensures) ∙ c .before .p2 .given .1)
+
+pub check-contour-spec : {M : Type 1} → statement M
+check-contour-spec =
+    tie.close
+    (tie.spec
+    read-number-requires
+    enum-known-n
+    enum-told
+    returns
+    returns-2
+    check-points-requires
+    enum-known-p
+    sub-t12
+    enum-known-p-2
+    returns-3
+    returns-4)

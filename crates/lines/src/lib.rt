@@ -1,3 +1,0 @@
-// The lines of the listing program, and the listing of a mesh.
-
-pub mod internal;

@@ -1,0 +1,3 @@
+// Numbers in decimal, and texts, written into an output.
+
+pub mod unchecked_text;

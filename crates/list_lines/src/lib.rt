@@ -1,0 +1,3 @@
+// The lines of the listing program, and the listing of a mesh.
+
+pub mod unchecked_lines;

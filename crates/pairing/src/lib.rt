@@ -1,2 +1,0 @@
-// The partner of every corner: internal, for Check.
-pub mod internal;

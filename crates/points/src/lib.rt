@@ -1,2 +1,0 @@
-// Points: where the edges of a mesh meet a height, for the cutter.
-pub mod internal;

@@ -1,0 +1,93 @@
+-- Read layer i (READ-1 to READ-11): its refusals in order, what it answers, and what it leaves in the two lent tables.
+use Prim.Native.Nat.{ℕ, _*_}
+use mathlib.Core.Bool.{Bool, not, _&&_}
+use mathlib.Core.List.{List, [], _∷_}
+use lib.Dec.{leb}
+use lib.ListN.{length, getD}
+use lib.IntN.{ℤ, pos}
+use Rattle.mesh.specs.Operation.{Answer, gives, refuses, Finding, Condition, whole, after, Operation, Does}
+use Rattle.mesh.specs.Refusals.{Told, refusal, numbered, toldOf}
+use Rattle.polygons.specs.Flat.{FlatLayer, flat, flatOf}
+use Rattle.file_formats.specs.LayerFile.{Layer, layersOf}
+use Rattle.file_formats.specs.LayerRules.{pointTotal}
+use Rattle.file_formats.specs.WholeFiles.{form, heldOr}
+use Rattle.read_layer.specs.declared.ReadLayerAnswer.{ReadLayerAnswer}
+use Rattle.read_layer.specs.declared.ReadLayerAnswer.the-variants.{Layer as ReadLayerLayer, Refused}
+
+-- ---- the layers of a file
+
+-- where the bytes are no layer file there are none, which decides nothing, as 13 comes first
+abbrev pub layersIn : List ℕ → List Layer
+layersIn file = heldOr [] (layersOf file)
+
+-- layer i, from 0; where there is none a layer without contours, which decides nothing, as 15 comes first
+abbrev pub layerAt : List Layer → ℕ → Layer
+layerAt ls i = getD ls i (record { height = pos 0; contours = [] })
+
+-- ---- 15 and 9
+
+-- 15: there is no layer i, place 0 (READ-9)
+abbrev pub noLayer : List Layer → ℕ → Condition Told
+noLayer ls i = whole (refusal 15) (leb (length ls) i)
+
+-- how many entries the two tables have
+pub record Entries : Type 0 where
+  pub points : ℕ
+  pub ends : ℕ
+
+-- the two lengths as a record
+abbrev pub entries : ℕ → ℕ → Entries
+entries points ends = record { points = points; ends = ends }
+
+-- those of two lent tables
+abbrev pub entriesOf : FlatLayer → Entries
+entriesOf t = entries (length (t .points)) (length (t .ends))
+
+-- so many contours and points have room
+unfoldable pub readLayerRoomFor : ℕ → ℕ → Entries → Bool
+readLayerRoomFor contours points n = leb (2 * points) (n .points) && leb contours (n .ends)
+
+-- a layer has room
+abbrev pub layerHasRoom : Layer → Entries → Bool
+layerHasRoom l n = readLayerRoomFor (length (l .contours)) (pointTotal (l .contours)) n
+
+-- 9: a table has too few entries for the layer, which needs two
+-- for each point and one for each contour, place 0 (READ-10)
+abbrev pub noLayerRoom : Layer → Entries → Condition Told
+noLayerRoom l n = whole (refusal 9) (not (layerHasRoom l n))
+
+-- ---- Read layer as a whole
+
+-- its refusals in order, for tables of so many entries (READ-5); 13 is of the whole file (READ-1)
+abbrev pub readingTests : List ℕ → ℕ → Entries → List (Condition Told)
+readingTests file i n = form file (layersOf file) ∷ noLayer (layersIn file) i ∷ noLayerRoom (layerAt (layersIn file) i) n ∷ []
+
+-- the layer count, and the layer's height and its counts of contours and points (READ-3)
+abbrev pub layerCounts : List Layer → ℕ → ℕ × ℤ × ℕ × ℕ
+layerCounts ls i = let l = layerAt ls i in (length ls, l .height, length (l .contours), pointTotal (l .contours))
+
+-- the layer's points and ends in the first entries (READ-2), unused
+-- entries as before (READ-4); after a refusal all as before (READ-11)
+abbrev pub fillsLayer : Layer → FlatLayer → Finding Told → FlatLayer
+fillsLayer l t f =
+    let filled = flatOf (l .contours) in
+    flat
+    (after (numbered []) f (filled .points) 0 (pos 0) (t .points))
+    (after (numbered []) f (filled .ends) 0 0 (t .ends))
+
+-- Read layer of a file, a number and two tables
+abbrev pub layerReading : List ℕ × ℕ × FlatLayer → Operation Told (ℕ × ℤ × ℕ × ℕ) FlatLayer
+layerReading = λ (file, i, t). record {
+  refusals = readingTests file i (entriesOf t);
+  values = layerCounts (layersIn file) i;
+  leaves = fillsLayer (layerAt (layersIn file) i) t;
+}
+
+-- what its answer says
+abbrev pub tellReadLayer : ReadLayerAnswer → Answer Told (ℕ × ℤ × ℕ × ℕ)
+tellReadLayer (ReadLayerLayer n h k m) = gives (n, h, k, m)
+tellReadLayer (Refused r) = refuses (toldOf r)
+
+-- the contract of Read layer
+abbrev pub ReadsLayer : List ℕ → ℕ → FlatLayer → ReadLayerAnswer → FlatLayer → Type 0
+ReadsLayer file i t result t′ = Does layerReading tellReadLayer (file, i, t) result t′

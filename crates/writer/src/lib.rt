@@ -1,3 +1,0 @@
-// The writer of the layer file: a layer in the tables that Cut leaves, measured and written.
-
-pub mod internal;

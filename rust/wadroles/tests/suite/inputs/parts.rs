@@ -1,0 +1,50 @@
+use crate::operations::Given;
+use meshes::shapes::{cuboid, octahedron, tetrahedron, torus};
+use meshes::Mesh;
+
+/// The pairing of part P in the specification.
+pub const PAIRING_P: [u32; 12] = [8, 9, 3, 2, 11, 6, 5, 10, 0, 1, 7, 4];
+
+/// The part file of part P, with its heights 0, 5, 10 and 11.
+pub const PART_FILE_P: [u8; 31] = [
+    0x04, 0x04, 0x00, 0x00, 0x00, 0x14, 0x00, 0x00, 0x00, 0x14, 0x00, 0x00, 0x00, 0x14, 0x00, 0x02,
+    0x01, 0x00, 0x01, 0x03, 0x00, 0x03, 0x02, 0x01, 0x02, 0x03, 0x04, 0x00, 0x0A, 0x14, 0x16,
+];
+
+/// The layer file of part P in the specification.
+pub const LAYER_FILE_P: [u8; 23] = [
+    0x04, 0x00, 0x00, 0x0A, 0x01, 0x03, 0x0A, 0x00, 0x09, 0x0A, 0x00, 0x09, 0x14, 0x01, 0x03, 0x00,
+    0x00, 0x00, 0x00, 0x00, 0x00, 0x16, 0x00,
+];
+
+/// Part P of the specification with its heights, of which 5 is the one to cut at.
+pub fn part_p() -> Given {
+    let given = Given::new(tetrahedron(10)).at(5).over(&[0, 5, 10, 11]);
+    assert_eq!(given.pairing, PAIRING_P);
+    given
+}
+
+/// Two meshes as one.
+pub fn joined(mut mesh: Mesh, other: &Mesh) -> Mesh {
+    mesh.join(other);
+    mesh
+}
+
+/// Two octahedra round the same place, of these sizes.
+pub fn octahedra(size: i32, other: i32) -> Mesh {
+    joined(octahedron(size), &octahedron(other))
+}
+
+/// They touch along the edge from vertex 3 of the first, which is 8 of the second, to 7, which is
+/// 12.
+pub fn boxes_touching_along_an_edge() -> Mesh {
+    joined(
+        cuboid([0, 0, 0], [10, 10, 10]),
+        &cuboid([10, 10, 0], [20, 20, 10]),
+    )
+}
+
+/// A torus with as many vertices and triangles as a mesh may have.
+pub fn largest_torus() -> Mesh {
+    torus(128, 256, 700_000, 300_000)
+}

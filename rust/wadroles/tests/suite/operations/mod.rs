@@ -1,0 +1,38 @@
+//! The operations of the specification as the harness sees them.
+
+mod all_layers;
+mod area;
+mod check;
+mod contour;
+mod cut;
+mod given;
+mod read_layer;
+mod read_part;
+mod sweep;
+
+pub use all_layers::{AllLayers, FileTables};
+pub use area::Area;
+pub use check::{Check, CheckTables};
+pub use contour::{Contour, Ends};
+pub use cut::{Cut, CutTables};
+pub use given::Given;
+pub use read_layer::{FlatLayer, LayerFile, ReadLayer};
+pub use read_part::{Part, ReadPart};
+pub use sweep::{Layer, Ring, Start, Step, WorkTables};
+
+use crate::harness::Version;
+
+/// A version of every operation, for tests that call several.
+#[derive(Clone, Copy, Default)]
+pub struct Versions {
+    pub read_part: Version<ReadPart>,
+    pub check: Version<Check>,
+    pub cut: Version<Cut>,
+    pub contour: Version<Contour>,
+    pub area: Version<Area>,
+    pub start: Version<Start>,
+    pub step: Version<Step>,
+    pub layer: Version<Layer>,
+    pub all_layers: Version<AllLayers>,
+    pub read_layer: Version<ReadLayer>,
+}
