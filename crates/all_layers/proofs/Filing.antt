@@ -136,10 +136,9 @@ module _ (n : ℕ) (w : WorkTables) where
   work-either true = ap (workAfter n w) (whole-refused (refusal 14) true refl ∙ verdict-one _)
   work-either false = ap (workAfter n w) (whole-fine (refusal 14) false refl ∙ verdict-one _)
 
-pub work-zeroed : {n : ℕ} {names names′ : List ℕ} {points points′ : List ℤ} {ends ends′ marks marks′ ring ring′ : List ℕ}
-    → names′ ≡ overwrite (replicate n 0) names
-    → points′ ≡ overwrite (replicate (2 * n) (pos 0)) points → ends′ ≡ overwrite (replicate n 0) ends → marks′ ≡ overwrite (replicate n 0) marks
-    → ring′ ≡ overwrite (replicate n 0) ring → Zeroed n (work names points ends marks ring) (work names′ points′ ends′ marks′ ring′)
+pub work-zeroed : {n : ℕ} {w w′ : WorkTables} → w′ .cut .names ≡ overwrite (replicate n 0) (w .cut .names)
+    → w′ .cut .points ≡ overwrite (replicate (2 * n) (pos 0)) (w .cut .points) → w′ .cut .ends ≡ overwrite (replicate n 0) (w .cut .ends)
+    → w′ .cut .marks ≡ overwrite (replicate n 0) (w .cut .marks) → w′ .ring ≡ overwrite (replicate n 0) (w .ring) → Zeroed n w w′
 unfolding after
 work-zeroed a b c d e = record { is = λ i. work (a i) (b i) (c i) (d i) (e i) }
 

@@ -40,8 +40,8 @@ works-none =
     }
 
 -- the sweep is begun
-pub works-begun : {n : ℕ} {names : List ℕ} {points : List ℤ} {ends marks marks₁ ring ring₁ : List ℕ} → Spent n marks marks₁ × Spent n ring ring₁
-    → Works n (work names points ends marks ring) (work names points ends marks₁ ring₁)
+pub works-begun : {n : ℕ} {w : WorkTables} {marks ring : List ℕ} → Spent n (w .cut .marks) marks × Spent n (w .ring) ring
+    → Works n w (work (w .cut .names) (w .cut .points) (w .cut .ends) marks ring)
 works-begun s =
     record { names-spent = spent-none _ _; points-spent = spent-none _ _; ends-spent = spent-none _ _; marks-spent = s .0; ring-spent = s .1 }
 

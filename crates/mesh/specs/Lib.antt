@@ -11,3 +11,4 @@ pub mod Refusals
 pub mod RefusalLaws
 pub mod Tests
 pub mod TestLaws
+pub mod Worked

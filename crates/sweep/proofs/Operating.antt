@@ -16,12 +16,12 @@ use Rattle.laws.specs.TableLaws.{refill-same, refill-at, tabulate-const}
 use Rattle.mesh.specs.Corners.{vertexCount, triangleOf, zOf}
 use Rattle.mesh.specs.Meshes.{Mesh, PairedMesh, OrderedMesh}
 use Rattle.mesh.specs.Operation.{Condition, Finding, gives, refuses, fine, test, verdict}
-use Rattle.mesh.specs.OperationLaws.{None, more, done, fine-none, fine-nowhere, join-stop, join-next, refused-every, does-refuse, does-give, does-last}
+use Rattle.mesh.specs.OperationLaws.{None, more, done, fine-none, join-stop, join-next, refused-every, does-refuse, does-give, does-last}
 use Rattle.mesh.specs.OperationLaws.{apart, given-verdict, left-given, refused-verdict}
 use Rattle.mesh.specs.Order.{Ranked}
 use Rattle.mesh.specs.OrderTableLaws.{ordered-rank}
 use Rattle.mesh.specs.Refusals.{Told, numbered, toldOf}
-use Rattle.mesh.specs.Tests.{pairOf, orders}
+use Rattle.mesh.specs.Tests.{pairOf}
 use Rattle.mesh.specs.declared.Refusal.{Refusal}
 use Rattle.section.specs.Section.{under, noCorner, ringEntry, Right}
 use Rattle.section.specs.SectionLaws.{below-under}
@@ -40,7 +40,7 @@ use Rattle.sweep.specs.declared.LayerAnswer.{LayerAnswer}
 use Rattle.sweep.specs.declared.LayerAnswer.the-variants.{Layer, Refused as LayerRefused}
 use Rattle.sweep.specs.Sweep.{Sweep, meshOf, sweepPairing, passedAt, freshRing, touches, relinked, stepRing}
 use Rattle.sweep.specs.SweepLaws.{entry-same, passed-under, count-few, risen-is}
-use Rattle.sweep.specs.Operations.{at, unlessRefused, tooMany, startTests, Starts, stepTests, passes, top, Steps}
+use Rattle.sweep.specs.Operations.{at, unlessRefused, startTests, Starts, stateTests, stepTests, passes, top, Steps}
 use Rattle.sweep.specs.Operations.{risenPassed, risenTable, risenSection, riseTests, Rises}
 use Rattle.sweep.specs.SweepTests.{sweepCondition}
 use Rattle.sweep.specs.Places.{Placed, StepTested, RiseTested, Lifts}
@@ -54,14 +54,17 @@ pub sweep-test-as : (s : Sweep) (h : ℤ) {which named : SweepTest} {f : Finding
 sweep-test-as s h e t = t ∙ ap (λ (w : SweepTest). test (sweepCondition w s h)) (sym e)
 
 -- what 8 and 10 establish on a right mesh
-pub placed-of : (m : OrderedMesh) (n : ℕ) → Right (m .paired) → {f g : Finding Told} → f ≡ test (orders (m .paired .mesh .coords) (m .order)) → f ≡ fine
-    → g ≡ test (tooMany (m .paired .mesh .coords) n) → g ≡ fine → Placed m n
-placed-of m n right e k d l =
-    record {
-      right = right;
-      ranked = λ i h. ordered-rank (m .paired .mesh .coords) (m .order) i (not-false _ (fine-nowhere _ (sym e ∙ k) i h)) h;
-      few = ltb-false _ _ (fine-nowhere _ (sym d ∙ l) 0 (omega arith));
-    }
+pub placed-of : (m : OrderedMesh) (n : ℕ) → Right (m .paired) → {f : Finding Told} → f ≡ verdict (stateTests (m .paired .mesh .coords) (m .order) n) → f ≡ fine
+    → Placed m n
+placed-of m n right e g = go (fine-none (stateTests (m .paired .mesh .coords) (m .order) n) (sym e ∙ g))
+  where
+    go : None (stateTests (m .paired .mesh .coords) (m .order) n) → Placed m n
+    go (more o (more k done)) =
+        record {
+          right = right;
+          ranked = λ i h. ordered-rank (m .paired .mesh .coords) (m .order) i (not-false _ (o i h)) h;
+          few = ltb-false _ _ (k 0 (omega arith));
+        }
 
 -- what Cut's tests establish
 pub right-tested : (m : PairedMesh) (l : Lengths) {f : Finding Told} → f ≡ verdict (cutTests m l) → f ≡ fine → Right m

@@ -1,13 +1,13 @@
 // The sweep: a plane that starts below a mesh and rises past its vertices, with the rings of the section kept in a lent table.
 ghost use mathlib.Core.Path.{_≡_};
-ghost use mathlib.Core.List.{[], _∷_, _++_};
 ghost use lib.ListN.{length};
 ghost use Rattle.mesh.specs.Meshes.{mesh, paired, ordered};
 ghost use Rattle.mesh.specs.Operation.{verdict};
 ghost use Rattle.mesh.specs.Refusals.{tellVerdict};
 ghost use Rattle.cut.specs.Cut.{lent, lengths};
 ghost use Rattle.sweep.specs.Sweep.{sweep};
-ghost use Rattle.sweep.specs.Operations.{startTests, Starts, shortRing, stateTests, stepTests, Steps, riseTests, Rises};
+ghost use Rattle.sweep.specs.Operations.{startTests, Starts, stepTests, Steps, riseTests, Rises};
+use crate::tests::state_test;
 use crate::unchecked::raise;
 use crate::unchecked::relink;
 use crate::unchecked::sweep_test;
@@ -87,56 +87,6 @@ pub fn start(coords: &[i32], corners: &[u32], ring: &mut [u32]) -> StartAnswer
     StartAnswer::Fresh(State { passed: 0 })
 }
 
-// Refusals 8, 10 and 11 of Step.
-fn state_test(
-    coords: &[i32],
-    corners: &[u32],
-    pairing: &[u32],
-    order: &[u32],
-    ring: &[u32],
-    n: usize,
-) -> Verdict
-    ensures told { λ r. ⌜ tellVerdict r ≡ verdict (stateTests (coords .entry .now) (order .entry .now) n
-        ++ (shortRing (corners .entry .now) (length (ring .entry .now)) ∷ [])) ⌝ }
-{
-    let a = one_sweep_test(
-        SweepTest::Mesh(MeshTest::Order),
-        coords,
-        corners,
-        pairing,
-        order,
-        ring,
-        n,
-        0,
-    );
-    if let Verdict::Refused(_) = a {
-        return a;
-    }
-    let b = one_sweep_test(
-        SweepTest::Passed,
-        coords,
-        corners,
-        pairing,
-        order,
-        ring,
-        n,
-        0,
-    );
-    if let Verdict::Refused(_) = b {
-        return b;
-    }
-    one_sweep_test(
-        SweepTest::Length,
-        coords,
-        corners,
-        pairing,
-        order,
-        ring,
-        n,
-        0,
-    )
-}
-
 // Refusals 1, 2, 3, 4, 7, 8, 10 and 11 of Step (STEP-6).
 fn step_test(
     coords: &[i32],
@@ -154,7 +104,20 @@ fn step_test(
     if let Verdict::Refused(_) = a {
         return a;
     }
-    state_test(coords, corners, pairing, order, ring, n)
+    let b = state_test(coords, corners, pairing, order, ring, n);
+    if let Verdict::Refused(_) = b {
+        return b;
+    }
+    one_sweep_test(
+        SweepTest::Length,
+        coords,
+        corners,
+        pairing,
+        order,
+        ring,
+        n,
+        0,
+    )
 }
 
 // Passes the next vertex of the order, and rewrites the entries

@@ -17,6 +17,7 @@ ghost use Rattle.sweep.specs.Places.{heightBehind, numberBehind, wrongFo
 use crate::LayerAnswer;
 use crate::State;
 use crate::SweepTest;
+use crate::tests::state_test;
 use crate::unchecked_tests::one_sweep_test;
 use cut::CutAnswer;
 use cut::unchecked::outline_rings;
@@ -24,7 +25,6 @@ use mesh::Refusal;
 use mesh::Verdict;
 use mesh::limits::LEAST_COORDINATE;
 use mesh::numbers::wide;
-use mesh_tables::MeshTest;
 use section::unchecked_crossings::entry_of;
 use section::unchecked_crossings::link;
 use section::unchecked_crossings::link_at;
@@ -268,35 +268,13 @@ pub fn sweep_test(
         (ring .entry .now) n)
         h) ⌝ }
 {
-    let a = one_sweep_test(
-        SweepTest::Mesh(MeshTest::Order),
-        coords,
-        corners,
-        pairing,
-        order,
-        ring,
-        n,
-        h,
-    );
+    let a = state_test(coords, corners, pairing, order, ring, n);
     if let Verdict::Refused(_) = a {
         return a;
     }
-    let b = one_sweep_test(
-        SweepTest::Passed,
-        coords,
-        corners,
-        pairing,
-        order,
-        ring,
-        n,
-        h,
-    );
+    let b = one_sweep_test(SweepTest::Ring, coords, corners, pairing, order, ring, n, h);
     if let Verdict::Refused(_) = b {
         return b;
-    }
-    let d = one_sweep_test(SweepTest::Ring, coords, corners, pairing, order, ring, n, h);
-    if let Verdict::Refused(_) = d {
-        return d;
     }
     one_sweep_test(
         SweepTest::Height,

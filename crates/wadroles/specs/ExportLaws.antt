@@ -1,40 +1,32 @@
--- A call through the C interface, by the outcome of the operation and by what the code wrote; that its outcome is the only one; and that the number returned
--- and `out` say what the operation answers.
+-- A call through the C interface, by the outcome of the operation and what is told of it; that its outcome
+-- is the only one; and that the number returned and `out` say what the operation answers.
 use Prim.Native.Nat.{ℕ, zero, suc, _-_, _^_, _<_}
-use mathlib.Core.Path.{_≡_, refl, sym, ap, _∙_}
+use mathlib.Core.Path.{_≡_, refl, sym, ap, _∙_, subst}
 use mathlib.Core.Bool.{Bool, cond}
 use mathlib.Core.List.{List, [], _∷_}
 use native.Mathlib.Omega.{arith}
 use borrow.Author.Tests.{lt-ltb, le-ltb}
 use lib.Dec.{ltb}
-use lib.ListN.{set, getD}
+use lib.ListN.{getD}
 use lib.Seq.{sets}
 use lib.IntN.{ℤ, pos, negsuc}
 use lib.Signed.{mag}
 use Rattle.mesh.specs.Operation.{Answer, gives, refuses, Finding, fine, verdict, _then_, Operation, answerOf, Does}
 use Rattle.mesh.specs.OperationLaws.{Every, refused-every}
 use Rattle.mesh.specs.Refusals.{Told, refusal, numberIn}
-use Rattle.wadroles.specs.Exports.{outAfter, Exports, wordOf}
+use Rattle.out_words.specs.Words.{outAfter, Says, wordOf}
+use Rattle.wadroles.specs.Exports.{Exports}
 
 module _ {I G T : Type 0} {op : I → Operation Told G T} {words : G → List ℕ} {input : I} {out out′ : List ℕ} {t : T} where
-  -- the returns of a function that hands its operation's outcome on: values, or a refusal
-  module _ {E : Type 0} {tell : E → Answer Told G} {result : E} (d : Does op tell input result t) where
-    pub exports-give : {g : G} → tell result ≡ gives g → out′ ≡ sets out 0 (words g) → Exports op words input out 0 t out′
-    unfolding outAfter
-    exports-give e w =
-        let a = sym e ∙ d .answers in
-        record { returns = ap numberIn a; writes = w ∙ ap (λ (b : Answer Told G). outAfter words b out) a; leaves = d .leaves }
-
-    pub exports-refuse : {r : Told} {n : ℕ} → tell result ≡ refuses r → (n ≡ r .number) × (out′ ≡ set out 0 (r .place)) → Exports op words input out n t out′
-    unfolding outAfter
-    exports-refuse e (n, w) =
-        let a = sym e ∙ d .answers in
-        record { returns = n ∙ ap numberIn a; writes = w ∙ ap (λ (b : Answer Told G). outAfter words b out) a; leaves = d .leaves }
+  -- a function hands its operation's outcome on, and the answer is told
+  pub exports-told : {E : Type 0} {tell : E → Answer Told G} {result : E} {n : ℕ} → Does op tell input result t → Says words (tell result) out n out′
+      → Exports op words input out n t out′
+  exports-told {n = n} d s = record { says = subst (λ (a : Answer Told G). Says words a out n out′) (d .answers) s; leaves = d .leaves }
 
   -- the only outcome: two that the contract allows for one input are equal, the number returned, every table and `out`
   pub exports-only : {n m : ℕ} {u : T} {out″ : List ℕ} → Exports op words input out n t out′ → Exports op words input out m u out″
       → (n ≡ m) × (t ≡ u) × (out′ ≡ out″)
-  exports-only p q = (p .returns ∙ sym (q .returns), p .leaves ∙ sym (q .leaves), p .writes ∙ sym (q .writes))
+  exports-only p q = (p .says .returns ∙ sym (q .says .returns), p .leaves ∙ sym (q .leaves), p .says .writes ∙ sym (q .says .writes))
 
 -- ---- what the caller reads
 
@@ -54,7 +46,7 @@ module _ {I G T : Type 0} {op : I → Operation Told G T} {words : G → List �
       → Every (λ r. 0 < r .number) (op input .refusals)
       → Exports op words input (fourWords a b c d) n t out′ → saidBy back n out′ ≡ answerOf (op input)
   unfolding outAfter _then_
-  exports-said back reads above x = by (verdict (op input .refusals)) refl (x .returns) (x .writes)
+  exports-said back reads above x = by (verdict (op input .refusals)) refl (x .says .returns) (x .says .writes)
     where
       told : (m p : ℕ) → 0 < m → saidBy back m (fourWords p b c d) ≡ refuses (refusal m p)
       told zero p h = absurd (omega arith)

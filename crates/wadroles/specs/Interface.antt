@@ -1,5 +1,4 @@
--- The C interface: for each function the operation that it exports,
--- and that operation's values as the words of `out`, in their order.
+-- The C interface: for each function the operation that it exports, and how that operation's values are words of `out`.
 use Prim.Native.Nat.{ℕ}
 use mathlib.Core.Path.{_≡_}
 use mathlib.Core.List.{List, [], _∷_}
@@ -13,48 +12,19 @@ use Rattle.cut.specs.Cut.{CutTables, cutting}
 use Rattle.contours.specs.Contours.{firstOf, spanOf}
 use Rattle.contours.specs.Areas.{measuring}
 use Rattle.sweep.specs.Sweep.{Sweep}
-use Rattle.sweep.specs.Operations.{starting, StepGives, passes, top, stepping, layering}
+use Rattle.sweep.specs.Operations.{starting, stepping, layering}
 use Rattle.all_sweep.specs.AllLayers.{WorkTables, filing}
 use Rattle.file_formats.specs.PartFile.{Part}
 use Rattle.read_layer.specs.Reading.{layerReading}
 use Rattle.read_part.specs.Parts.{partReading}
-use Rattle.wadroles.specs.Exports.{Exports, wordOf}
+use Rattle.out_words.specs.Words.{noWords, oneWord, signedWord, cutWords, stepWords, layerWords, readLayerWords, readPartWords}
+use Rattle.wadroles.specs.Exports.{Exports}
 
--- ---- values as words
-
--- one value, and a signed one
-abbrev pub oneWord : ℕ → List ℕ
-oneWord n = n ∷ []
-
-abbrev pub signedWord : ℤ → List ℕ
-signedWord z = wordOf z ∷ []
-
--- Cut: the counts of contours and points
-abbrev pub cutWords : ℕ × ℕ → List ℕ
-cutWords (contours, points) = contours ∷ points ∷ []
-
--- Step: the count of passed vertices, and 1 where it was the top, else 0
-abbrev pub stepWords : ℕ → StepGives → List ℕ
-stepWords passed (passes n) = n ∷ 0 ∷ []
-stepWords passed top = passed ∷ 1 ∷ []
-
--- Layer: the count of passed vertices, and the counts of contours and points
-abbrev pub layerWords : ℕ × (ℕ × ℕ) → List ℕ
-layerWords (passed, (contours, points)) = passed ∷ contours ∷ points ∷ []
-
--- Read layer: the layer count, the layer's height, and its counts of contours and points
-abbrev pub readLayerWords : ℕ × ℤ × ℕ × ℕ → List ℕ
-readLayerWords (layers, height, contours, points) = layers ∷ wordOf height ∷ contours ∷ points ∷ []
-
--- Read part: the counts of vertices, triangles and heights
-abbrev pub readPartWords : ℕ × ℕ × ℕ → List ℕ
-readPartWords (vertices, triangles, heights) = vertices ∷ triangles ∷ heights ∷ []
-
--- ---- the functions: what is handed in, `out` before, the number returned, the tables and `out` after
+-- What each function is handed, `out` before, the number returned, the tables and `out` after
 
 -- wadroles_check: no values
 abbrev pub CheckC : Mesh → CheckTables → List ℕ → ℕ → CheckTables → List ℕ → Type 0
-CheckC m t = Exports checking (λ _. []) (m, t)
+CheckC m t = Exports checking noWords (m, t)
 
 -- wadroles_cut
 abbrev pub CutC : PairedMesh → ℤ → CutTables → List ℕ → ℕ → CutTables → List ℕ → Type 0

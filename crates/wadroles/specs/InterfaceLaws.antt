@@ -35,7 +35,8 @@ use Rattle.read_layer.specs.Reading.{layersIn, layerAt, Entries, entriesOf, rea
 use Rattle.read_layer.specs.ReadingLaws.{fine-there}
 use Rattle.read_part.specs.Parts.{partReading}
 use Rattle.wadroles.specs.ExportLaws.{fourWords, saidBy, exports-said, signedFromWord, signed-back}
-use Rattle.wadroles.specs.Interface.{stepWords, CheckC, CutC, ContourC, AreaC, StartC, StepC, LayerC, AllLayersC, ReadLayerC, ReadPartC}
+use Rattle.out_words.specs.Words.{stepWords}
+use Rattle.wadroles.specs.Interface.{CheckC, CutC, ContourC, AreaC, StartC, StepC, LayerC, AllLayersC, ReadLayerC, ReadPartC}
 
 -- a refusal has a number that is not 0
 abbrev Nonzero : Told → Type 0

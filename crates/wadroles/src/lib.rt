@@ -7,20 +7,16 @@ ghost use Rattle.sweep.specs.Sweep.{sweep};
 ghost use Rattle.all_sweep.specs.AllLayers.{work};
 ghost use Rattle.read_part.specs.Parts.{part};
 ghost use Rattle.wadroles.specs.Interface.{CheckC, CutC, ContourC, AreaC, StartC, StepC, LayerC, AllLayersC, ReadLayerC, ReadPartC};
-use crate::words::refuse;
-use crate::words::word_of;
-use all_sweep::AllLayersAnswer;
-use check_mesh::CheckAnswer;
-use contours::AreaAnswer;
-use cut::CutAnswer;
-use read_layer::ReadLayerAnswer;
-use read_part::ReadPartAnswer;
-use sweep::LayerAnswer;
-use sweep::StartAnswer;
+use out_words::tell_all_layers;
+use out_words::tell_area;
+use out_words::tell_check;
+use out_words::tell_cut;
+use out_words::tell_layer;
+use out_words::tell_read_layer;
+use out_words::tell_read_part;
+use out_words::tell_start;
+use out_words::tell_step;
 use sweep::State;
-use sweep::StepAnswer;
-
-pub mod words;
 
 #[no_mangle]
 pub extern "C" fn wadroles_check(
@@ -35,10 +31,7 @@ pub extern "C" fn wadroles_check(
         (checkTables (pairing .exit .now) (order .exit .now)) (out .exit .now) ⌝ }
 {
     let a = check_mesh::check(coords, corners, pairing, order);
-    match a {
-        CheckAnswer::Accepted => 0,
-        CheckAnswer::Refused(r) => refuse(r, out),
-    }
+    tell_check(a, out)
 }
 
 #[no_mangle]
@@ -58,14 +51,7 @@ pub extern "C" fn wadroles_cut(
         (lent (names .exit .now) (points .exit .now) (ends .exit .now) (marks .exit .now)) (out .exit .now) ⌝ }
 {
     let a = cut::cut(coords, corners, pairing, h, names, points, ends, marks);
-    match a {
-        CutAnswer::Layer(j, k) => {
-            out[0] = j as u64;
-            out[1] = k as u64;
-            0
-        }
-        CutAnswer::Refused(r) => refuse(r, out),
-    }
+    tell_cut(a, out)
 }
 
 #[no_mangle]
@@ -90,13 +76,7 @@ pub extern "C" fn wadroles_area(points: &[i32], out: &mut [u64; 4]) -> u32
     ensures outcome { λ r. ⌜ AreaC (points .entry .now) (out .entry .now) r (out .exit .now) ⌝ }
 {
     let a = contours::area(points);
-    match a {
-        AreaAnswer::Area(d) => {
-            out[0] = word_of(d);
-            0
-        }
-        AreaAnswer::Refused(r) => refuse(r, out),
-    }
+    tell_area(a, out)
 }
 
 #[no_mangle]
@@ -110,13 +90,7 @@ pub extern "C" fn wadroles_start(
         (out .entry .now) r (ring .exit .now) (out .exit .now) ⌝ }
 {
     let a = sweep::start(coords, corners, ring);
-    match a {
-        StartAnswer::Fresh(s) => {
-            out[0] = s.passed as u64;
-            0
-        }
-        StartAnswer::Refused(r) => refuse(r, out),
-    }
+    tell_start(a, out)
 }
 
 #[no_mangle]
@@ -135,19 +109,7 @@ pub extern "C" fn wadroles_step(
 {
     let s = State { passed: passed };
     let a = sweep::step(coords, corners, pairing, order, ring, s);
-    match a {
-        StepAnswer::Stepped(t) => {
-            out[0] = t.passed as u64;
-            out[1] = 0;
-            0
-        }
-        StepAnswer::Top => {
-            out[0] = passed as u64;
-            out[1] = 1;
-            0
-        }
-        StepAnswer::Refused(r) => refuse(r, out),
-    }
+    tell_step(a, passed, out)
 }
 
 #[no_mangle]
@@ -186,15 +148,7 @@ pub extern "C" fn wadroles_layer(
         ends,
         marks,
     );
-    match a {
-        LayerAnswer::Layer(t, j, k) => {
-            out[0] = t.passed as u64;
-            out[1] = j as u64;
-            out[2] = k as u64;
-            0
-        }
-        LayerAnswer::Refused(r) => refuse(r, out),
-    }
+    tell_layer(a, out)
 }
 
 #[no_mangle]
@@ -233,13 +187,7 @@ pub extern "C" fn wadroles_all_layers(
         ring,
         output,
     );
-    match a {
-        AllLayersAnswer::Length(n) => {
-            out[0] = n as u64;
-            0
-        }
-        AllLayersAnswer::Refused(r) => refuse(r, out),
-    }
+    tell_all_layers(a, out)
 }
 
 #[no_mangle]
@@ -255,16 +203,7 @@ pub extern "C" fn wadroles_read_layer(
         (flat (points .exit .now) (ends .exit .now)) (out .exit .now) ⌝ }
 {
     let a = read_layer::read_layer(file, i, points, ends);
-    match a {
-        ReadLayerAnswer::Layer(n, z, j, k) => {
-            out[0] = n as u64;
-            out[1] = word_of(z as i64);
-            out[2] = j as u64;
-            out[3] = k as u64;
-            0
-        }
-        ReadLayerAnswer::Refused(r) => refuse(r, out),
-    }
+    tell_read_layer(a, out)
 }
 
 #[no_mangle]
@@ -280,13 +219,5 @@ pub extern "C" fn wadroles_read_part(
         (part (coords .exit .now) (corners .exit .now) (heights .exit .now)) (out .exit .now) ⌝ }
 {
     let a = read_part::read_part(file, coords, corners, heights);
-    match a {
-        ReadPartAnswer::Counts(v, t, k) => {
-            out[0] = v as u64;
-            out[1] = t as u64;
-            out[2] = k as u64;
-            0
-        }
-        ReadPartAnswer::Refused(r) => refuse(r, out),
-    }
+    tell_read_part(a, out)
 }

@@ -1,7 +1,5 @@
 -- `wadroles_all_layers` meets its contract.
-use mathlib.Core.Path.{refl, ap}
-use Rattle.all_sweep.specs.AllLayers.{tellAllLayers}
-use Rattle.wadroles.specs.ExportLaws.{exports-give, exports-refuse}
+use Rattle.wadroles.specs.ExportLaws.{exports-told}
 use borrow.Author.Needs.{needs}
 use Rattle.wadroles.proofs.wadroles_all_layers.Statement.{statement}
 use Rattle.wadroles.proofs.wadroles_all_layers.Tie as tie
@@ -9,17 +7,8 @@ use Rattle.wadroles.proofs.wadroles_all_layers.Tie as tie
 all-layers-requires : tie.Need-all-layers-requires
 all-layers-requires c κs = search needs
 
-enum-known-a : tie.Need-enum-known-a
-enum-known-a c = search needs
-
-element-write-out : tie.Need-element-write-out
-element-write-out c = search needs
-
-enum-known-a-2 : tie.Need-enum-known-a-2
-enum-known-a-2 c = search needs
-
-refuse-requires : tie.Need-refuse-requires
-refuse-requires c κs = search needs
+tell-all-layers-requires : tie.Need-tell-all-layers-requires
+tell-all-layers-requires c κs = search needs
 
 same-length : tie.Need-same-length
 same-length c = search needs
@@ -41,53 +30,19 @@ same-length-6 c = search needs
 
 returns : tie.Need-returns
 returns c =
-    let at-layers = c .before .before .before .before .before .before .before .before .before .before .before .before .before .before in
-    exports-give (at-layers .all-layers .ensures) (ap tellAllLayers (c .before .a .given .1)) refl
-
-same-length-7 : tie.Need-same-length-7
-same-length-7 c = search needs
-
-same-length-8 : tie.Need-same-length-8
-same-length-8 c = search needs
-
-same-length-9 : tie.Need-same-length-9
-same-length-9 c = search needs
-
-same-length-10 : tie.Need-same-length-10
-same-length-10 c = search needs
-
-same-length-11 : tie.Need-same-length-11
-same-length-11 c = search needs
-
-same-length-12 : tie.Need-same-length-12
-same-length-12 c = search needs
-
-returns-2 : tie.Need-returns-2
-returns-2 c =
-    let at-refused = c .before .before .before in
-    let at-layers = at-refused .before .before .before .before .before .before .before .before .before .before .before .before .before in
-    exports-refuse (at-layers .all-layers .ensures) (ap tellAllLayers (at-refused .a2 .given .1)) (c .refuse .ensures)
+    let at-layers = c .before .before .before .before .before .before .before .before .before .before .before .before .before in
+    exports-told (at-layers .all-layers .ensures) (c .tell-all-layers .ensures)
 
 pub wadroles-all-layers-spec : {M : Type 1} → statement M
 wadroles-all-layers-spec =
     tie.close
     (tie.spec
     all-layers-requires
-    enum-known-a
-    element-write-out
-    enum-known-a-2
-    refuse-requires
+    tell-all-layers-requires
     same-length
     same-length-2
     same-length-3
     same-length-4
     same-length-5
     same-length-6
-    returns
-    same-length-7
-    same-length-8
-    same-length-9
-    same-length-10
-    same-length-11
-    same-length-12
-    returns-2)
+    returns)

@@ -1,9 +1,9 @@
--- `words::refuse` meets its contract.
+-- `refuse` meets its contract.
 use mathlib.Core.Path.{ap}
 use lib.ListN.{set}
 use borrow.Author.Needs.{needs}
-use Rattle.wadroles.proofs.words.refuse.Statement.{statement}
-use Rattle.wadroles.proofs.words.refuse.Tie as tie
+use Rattle.out_words.proofs.refuse.Statement.{statement}
+use Rattle.out_words.proofs.refuse.Tie as tie
 
 place-of-requires : tie.Need-place-of-requires
 place-of-requires c κs = search needs

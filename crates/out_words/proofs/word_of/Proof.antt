@@ -1,12 +1,12 @@
--- `words::word_of` meets its contract.
+-- `word_of` meets its contract.
 use mathlib.Core.Path.{ap}
 use native.Mathlib.Omega.{arith}
 use lib.IntN.{pos, natAbs}
 use Rattle.laws.specs.Machine.{fit, lit, lt-true, lt-false}
 use Rattle.laws.specs.SignLaws.{Negative, negative, below-fits, below-is, NonNegative, non-negative, plain-ok}
-use Rattle.wadroles.proofs.Complements.{word-negative, word-non-negative}
-use Rattle.wadroles.proofs.words.word_of.Statement.{statement}
-use Rattle.wadroles.proofs.words.word_of.Tie as tie
+use Rattle.out_words.proofs.Complements.{word-negative, word-non-negative}
+use Rattle.out_words.proofs.word_of.Statement.{statement}
+use Rattle.out_words.proofs.word_of.Tie as tie
 
 neg : (c : tie.Then1) → Negative (c .before .args .z)
 neg c = negative _ (c .before .fits .z) (lt-true (fit (c .before .fits .z)) (lit (pos 0) tt) (c .if1 .taken))

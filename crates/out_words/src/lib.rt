@@ -1,0 +1,164 @@
+// Answers as the C interface tells them: 0 or the refusal's number, and `out` with the place, or the values as words.
+ghost use mathlib.Core.Path.{_≡_};
+ghost use lib.ListN.{set};
+ghost use Rattle.mesh.specs.Refusals.{numberOf, placeOf};
+ghost use Rattle.check_mesh.specs.Check.{tellCheck};
+ghost use Rattle.cut.specs.Cut.{tellCut};
+ghost use Rattle.contours.specs.Areas.{tellArea};
+ghost use Rattle.sweep.specs.Operations.{tellStart, tellStep, tellLayer};
+ghost use Rattle.all_sweep.specs.AllLayers.{tellAllLayers};
+ghost use Rattle.read_layer.specs.Reading.{tellReadLayer};
+ghost use Rattle.read_part.specs.Parts.{tellReadPart};
+ghost use Rattle.out_words.specs.Words.{wordOf, Says, noWords, oneWord, signedWord, cutWords, stepWords, layerWords};
+ghost use Rattle.out_words.specs.Words.{readLayerWords, readPartWords};
+use all_sweep::AllLayersAnswer;
+use check_mesh::CheckAnswer;
+use contours::AreaAnswer;
+use cut::CutAnswer;
+use mesh::Refusal;
+use mesh::refusals::number_of;
+use mesh::refusals::place_of;
+use read_layer::ReadLayerAnswer;
+use read_part::ReadPartAnswer;
+use sweep::LayerAnswer;
+use sweep::StartAnswer;
+use sweep::StepAnswer;
+
+// Puts a refusal's place into `out`, and returns its number.
+pub fn refuse(r: Refusal, out: &mut [u64; 4]) -> u32
+    ensures outcome { λ n. ⌜ (n ≡ numberOf r) × (out .exit .now ≡ set (out .entry .now) 0 (placeOf r)) ⌝ }
+{
+    out[0] = place_of(r) as u64;
+    number_of(r)
+}
+
+// A signed value in two's complement.
+pub fn word_of(z: i64) -> u64
+    ensures value { λ r. ⌜ r ≡ wordOf z ⌝ }
+{
+    if z < 0 {
+        let k = -1 - z;
+        return 18446744073709551615 - (k as u64);
+    }
+    z as u64
+}
+
+pub fn tell_check(a: CheckAnswer, out: &mut [u64; 4]) -> u32
+    ensures outcome { λ n. ⌜ Says noWords (tellCheck a) (out .entry .now) n (out .exit .now) ⌝ }
+{
+    match a {
+        CheckAnswer::Accepted => 0,
+        CheckAnswer::Refused(r) => refuse(r, out),
+    }
+}
+
+pub fn tell_cut(a: CutAnswer, out: &mut [u64; 4]) -> u32
+    ensures outcome { λ n. ⌜ Says cutWords (tellCut a) (out .entry .now) n (out .exit .now) ⌝ }
+{
+    match a {
+        CutAnswer::Layer(j, k) => {
+            out[0] = j as u64;
+            out[1] = k as u64;
+            0
+        }
+        CutAnswer::Refused(r) => refuse(r, out),
+    }
+}
+
+pub fn tell_area(a: AreaAnswer, out: &mut [u64; 4]) -> u32
+    ensures outcome { λ n. ⌜ Says signedWord (tellArea a) (out .entry .now) n (out .exit .now) ⌝ }
+{
+    match a {
+        AreaAnswer::Area(d) => {
+            out[0] = word_of(d);
+            0
+        }
+        AreaAnswer::Refused(r) => refuse(r, out),
+    }
+}
+
+pub fn tell_start(a: StartAnswer, out: &mut [u64; 4]) -> u32
+    ensures outcome { λ n. ⌜ Says oneWord (tellStart a) (out .entry .now) n (out .exit .now) ⌝ }
+{
+    match a {
+        StartAnswer::Fresh(fresh) => {
+            out[0] = fresh.passed as u64;
+            0
+        }
+        StartAnswer::Refused(r) => refuse(r, out),
+    }
+}
+
+// With so many passed before the step.
+pub fn tell_step(a: StepAnswer, passed: usize, out: &mut [u64; 4]) -> u32
+    ensures outcome { λ n. ⌜ Says (stepWords passed) (tellStep a) (out .entry .now) n (out .exit .now) ⌝ }
+{
+    match a {
+        StepAnswer::Stepped(s) => {
+            out[0] = s.passed as u64;
+            out[1] = 0;
+            0
+        }
+        StepAnswer::Top => {
+            out[0] = passed as u64;
+            out[1] = 1;
+            0
+        }
+        StepAnswer::Refused(r) => refuse(r, out),
+    }
+}
+
+pub fn tell_layer(a: LayerAnswer, out: &mut [u64; 4]) -> u32
+    ensures outcome { λ n. ⌜ Says layerWords (tellLayer a) (out .entry .now) n (out .exit .now) ⌝ }
+{
+    match a {
+        LayerAnswer::Layer(s, j, k) => {
+            out[0] = s.passed as u64;
+            out[1] = j as u64;
+            out[2] = k as u64;
+            0
+        }
+        LayerAnswer::Refused(r) => refuse(r, out),
+    }
+}
+
+pub fn tell_all_layers(a: AllLayersAnswer, out: &mut [u64; 4]) -> u32
+    ensures outcome { λ n. ⌜ Says oneWord (tellAllLayers a) (out .entry .now) n (out .exit .now) ⌝ }
+{
+    match a {
+        AllLayersAnswer::Length(n) => {
+            out[0] = n as u64;
+            0
+        }
+        AllLayersAnswer::Refused(r) => refuse(r, out),
+    }
+}
+
+pub fn tell_read_layer(a: ReadLayerAnswer, out: &mut [u64; 4]) -> u32
+    ensures outcome { λ n. ⌜ Says readLayerWords (tellReadLayer a) (out .entry .now) n (out .exit .now) ⌝ }
+{
+    match a {
+        ReadLayerAnswer::Layer(n, z, j, k) => {
+            out[0] = n as u64;
+            out[1] = word_of(z as i64);
+            out[2] = j as u64;
+            out[3] = k as u64;
+            0
+        }
+        ReadLayerAnswer::Refused(r) => refuse(r, out),
+    }
+}
+
+pub fn tell_read_part(a: ReadPartAnswer, out: &mut [u64; 4]) -> u32
+    ensures outcome { λ n. ⌜ Says readPartWords (tellReadPart a) (out .entry .now) n (out .exit .now) ⌝ }
+{
+    match a {
+        ReadPartAnswer::Counts(v, t, k) => {
+            out[0] = v as u64;
+            out[1] = t as u64;
+            out[2] = k as u64;
+            0
+        }
+        ReadPartAnswer::Refused(r) => refuse(r, out),
+    }
+}
