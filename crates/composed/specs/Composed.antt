@@ -16,9 +16,7 @@ use Rattle.check_mesh.specs.Check.{CheckTables, tellCheck, Checks}
 use Rattle.check_mesh.specs.declared.CheckAnswer.{CheckAnswer}
 use Rattle.cut.specs.Cut.{CutTables, lengthsOf, cutRoomFor, tellCut, Cuts}
 use Rattle.cut.specs.declared.CutAnswer.{CutAnswer}
-use Rattle.sweep.specs.declared.State.{State}
 use Rattle.sweep.specs.declared.StartAnswer.{StartAnswer}
-use Rattle.sweep.specs.declared.StartAnswer.the-variants.{Fresh}
 use Rattle.sweep.specs.declared.StepAnswer.{StepAnswer}
 use Rattle.sweep.specs.declared.LayerAnswer.{LayerAnswer}
 use Rattle.sweep.specs.Sweep.{sweep, RingAt, countBelow}
@@ -82,8 +80,8 @@ pub record Composed (m : Mesh) (t : CheckTables) : Type 0 where
   pub rise : (ring : List ℕ) (n : ℕ) (h : ℤ) (u u′ : CutTables) (result : LayerAnswer) (ring′ : List ℕ) → cutRoomFor (length (m .corners)) (lengthsOf u) ≡ true
       → Rises (sweep (withLeft m t) ring n) h u result ring′ u′ → RiseAfter (withLeft m t) ring n h result
   -- calls of Step and Layer after an unrefused Start leave no more passed than vertices, and a ring table as defined for them
-  pub onward : (ring : List ℕ) (fresh : State) (ring₀ : List ℕ) → Starts m ring (Fresh fresh) ring₀
-      → (calls : List Call) (n : ℕ) (ring′ : List ℕ) → Run (withLeft m t) (fresh .passed) ring₀ calls n ring′
+  pub onward : (ring : List ℕ) (result : StartAnswer) (k : ℕ) (ring₀ : List ℕ) → Starts m ring result ring₀ → tellStart result ≡ gives k
+      → (calls : List Call) (n : ℕ) (ring′ : List ℕ) → Run (withLeft m t) k ring₀ calls n ring′
       → (n ≤ vertexCount (m .coords)) × RingAt (sweep (withLeft m t) ring′ n)
   pub filed : (heights : List ℤ) (w w′ : WorkTables) (output output′ : List ℕ) (result : AllLayersAnswer)
       → workRoomFor (length (m .corners)) (lengthsOf (w .cut)) (length (w .ring)) ≡ true → Files (withLeft m t) heights w output result w′ output′

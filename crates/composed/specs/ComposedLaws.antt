@@ -173,8 +173,8 @@ module _ {m : Mesh} {t t′ : CheckTables} {checked : CheckAnswer} (c : Checks m
             record { only = step-left o right d; given = λ few long. only-given d (step-fine o right (length ring) n few long) };
         rise = λ ring n h u u′ result ring′ room d.
             record { only = rise-left o right d room; given = λ few table low. only-given d (rise-fine o right ring n h u room few table low) };
-        onward = λ ring fresh ring₀ start calls n ring′ run.
-            let k = run-keeps o 0 run (start-keeps o start) in (
+        onward = λ ring result u ring₀ d q calls n ring′ run.
+            let k = run-keeps o 0 run (start-keeps o d q) in (
               subst (λ (i : ℕ). i ≤ vertexCount (m .coords)) (sym (k .position)) (k .few),
               subst (λ (i : ℕ). RingAt (sweep o ring′ i)) (sym (k .position)) (k .table),
             );

@@ -12,8 +12,8 @@ use Rattle.mesh.specs.Operation.{gives, fine, verdict, after}
 use Rattle.mesh.specs.OperationLaws.{then-fine, given-verdict, left-given}
 use Rattle.polygons.specs.Flat.{FlatLayer, numbersOf, endsOf, pointTotal}
 use Rattle.polygons.specs.FlatLaws.{length-points, length-ends}
-use Rattle.cut.specs.declared.CutAnswer.the-variants.{Layer}
-use Rattle.cut.specs.Cut.{CutTables, section, contoursOf, Cuts}
+use Rattle.cut.specs.declared.CutAnswer.{CutAnswer}
+use Rattle.cut.specs.Cut.{CutTables, section, contoursOf, tellCut, Cuts}
 use Rattle.read_layer.specs.declared.ReadLayerAnswer.{ReadLayerAnswer}
 use Rattle.read_layer.specs.Reading.{layerAt, entriesOf, readingTests, layerCounts, fillsLayer, tellReadLayer, ReadsLayer}
 use Rattle.read_layer.specs.ReadingLaws.{verdict-fine, room-of, Gives}
@@ -49,13 +49,13 @@ pub record LayerLeft (m : PairedMesh) (h : ℤ) (t′ : CutTables) (j k : ℕ) :
   pub points : take (2 * k) (t′ .points) ≡ numbersOf (flatten (cutLayer m h .contours))
   pub ends : take j (t′ .ends) ≡ endsOf (cutLayer m h .contours)
 
-pub layer-left : {m : PairedMesh} {h : ℤ} {t t′ : CutTables} {j k : ℕ} → Cuts m h t (Layer j k) t′ → LayerLeft m h t′ j k
+pub layer-left : {m : PairedMesh} {h : ℤ} {t t′ : CutTables} {cut : CutAnswer} {j k : ℕ} → Cuts m h t cut t′ → tellCut cut ≡ gives (j, k) → LayerLeft m h t′ j k
 unfolding cutLayer after
-layer-left {m} {h} {t} {t′} {j} {k} c =
+layer-left {m} {h} {t} {t′} {cut} {j} {k} c e =
     let rs = contoursOf (section m h) in
     let cs = drawn (m .mesh) h rs .contours in
-    let counts = given-verdict c {g = (j, k)} refl .1 in
-    let left = left-given c {g = (j, k)} refl in
+    let counts = given-verdict c e .1 in
+    let left = left-given c e in
     let count : length cs ≡ j = length-map rs (map (crossingAt (m .mesh) h)) ∙ sym (λ i. counts i .0) in
     let total : pointTotal cs ≡ k = drawn-total (m .mesh) h rs ∙ sym (λ i. counts i .1) in
     let points : t′ .points ≡ overwrite (numbersOf (flatten cs)) (t .points) =
@@ -113,14 +113,14 @@ height-is m h = refl
 -- ---- the theorem
 
 pub reads-back : ReadBack
-reads-back m heights w w′ output output′ n words f i l t t′ j k c u u′ result points ends d =
+reads-back m heights w w′ output output′ filed n words f gave i l t t′ cut j k c told u u′ result points ends d =
     let hs = heightsTaken (m .paired .mesh .coords) heights in
     let ls = map (cutLayer (m .paired)) hs in
-    let coords = ranged-words (m .paired .mesh .coords) (all-layers-tested f {n = n} refl .right .inside) in
-    let file = file-claim m heights w w′ output output′ n f .bytes ∙ sym (all-layers-cut f {n = n} refl) in
-    let holds-them = ap layersOf file ∙ all-layers-reads-back f {n = n} refl coords words in
+    let coords = ranged-words (m .paired .mesh .coords) (all-layers-tested f gave .right .inside) in
+    let file = file-claim m heights w w′ output output′ filed n f gave .bytes ∙ sym (all-layers-cut f gave) in
+    let holds-them = ap layersOf file ∙ all-layers-reads-back f gave coords words in
     let at = layer-of-height (m .paired) hs i l in
-    let left = layer-left c in
+    let left = layer-left c told in
     let total = ap (λ (x : files.Layer). pointTotal (x .contours)) at ∙ left .total in
     let count = ap (λ (x : files.Layer). length (x .contours)) at ∙ left .count in
     let size = length-map hs (cutLayer (m .paired)) in

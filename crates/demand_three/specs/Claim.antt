@@ -10,23 +10,21 @@ use lib.ListN.{length, getD}
 use lib.IntN.{ℤ}
 use Rattle.mesh.specs.Corners.{vertexCount, triangleOf}
 use Rattle.mesh.specs.Meshes.{PairedMesh, OrderedMesh}
+use Rattle.mesh.specs.Operation.{Answer, gives, refuses, isRefusal}
+use Rattle.mesh.specs.Refusals.{Told}
 use Rattle.mesh.specs.Tests.{pairOf}
 use Rattle.section.specs.Section.{rising, ringEntry}
 use Rattle.section.specs.Rings.{Ring}
 use Rattle.section.specs.Contours.{contours, trace}
 use Rattle.section.specs.Layers as layers
 use Rattle.section.specs.Links.{traceLinks}
-use Rattle.cut.specs.Cut.{CutTables, Cuts}
+use Rattle.cut.specs.Cut.{CutTables, tellCut, Cuts}
 use Rattle.cut.specs.declared.CutAnswer.{CutAnswer}
-use Rattle.cut.specs.declared.CutAnswer.the-variants.{Layer as CutLayer}
-use Rattle.sweep.specs.declared.State.{State}
-use Rattle.sweep.specs.declared.StartAnswer.the-variants.{Fresh}
+use Rattle.sweep.specs.declared.StartAnswer.{StartAnswer}
 use Rattle.sweep.specs.declared.StepAnswer.{StepAnswer}
-use Rattle.sweep.specs.declared.StepAnswer.the-variants.{Stepped, Top, Refused as StepRefused}
 use Rattle.sweep.specs.declared.LayerAnswer.{LayerAnswer}
-use Rattle.sweep.specs.declared.LayerAnswer.the-variants.{Layer, Refused as LayerRefused}
 use Rattle.sweep.specs.Sweep.{Sweep, sweep, passedAt, touches, countBelow}
-use Rattle.sweep.specs.Operations.{Starts, Steps, Rises}
+use Rattle.sweep.specs.Operations.{tellStart, Starts, StepGives, passes, top, tellStep, Steps, tellLayer, Rises}
 
 -- ---- calls
 
@@ -38,24 +36,28 @@ pub data Call : Type 0 where
 
 -- its answer is a refusal
 unfoldable pub refused : Call → Bool
-refused (step s (Stepped u) ring′ ok) = false
-refused (step s Top ring′ ok) = false
-refused (step s (StepRefused r) ring′ ok) = true
-refused (rise s h t (Layer u j k) ring′ t′ ok) = false
-refused (rise s h t (LayerRefused r) ring′ t′ ok) = true
+refused (step s answer ring′ ok) = isRefusal (tellStep answer)
+refused (rise s h t answer ring′ t′ ok) = isRefusal (tellLayer answer)
 
 -- what it was handed
 unfoldable pub given : Call → Sweep
 given (step s answer ring′ ok) = s
 given (rise s h t answer ring′ t′ ok) = s
 
--- the count and the ring table that it leaves; at the top, and on a refusal, the count is the one that it was handed
+-- the count after a step, and after a rise, that was handed n and told this: at the top, and on a refusal, still n
+abbrev pub countAfterStep : ℕ → Answer Told StepGives → ℕ
+countAfterStep n (gives (passes k)) = k
+countAfterStep n (gives top) = n
+countAfterStep n (refuses r) = n
+
+abbrev pub countAfterRise : ℕ → Answer Told (ℕ × (ℕ × ℕ)) → ℕ
+countAfterRise n (gives (k, counts)) = k
+countAfterRise n (refuses r) = n
+
+-- the count and the ring table that it leaves
 unfoldable pub passedAfter : Call → ℕ
-passedAfter (step s (Stepped u) ring′ ok) = u .passed
-passedAfter (step s Top ring′ ok) = s .passed
-passedAfter (step s (StepRefused r) ring′ ok) = s .passed
-passedAfter (rise s h t (Layer u j k) ring′ t′ ok) = u .passed
-passedAfter (rise s h t (LayerRefused r) ring′ t′ ok) = s .passed
+passedAfter (step s answer ring′ ok) = countAfterStep (s .passed) (tellStep answer)
+passedAfter (rise s h t answer ring′ t′ ok) = countAfterRise (s .passed) (tellLayer answer)
 
 unfoldable pub ringAfter : Call → List ℕ
 ringAfter (step s answer ring′ ok) = ring′
@@ -110,21 +112,30 @@ pub record OnlyTouched (m : PairedMesh) (v : ℕ) (ring ring′ : List ℕ) : Ty
   pub only : (c : ℕ) → (getD ring′ c 0 ≡ getD ring c 0 → ⊥)
       → (c < length (m .mesh .corners)) × (touches (m .mesh .corners) (triangleOf (pairOf (m .pairing) c)) v ≡ true)
 
--- a rise to h, lent the tables t, that answered j contours and k points and left
--- t′ gave what Cut gives for the same mesh, pairing, height and tables (RUN-6):
--- Cut's contract allows this outcome, in which Cut is not refused, and no other
+-- a rise to h, lent the tables t, that gave j contours and k points and left t′ gave what Cut gives for the same mesh, pairing, height and tables (RUN-6):
+-- Cut's contract allows an answer that gives them and leaves t′, and no other outcome
 pub record GivesCut (m : PairedMesh) (h : ℤ) (t : CutTables) (j k : ℕ) (t′ : CutTables) : Type 0 where
-  pub gives : Cuts m h t (CutLayer j k) t′
-  pub alone : (answer : CutAnswer) (t″ : CutTables) → Cuts m h t answer t″ → (answer ≡ CutLayer j k) × (t″ ≡ t′)
+  pub answer : CutAnswer
+  pub tells : tellCut answer ≡ gives (j, k)
+  pub cuts : Cuts m h t answer t′
+  pub alone : (other : CutAnswer) (t″ : CutTables) → Cuts m h t other t″ → (tellCut other ≡ gives (j, k)) × (t″ ≡ t′)
 
--- what a call on this mesh, with this pairing and order, did: an unrefused step or rise as above; at the top, and on a refusal, the ring table stayed.
--- An unrefused step was tested by 8 and was not at the top, so the order has the vertex that it passed
+-- what a step that told this did: it passed a vertex as above; at the top, and on a refusal, the ring table stayed.
+-- A step that passed one was tested by 8 and was not at the top, so the order has the vertex
+abbrev pub StepDid : OrderedMesh → Sweep → List ℕ → Answer Told StepGives → Type 0
+StepDid m s ring′ (gives (passes n)) = OnlyTouched (m .paired) (getD (m .order) (s .passed) 0) (s .ring) ring′
+StepDid m s ring′ (gives top) = ring′ ≡ s .ring
+StepDid m s ring′ (refuses r) = ring′ ≡ s .ring
+
+-- what a rise that told this did: it gave what Cut gives; on a refusal the ring table stayed
+abbrev pub RiseDid : OrderedMesh → Sweep → ℤ → CutTables → List ℕ → CutTables → Answer Told (ℕ × (ℕ × ℕ)) → Type 0
+RiseDid m s h t ring′ t′ (gives (n, (j, k))) = GivesCut (m .paired) h t j k t′
+RiseDid m s h t ring′ t′ (refuses r) = ring′ ≡ s .ring
+
+-- what a call on this mesh, with this pairing and order, did
 unfoldable pub Did : OrderedMesh → Call → Type 0
-Did m (step s (Stepped u) ring′ ok) = OnlyTouched (m .paired) (getD (m .order) (s .passed) 0) (s .ring) ring′
-Did m (step s Top ring′ ok) = ring′ ≡ s .ring
-Did m (step s (StepRefused r) ring′ ok) = ring′ ≡ s .ring
-Did m (rise s h t (Layer u j k) ring′ t′ ok) = GivesCut (m .paired) h t j k t′
-Did m (rise s h t (LayerRefused r) ring′ t′ ok) = ring′ ≡ s .ring
+Did m (step s answer ring′ ok) = StepDid m s ring′ (tellStep answer)
+Did m (rise s h t answer ring′ t′ ok) = RiseDid m s h t ring′ t′ (tellLayer answer)
 
 -- it holds of each call of the list
 pub data EachCall (P : Call → Type 0) : List Call → Type 0 where
@@ -169,6 +180,6 @@ pub record Swept (m : OrderedMesh) (calls : List Call) (n passed : ℕ) (ring : 
 --   call has tested both (7, 8), and before the first one nothing is passed.
 abbrev pub SweepClaim : Type 0
 SweepClaim =
-    (m : OrderedMesh) (ring : List ℕ) (fresh : State) (ring₀ : List ℕ) → Starts (m .paired .mesh) ring (Fresh fresh) ring₀
-    → (calls : List Call) (passed : ℕ) (ring′ : List ℕ) → Run m (fresh .passed) ring₀ calls passed ring′
+    (m : OrderedMesh) (ring : List ℕ) (start : StartAnswer) (n : ℕ) (ring₀ : List ℕ) → Starts (m .paired .mesh) ring start ring₀ → tellStart start ≡ gives n
+    → (calls : List Call) (passed : ℕ) (ring′ : List ℕ) → Run m n ring₀ calls passed ring′
     → Swept m calls (planeAfter (m .paired .mesh .coords) 0 (fed calls)) passed ring′

@@ -13,6 +13,8 @@ use Rattle.laws.specs.Booleans.{clash, is-true, is-false, split-lt}
 use Rattle.laws.specs.TableLaws.{length-refill, refill-at}
 use Rattle.mesh.specs.Corners.{vertexCount}
 use Rattle.mesh.specs.Meshes.{OrderedMesh}
+use Rattle.mesh.specs.Operation.{Answer, gives, refuses, isRefusal}
+use Rattle.mesh.specs.Refusals.{Told}
 use Rattle.mesh.specs.Tests.{pairOf}
 use Rattle.section.specs.Section.{rising, successor, noCorner, ringEntry, Among, Linked}
 use Rattle.section.specs.SectionLaws.{rising-parts, falling-parts, pair-falls}
@@ -22,27 +24,27 @@ use Rattle.section.specs.Contours.{member, trace}
 use Rattle.section.specs.Links.{hasLink, linkOf, traceLinks}
 use Rattle.section.specs.LayerLaws.{Leads, leads-on, trace-all}
 use Rattle.section.specs.LinkLaws.{same-trace, link-rises, table-trace, table-leads}
-use Rattle.cut.specs.Cut.{CutTables}
+use Rattle.cut.specs.Cut.{CutTables, tellCut}
 use Rattle.cut.specs.CutLaws.{cut-only}
-use Rattle.sweep.specs.declared.State.{State}
-use Rattle.sweep.specs.declared.StartAnswer.the-variants.{Fresh}
-use Rattle.sweep.specs.declared.StepAnswer.the-variants.{Stepped, Top, Refused as StepRefused}
-use Rattle.sweep.specs.declared.LayerAnswer.the-variants.{Layer, Refused as LayerRefused}
+use Rattle.sweep.specs.declared.StartAnswer.{StartAnswer}
+use Rattle.sweep.specs.declared.StepAnswer.{StepAnswer}
+use Rattle.sweep.specs.declared.LayerAnswer.{LayerAnswer}
 use Rattle.sweep.specs.Sweep.{Sweep, sweep, meshOf, passedAt, RingAt, freshRing}
 use Rattle.sweep.specs.SweepLaws.{step-right, step-length, step-past, step-keeps, count-few}
-use Rattle.sweep.specs.Operations.{Starts, Steps, Rises}
+use Rattle.sweep.specs.Operations.{tellStart, Starts, StepGives, passes, top, tellStep, Steps, tellLayer, Rises}
 use Rattle.sweep.specs.AnswerLaws.{fresh-start, step-taken, step-top, unstepped-ring}
 use Rattle.sweep.specs.RiseLaws.{rise-tests, rise-state, rise-ring, rise-is-cut, unrisen-ring}
-use Rattle.demand_three.specs.Claim.{Call, step, rise, refused, given, passedAfter, ringAfter, Run, done, skipped, taken, up, to, moveOf, moved}
-use Rattle.demand_three.specs.Claim.{planeAfter, fed, OnlyTouched, GivesCut, Afresh, Did, EachCall, none, and, SweepClaim}
+use Rattle.demand_three.specs.Claim.{Call, step, rise, refused, given, countAfterStep, countAfterRise, passedAfter, ringAfter, Run, done, skipped, taken}
+use Rattle.demand_three.specs.Claim.{up, to, moveOf, moved, planeAfter, fed, OnlyTouched, GivesCut, StepDid, RiseDid, Did, EachCall, none, and, Afresh}
+use Rattle.demand_three.specs.Claim.{SweepClaim}
 
--- ---- Step, unrefused
+-- ---- Step and Layer, unrefused
 
 -- it changed only entries whose paired corner's triangle touches the vertex that it passed
-pub stepped-touched : {s : Sweep} {u : State} {ring′ : List ℕ} → Steps s (Stepped u) ring′
+pub stepped-touched : {s : Sweep} {answer : StepAnswer} {n : ℕ} {ring′ : List ℕ} → Steps s answer ring′ → tellStep answer ≡ gives (passes n)
     → OnlyTouched (s .ordered .paired) (getD (s .ordered .order) (s .passed) 0) (s .ring) ring′
-stepped-touched {s} {u} {ring′} ok =
-    let d = step-taken ok in
+stepped-touched {s} ok e =
+    let d = step-taken ok e in
     subst (OnlyTouched (s .ordered .paired) (getD (s .ordered .order) (s .passed) 0) (s .ring)) (sym (d .relinks))
     (record {
       same-length = step-length s (d .tested .long);
@@ -51,6 +53,18 @@ stepped-touched {s} {u} {ring′} ok =
         is-true _ (λ e. ne (step-keeps s (d .tested .long) c e)),
       );
     })
+
+-- it gave what Cut gives
+pub risen-cut : {s : Sweep} {h : ℤ} {t t′ : CutTables} {answer : LayerAnswer} {n j k : ℕ} {ring′ : List ℕ} → Rises s h t answer ring′ t′
+    → tellLayer answer ≡ gives (n, (j, k)) → GivesCut (s .ordered .paired) h t j k t′
+risen-cut ok e =
+    let c = rise-is-cut ok e in
+    record {
+      answer = c .0;
+      tells = c .1;
+      cuts = c .2;
+      alone = λ other t″ x. let p = cut-only x (c .2) in (ap tellCut (p .0) ∙ c .1, p .1);
+    }
 
 -- ---- what each call keeps
 
@@ -83,10 +97,11 @@ module _ (m : OrderedMesh) where
   unfolding ringEntry rising passedAt member
   none-linked c = refl
 
-  pub start-keeps : {ring : List ℕ} {u : State} {ring₀ : List ℕ} → Starts (m .paired .mesh) ring (Fresh u) ring₀ → SweepKept 0 (u .passed) ring₀
+  pub start-keeps : {ring : List ℕ} {start : StartAnswer} {n : ℕ} {ring₀ : List ℕ} → Starts (m .paired .mesh) ring start ring₀ → tellStart start ≡ gives n
+      → SweepKept 0 n ring₀
   unfolding freshRing
-  start-keeps {ring} {u} {ring₀} ok =
-      let d = fresh-start ok in
+  start-keeps {ring} ok e =
+      let d = fresh-start ok e in
       record {
         position = d .none-passed;
         few = omega arith;
@@ -98,14 +113,14 @@ module _ (m : OrderedMesh) where
         tested = inl refl;
       }
 
-  pub stepped-keeps : (n passed : ℕ) (ring : List ℕ) {u : State} {ring′ : List ℕ} → Steps (sweep m ring passed) (Stepped u) ring′ → SweepKept n passed ring
-      → SweepKept (moved coords n up) (u .passed) ring′
+  pub stepped-keeps : (n passed : ℕ) (ring : List ℕ) {answer : StepAnswer} {u : ℕ} {ring′ : List ℕ} → Steps (sweep m ring passed) answer ring′
+      → tellStep answer ≡ gives (passes u) → SweepKept n passed ring → SweepKept (moved coords n up) u ring′
   unfolding moved
-  stepped-keeps n passed ring {u} {ring′} ok k =
-      let d = step-taken ok in
+  stepped-keeps n passed ring {answer} {u} {ring′} ok e k =
+      let d = step-taken ok e in
       let right = d .tested .placed .right in
       let below : n < vertexCount coords = subst (λ (i : ℕ). i < vertexCount coords) (k .position) (d .next) in
-      subst (λ (b : Bool). SweepKept (cond b (suc n) n) (u .passed) ring′) (sym (lt-ltb n (vertexCount coords) below))
+      subst (λ (b : Bool). SweepKept (cond b (suc n) n) u ring′) (sym (lt-ltb n (vertexCount coords) below))
       (record {
         position = d .one-more ∙ ap suc (k .position);
         few = below;
@@ -116,38 +131,46 @@ module _ (m : OrderedMesh) where
         tested = inr (right .linked);
       })
 
-  pub top-keeps : (n passed : ℕ) (ring : List ℕ) {ring′ : List ℕ} → Steps (sweep m ring passed) Top ring′ → SweepKept n passed ring
-      → SweepKept (moved coords n up) passed ring′
+  pub top-keeps : (n passed : ℕ) (ring : List ℕ) {answer : StepAnswer} {ring′ : List ℕ} → Steps (sweep m ring passed) answer ring′
+      → tellStep answer ≡ gives top → SweepKept n passed ring → SweepKept (moved coords n up) passed ring′
   unfolding moved
-  top-keeps n passed ring {ring′} ok k =
-      let d = step-top ok in
+  top-keeps n passed ring {answer} {ring′} ok e k =
+      let d = step-top ok e in
       let all : vertexCount coords ≤ n = subst (λ (i : ℕ). vertexCount coords ≤ i) (k .position) (d .all-passed) in
       subst (λ (b : Bool). SweepKept (cond b (suc n) n) passed ring′) (sym (le-ltb n (vertexCount coords) all)) (subst (SweepKept n passed) (sym (d .stays)) k)
 
-  pub risen-keeps : (n passed : ℕ) (ring : List ℕ) (h : ℤ) {t t′ : CutTables} {u : State} {i j : ℕ} {ring′ : List ℕ}
-      → Rises (sweep m ring passed) h t (Layer u i j) ring′ t′ → SweepKept (moved coords n (to h)) (u .passed) ring′
+  pub risen-keeps : (n passed : ℕ) (ring : List ℕ) (h : ℤ) {t t′ : CutTables} {answer : LayerAnswer} {u i j : ℕ} {ring′ : List ℕ}
+      → Rises (sweep m ring passed) h t answer ring′ t′ → tellLayer answer ≡ gives (u, (i, j)) → SweepKept (moved coords n (to h)) u ring′
   unfolding moved
-  risen-keeps n passed ring h ok =
+  risen-keeps n passed ring h ok e =
       record {
-        position = ap (λ (a : State). a .passed) (rise-state ok);
-        few = count-few coords order (rise-tests ok .placed .ranked) h;
-        table = rise-ring ok;
-        tested = inr (rise-tests ok .placed .right .linked);
+        position = rise-state ok e;
+        few = count-few coords order (rise-tests ok e .placed .ranked) h;
+        table = rise-ring ok e;
+        tested = inr (rise-tests ok e .placed .right .linked);
       }
 
   -- the position that the plain sweep gives is kept
+  step-on : (n passed : ℕ) (ring : List ℕ) {answer : StepAnswer} {ring′ : List ℕ} → Steps (sweep m ring passed) answer ring′ → (a : Answer Told StepGives)
+      → tellStep answer ≡ a → isRefusal a ≡ false → SweepKept n passed ring → SweepKept (moved coords n up) (countAfterStep passed a) ring′
+  step-on n passed ring ok (gives (passes u)) q e k = stepped-keeps n passed ring ok q k
+  step-on n passed ring ok (gives top) q e k = top-keeps n passed ring ok q k
+  step-on n passed ring ok (refuses r) q e k = absurd (clash refl e)
+
+  rise-on : (n passed : ℕ) (ring : List ℕ) (h : ℤ) {t t′ : CutTables} {answer : LayerAnswer} {ring′ : List ℕ} → Rises (sweep m ring passed) h t answer ring′ t′
+      → (a : Answer Told (ℕ × (ℕ × ℕ))) → tellLayer answer ≡ a → isRefusal a ≡ false → SweepKept (moved coords n (to h)) (countAfterRise passed a) ring′
+  rise-on n passed ring h ok (gives (u, (i, j))) q e = risen-keeps n passed ring h ok q
+  rise-on n passed ring h ok (refuses r) q e = absurd (clash refl e)
+
   pub call-keeps : (n passed : ℕ) (ring : List ℕ) (c : Call) → refused c ≡ false → given c ≡ sweep m ring passed → SweepKept n passed ring
       → SweepKept (moved coords n (moveOf c)) (passedAfter c) (ringAfter c)
   unfolding refused given moveOf passedAfter ringAfter
-  call-keeps n passed ring (step s (Stepped u) ring′ ok) e q k =
-      subst (λ (x : Sweep). Steps x (Stepped u) ring′ → SweepKept (moved coords n up) (u .passed) ring′) (sym q) (λ v. stepped-keeps n passed ring v k) ok
-  call-keeps n passed ring (step s Top ring′ ok) e q k =
-      subst (λ (x : Sweep). Steps x Top ring′ → SweepKept (moved coords n up) (x .passed) ring′) (sym q) (λ v. top-keeps n passed ring v k) ok
-  call-keeps n passed ring (step s (StepRefused r) ring′ ok) e q k = absurd (clash refl e)
-  call-keeps n passed ring (rise s h t (Layer u i j) ring′ t′ ok) e q k =
-      subst (λ (x : Sweep). Rises x h t (Layer u i j) ring′ t′ → SweepKept (moved coords n (to h)) (u .passed) ring′) (sym q)
-      (λ v. risen-keeps n passed ring h v) ok
-  call-keeps n passed ring (rise s h t (LayerRefused r) ring′ t′ ok) e q k = absurd (clash refl e)
+  call-keeps n passed ring (step s answer ring′ ok) e q k =
+      subst (λ (x : Sweep). Steps x answer ring′ → SweepKept (moved coords n up) (countAfterStep (x .passed) (tellStep answer)) ring′) (sym q)
+      (λ v. step-on n passed ring v (tellStep answer) refl e k) ok
+  call-keeps n passed ring (rise s h t answer ring′ t′ ok) e q k =
+      subst (λ (x : Sweep). Rises x h t answer ring′ t′ → SweepKept (moved coords n (to h)) (countAfterRise (x .passed) (tellLayer answer)) ring′) (sym q)
+      (λ v. rise-on n passed ring h v (tellLayer answer) refl e) ok
 
   pub run-keeps : {p p′ : ℕ} {ring ring′ : List ℕ} {cs : List Call} (n : ℕ) → Run m p ring cs p′ ring′ → SweepKept n p ring
       → SweepKept (planeAfter coords n (fed cs)) p′ ring′
@@ -161,29 +184,31 @@ module _ (m : OrderedMesh) where
 
   -- ---- what each call did
 
-  did-refused : (c : Call) → refused c ≡ true → Did m c
-  unfolding refused Did
-  did-refused (step s (Stepped u) ring′ ok) e = absurd (clash e refl)
-  did-refused (step s Top ring′ ok) e = absurd (clash e refl)
-  did-refused (step s (StepRefused r) ring′ ok) e = unstepped-ring ok
-  did-refused (rise s h t (Layer u j k) ring′ t′ ok) e = absurd (clash e refl)
-  did-refused (rise s h t (LayerRefused r) ring′ t′ ok) e = unrisen-ring ok
+  -- where it was refused, or was handed this mesh with this pairing and order
+  step-did : {s : Sweep} {answer : StepAnswer} {ring′ : List ℕ} → Steps s answer ring′ → (a : Answer Told StepGives) → tellStep answer ≡ a
+      → (isRefusal a ≡ true) ⊎ (s .ordered ≡ m) → StepDid m s ring′ a
+  step-did {s} {ring′ = ring′} ok (gives (passes n)) e same =
+      ⊎-elim (λ x. absurd (clash x refl))
+      (λ q. subst (λ (o : OrderedMesh). OnlyTouched (o .paired) (getD (o .order) (s .passed) 0) (s .ring) ring′) q (stepped-touched ok e)) same
+  step-did ok (gives top) e same = step-top ok e .stays
+  step-did ok (refuses r) e same = unstepped-ring ok e
 
-  did-taken : (passed : ℕ) (ring : List ℕ) (c : Call) → refused c ≡ false → given c ≡ sweep m ring passed → Did m c
+  rise-did : {s : Sweep} {h : ℤ} {t t′ : CutTables} {answer : LayerAnswer} {ring′ : List ℕ} → Rises s h t answer ring′ t′
+      → (a : Answer Told (ℕ × (ℕ × ℕ))) → tellLayer answer ≡ a → (isRefusal a ≡ true) ⊎ (s .ordered ≡ m) → RiseDid m s h t ring′ t′ a
+  rise-did {h = h} {t = t} {t′ = t′} ok (gives (n, (j, k))) e same =
+      ⊎-elim (λ x. absurd (clash x refl))
+      (λ q. subst (λ (o : OrderedMesh). GivesCut (o .paired) h t j k t′) q (risen-cut ok e)) same
+  rise-did ok (refuses r) e same = unrisen-ring ok e
+
+  call-did : (c : Call) → (refused c ≡ true) ⊎ (given c .ordered ≡ m) → Did m c
   unfolding refused given Did
-  did-taken passed ring (step s (Stepped u) ring′ ok) e q =
-      subst (λ (x : Sweep). Steps x (Stepped u) ring′ → OnlyTouched (m .paired) (getD order (x .passed) 0) (x .ring) ring′) (sym q) (λ v. stepped-touched v) ok
-  did-taken passed ring (step s Top ring′ ok) e q = step-top ok .stays
-  did-taken passed ring (step s (StepRefused r) ring′ ok) e q = absurd (clash refl e)
-  did-taken passed ring (rise s h t (Layer u j k) ring′ t′ ok) e q =
-      subst (λ (x : Sweep). Rises x h t (Layer u j k) ring′ t′ → GivesCut (m .paired) h t j k t′) (sym q)
-      (λ v. record { gives = rise-is-cut v; alone = λ a w x. cut-only x (rise-is-cut v) }) ok
-  did-taken passed ring (rise s h t (LayerRefused r) ring′ t′ ok) e q = absurd (clash refl e)
+  call-did (step s answer ring′ ok) same = step-did ok (tellStep answer) refl same
+  call-did (rise s h t answer ring′ t′ ok) same = rise-did ok (tellLayer answer) refl same
 
   run-did : {p p′ : ℕ} {ring ring′ : List ℕ} {cs : List Call} → Run m p ring cs p′ ring′ → EachCall (Did m) cs
   run-did done = none
-  run-did (skipped {c = c} e r) = and (did-refused c e) (run-did r)
-  run-did (taken {n = p} {r = ring} {c = c} e q r) = and (did-taken p ring c e q) (run-did r)
+  run-did (skipped {c = c} e r) = and (call-did c (inl e)) (run-did r)
+  run-did (taken {c = c} e q r) = and (call-did c (inr (λ i. q i .ordered))) (run-did r)
 
   -- ---- the rings of a ring table as it is defined
 
@@ -253,9 +278,9 @@ module _ (m : OrderedMesh) where
 -- ---- the claim
 
 pub sweep-claim : SweepClaim
-sweep-claim m ring fresh ring₀ start calls passed ring′ run =
+sweep-claim m ring start u ring₀ ok e calls passed ring′ run =
     let n = planeAfter (m .paired .mesh .coords) 0 (fed calls) in
-    let k = run-keeps m 0 run (start-keeps m start) in
+    let k = run-keeps m 0 run (start-keeps m ok e) in
     record {
       position = k .position;
       long = k .table .long;

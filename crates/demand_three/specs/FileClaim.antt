@@ -7,23 +7,21 @@ use mathlib.Core.List.{List, [], _∷_, _++_, map}
 use lib.ListN.{length, take, drop}
 use lib.IntN.{ℤ}
 use Rattle.mesh.specs.Meshes.{PairedMesh, OrderedMesh}
-use Rattle.mesh.specs.Operation.{fine, Condition, verdict}
+use Rattle.mesh.specs.Operation.{gives, fine, Condition, verdict}
 use Rattle.mesh.specs.Refusals.{Told}
 use Rattle.mesh.specs.Tests.{orders}
 use Rattle.file_formats.specs.LayerFile as files
 use Rattle.file_write.specs.Written.{layerOf}
-use Rattle.cut.specs.Cut.{CutTables, lengthsOf, cutRoomFor, Cuts}
+use Rattle.cut.specs.Cut.{CutTables, lengthsOf, cutRoomFor, tellCut, Cuts}
 use Rattle.cut.specs.declared.CutAnswer.{CutAnswer}
-use Rattle.cut.specs.declared.CutAnswer.the-variants.{Layer as CutLayer}
-use Rattle.sweep.specs.declared.State.{State}
-use Rattle.sweep.specs.declared.StartAnswer.the-variants.{Fresh}
-use Rattle.sweep.specs.declared.LayerAnswer.the-variants.{Layer}
+use Rattle.sweep.specs.declared.StartAnswer.{StartAnswer}
+use Rattle.sweep.specs.declared.LayerAnswer.{LayerAnswer}
 use Rattle.sweep.specs.Sweep.{Sweep, freshRing}
-use Rattle.sweep.specs.Operations.{at, linkedTests, Starts, Rises}
+use Rattle.sweep.specs.Operations.{linkedTests, tellStart, Starts, tellLayer, Rises}
 use Rattle.all_heights.specs.Heights.{heightsTaken}
 use Rattle.all_heights.specs.Taking.{RisingHeights}
-use Rattle.all_sweep.specs.declared.AllLayersAnswer.the-variants.{Length}
-use Rattle.all_sweep.specs.AllLayers.{cutLayer, cutFile, WorkTables, Files}
+use Rattle.all_sweep.specs.declared.AllLayersAnswer.{AllLayersAnswer}
+use Rattle.all_sweep.specs.AllLayers.{cutLayer, cutFile, WorkTables, tellAllLayers, Files}
 use Rattle.demand_three.specs.Claim.{Call, rise, Run, SweepClaim}
 
 -- ---- the layer of a height
@@ -32,18 +30,18 @@ use Rattle.demand_three.specs.Claim.{Call, rise, Run, SweepClaim}
 -- unrefused rise to h
 pub record LayerOfCut (m : PairedMesh) (h : ℤ) (layer : files.Layer) : Type 0 where
   pub cuts : (t t′ : CutTables) (answer : CutAnswer) → cutRoomFor (length (m .mesh .corners)) (lengthsOf t) ≡ true → Cuts m h t answer t′
-      → (j : ℕ) × (k : ℕ) × (answer ≡ CutLayer j k) × (layerOf h (t′ .points) (t′ .ends) j ≡ layer)
-  pub rises : (s : Sweep) → s .ordered .paired ≡ m → (t t′ : CutTables) (state : State) (j k : ℕ) (ring′ : List ℕ) → Rises s h t (Layer state j k) ring′ t′
-      → layerOf h (t′ .points) (t′ .ends) j ≡ layer
+      → (j : ℕ) × (k : ℕ) × (tellCut answer ≡ gives (j, k)) × (layerOf h (t′ .points) (t′ .ends) j ≡ layer)
+  pub rises : (s : Sweep) → s .ordered .paired ≡ m → (t t′ : CutTables) (answer : LayerAnswer) (n j k : ℕ) (ring′ : List ℕ) → Rises s h t answer ring′ t′
+      → tellLayer answer ≡ gives (n, (j, k)) → layerOf h (t′ .points) (t′ .ends) j ≡ layer
 
 -- ---- up the heights by Layer
 
 -- the calls are unrefused rises, and the tables that they leave hold these layers, with the heights of the calls
 pub data Leave : List Call → List files.Layer → Type 0 where
   no-call : Leave [] []
-  next-call : {s : Sweep} {h : ℤ} {t t′ : CutTables} {state : State} {j k : ℕ} {ring′ : List ℕ} {cs : List Call} {ls : List files.Layer}
-      (ok : Rises s h t (Layer state j k) ring′ t′) → Leave cs ls
-      → Leave (rise s h t (Layer state j k) ring′ t′ ok ∷ cs) (layerOf h (t′ .points) (t′ .ends) j ∷ ls)
+  next-call : {s : Sweep} {h : ℤ} {t t′ : CutTables} {answer : LayerAnswer} {n j k : ℕ} {ring′ : List ℕ} {cs : List Call} {ls : List files.Layer}
+      (ok : Rises s h t answer ring′ t′) → tellLayer answer ≡ gives (n, (j, k)) → Leave cs ls
+      → Leave (rise s h t answer ring′ t′ ok ∷ cs) (layerOf h (t′ .points) (t′ .ends) j ∷ ls)
 
 -- with n passed and ring table r, calls of Layer, none refused, leave these layers
 pub record Ascent (m : OrderedMesh) (n : ℕ) (r : List ℕ) (ls : List files.Layer) : Type 0 where
@@ -63,8 +61,8 @@ rightTests m = linkedTests (m .paired) ++ (orders (m .paired .mesh .coords) (m .
 abbrev pub ClimbClaim : Type 0
 ClimbClaim =
     (m : OrderedMesh) → verdict (rightTests m) ≡ fine → (t : CutTables) → cutRoomFor (length (m .paired .mesh .corners)) (lengthsOf t) ≡ true
-    → (ring : List ℕ) (fresh : State) (ring₀ : List ℕ) → Starts (m .paired .mesh) ring (Fresh fresh) ring₀
-    → (hs : List ℤ) → RisingHeights hs → Ascent m (fresh .passed) ring₀ (map (cutLayer (m .paired)) hs)
+    → (ring : List ℕ) (start : StartAnswer) (n : ℕ) (ring₀ : List ℕ) → Starts (m .paired .mesh) ring start ring₀ → tellStart start ≡ gives n
+    → (hs : List ℤ) → RisingHeights hs → Ascent m n ring₀ (map (cutLayer (m .paired)) hs)
 
 -- ---- All layers
 
@@ -77,7 +75,7 @@ pub record FileOfCuts (m : OrderedMesh) (hs : List ℤ) (w : WorkTables) (output
   -- what was in the output past them stays
   pub past : drop n output′ ≡ drop n output
   -- Start is not refused the lent ring table, and calls of Layer from there, none refused, leave the layers of the file
-  pub start : Starts (m .paired .mesh) (w .ring) (Fresh (at 0)) (freshRing (m .paired .mesh .corners) (w .ring))
+  pub start : (answer : StartAnswer) × (tellStart answer ≡ gives 0) × Starts (m .paired .mesh) (w .ring) answer (freshRing (m .paired .mesh .corners) (w .ring))
   pub ascent : Ascent m 0 (freshRing (m .paired .mesh .corners) (w .ring)) (map (cutLayer (m .paired)) hs)
 
 -- The third demand about All layers (RUN-8): where it is not refused, it gives the length and the bytes of the layer
@@ -85,7 +83,8 @@ pub record FileOfCuts (m : OrderedMesh) (hs : List ℤ) (w : WorkTables) (output
 -- all_sweep/LayersLaws), and after Check none but those of heights and room (`FiledAfter`, composed).
 abbrev pub FileClaim : Type 0
 FileClaim =
-    (m : OrderedMesh) (heights : List ℤ) (w w′ : WorkTables) (output output′ : List ℕ) (n : ℕ) → Files m heights w output (Length n) w′ output′
+    (m : OrderedMesh) (heights : List ℤ) (w w′ : WorkTables) (output output′ : List ℕ) (answer : AllLayersAnswer) (n : ℕ)
+    → Files m heights w output answer w′ output′ → tellAllLayers answer ≡ gives n
     → FileOfCuts m (heightsTaken (m .paired .mesh .coords) heights) w output n output′
 
 -- ---- the third demand, whole (RUN-10)

@@ -12,27 +12,26 @@ use lib.IntN.{ℤ}
 use Rattle.laws.specs.Booleans.{clash, and-parts}
 use Rattle.laws.specs.Tables.{overwrite}
 use Rattle.mesh.specs.Meshes.{PairedMesh, OrderedMesh}
-use Rattle.mesh.specs.Operation.{after}
+use Rattle.mesh.specs.Operation.{Answer, gives, refuses, isRefusal, after}
 use Rattle.mesh.specs.OperationLaws.{None, more, done as none-left, fine-nowhere, verdict-one, none-fine, fine-none, join-fine}
-use Rattle.mesh.specs.OperationLaws.{given-verdict, given-exactly, left-given, recovered}
+use Rattle.mesh.specs.OperationLaws.{given-verdict, given-exactly, left-given}
+use Rattle.mesh.specs.Refusals.{Told}
 use Rattle.polygons.specs.Flat.{numbersOf, endsOf}
 use Rattle.section.specs.RightLaws.{right-of}
 use Rattle.file_formats.specs.LayerFile as files
 use Rattle.file_write.specs.Written.{layerOf}
 use Rattle.file_write.specs.WrittenLaws.{layer-held}
-use Rattle.cut.specs.Cut.{CutTables, Lengths, lengthsOf, cutRoomFor, used, section, contoursOf, countsOf, cutting, Cuts}
-use Rattle.cut.specs.CutLaws.{cut-recovers}
+use Rattle.cut.specs.Cut.{CutTables, Lengths, lengthsOf, cutRoomFor, used, section, contoursOf, countsOf, cutting, tellCut, Cuts}
 use Rattle.cut.specs.OutlineLaws.{section-fine}
 use Rattle.cut.specs.declared.CutAnswer.{CutAnswer}
-use Rattle.cut.specs.declared.CutAnswer.the-variants.{Layer as CutLayer}
-use Rattle.sweep.specs.declared.LayerAnswer.the-variants.{Layer, Refused}
-use Rattle.sweep.specs.Sweep.{sweep}
-use Rattle.sweep.specs.Operations.{at, linkedTests}
+use Rattle.sweep.specs.declared.LayerAnswer.{LayerAnswer}
+use Rattle.sweep.specs.Sweep.{Sweep, sweep}
+use Rattle.sweep.specs.Operations.{linkedTests, tellLayer, Rises}
 use Rattle.sweep.specs.RiseLaws.{rise-is-cut}
 use Rattle.all_heights.specs.Heights.{heightsTaken}
-use Rattle.all_sweep.specs.declared.AllLayersAnswer.the-variants.{Length}
+use Rattle.all_sweep.specs.declared.AllLayersAnswer.{AllLayersAnswer}
 use Rattle.all_sweep.specs.AllLayers.{crossingAt, drawn, cutLayer, cutFile, sweptFile, climbed, WorkTables, workRoomFor, layersTests, usedAt, shortOutput}
-use Rattle.all_sweep.specs.AllLayers.{Files}
+use Rattle.all_sweep.specs.AllLayers.{tellAllLayers, Files}
 use Rattle.all_sweep.specs.CutLayerLaws.{drawn-points, drawn-ends}
 use Rattle.all_sweep.specs.LayersLaws.{all-layers-tested, all-layers-length, all-layers-output}
 use Rattle.demand_three.specs.Claim.{Call, step, rise, refused, given, moveOf, to, fed, Run, done, skipped, taken}
@@ -43,18 +42,24 @@ use Rattle.demand_three.specs.RunLaws.{unrefused, start-fine, layers-cli
 -- ---- what Cut leaves
 
 -- the layer of Cut is in its tables
-pub cut-leaves : {m : PairedMesh} {h : ℤ} {t t′ : CutTables} {j k : ℕ} → Cuts m h t (CutLayer j k) t′ → layerOf h (t′ .points) (t′ .ends) j ≡ cutLayer m h
+pub cut-leaves : {m : PairedMesh} {h : ℤ} {t t′ : CutTables} {answer : CutAnswer} {j k : ℕ} → Cuts m h t answer t′ → tellCut answer ≡ gives (j, k)
+    → layerOf h (t′ .points) (t′ .ends) j ≡ cutLayer m h
 unfolding cutLayer after
-cut-leaves {m} {h} {t} {t′} {j} {k} c =
+cut-leaves {m} {h} {t} {t′} {answer} {j} {k} c e =
     let rs = contoursOf (section m h) in
     let cs = drawn (m .mesh) h rs .contours in
-    let left = left-given c {g = (j, k)} refl in
+    let left = left-given c e in
     let points : t′ .points ≡ overwrite (numbersOf (flatten cs)) (t .points) =
     ap (λ (u : CutTables). u .points) left ∙ ap (λ (l : List ℤ). overwrite l (t .points)) (drawn-points (m .mesh) h rs) in
     let ends : t′ .ends ≡ overwrite (endsOf cs) (t .ends) =
     ap (λ (u : CutTables). u .ends) left ∙ ap (λ (l : List ℕ). overwrite l (t .ends)) (drawn-ends (m .mesh) h rs) in
-    let count : j ≡ length cs = (λ i. given-verdict c {g = (j, k)} refl .1 i .0) ∙ sym (length-map rs (map (crossingAt (m .mesh) h))) in
+    let count : j ≡ length cs = (λ i. given-verdict c e .1 i .0) ∙ sym (length-map rs (map (crossingAt (m .mesh) h))) in
     (λ i. layerOf h (points i) (ends i) (count i)) ∙ layer-held cs (t .points) (t .ends) h
+
+-- and in those of Layer
+pub rise-leaves : {s : Sweep} {h : ℤ} {t t′ : CutTables} {answer : LayerAnswer} {n j k : ℕ} {ring′ : List ℕ} → Rises s h t answer ring′ t′
+    → tellLayer answer ≡ gives (n, (j, k)) → layerOf h (t′ .points) (t′ .ends) j ≡ cutLayer (s .ordered .paired) h
+rise-leaves ok e = let c = rise-is-cut ok e in cut-leaves (c .2) (c .1)
 
 -- ---- Cut and Layer on a right mesh
 
@@ -71,9 +76,9 @@ pub layer-of-cut : (m : PairedMesh) → None (linkedTests m) → (h : ℤ) → L
 layer-of-cut m right h = record {
   cuts = λ t t′ answer room c.
       let counts = countsOf (contoursOf (section m h)) in
-      let is : answer ≡ CutLayer (counts .0) (counts .1) = recovered cut-recovers (given-exactly c .1 (cut-given-room m right h t room)) in
-      (counts .0, counts .1, is, cut-leaves (subst (λ (a : CutAnswer). Cuts m h t a t′) is c));
-  rises = λ s same t t′ state j k ring′ ok. cut-leaves (rise-is-cut ok) ∙ ap (λ (n : PairedMesh). cutLayer n h) same;
+      let told = given-exactly c .1 (cut-given-room m right h t room) in
+      (counts .0, counts .1, told, cut-leaves c told);
+  rises = λ s same t t′ answer n j k ring′ ok e. rise-leaves ok e ∙ ap (λ (p : PairedMesh). cutLayer p h) same;
 }
 
 -- the first five tests of a right mesh
@@ -90,11 +95,16 @@ leave-one : {m : OrderedMesh} {n : ℕ} {r : List ℕ} (c : Call) {h : ℤ} {cs 
     → moveOf c ≡ to h → Leave cs ls → Leave (c ∷ cs) (cutLayer (m .paired) h ∷ ls)
 unfolding refused given moveOf
 leave-one (step s answer ring′ ok) e q f rest = absurd (let z : _≡_ {A = ℕ} 0 1 = cc in omega arith)
-leave-one (rise s g t (Refused x) ring′ t′ ok) e q f rest = absurd (clash refl e)
-leave-one (rise s g t (Layer u j k) ring′ t′ ok) {h} {cs} {ls} e q f rest =
-    let same : g ≡ h = cc in
-    subst (λ (l : files.Layer). Leave (rise s g t (Layer u j k) ring′ t′ ok ∷ cs) (l ∷ ls))
-    (cut-leaves (rise-is-cut ok) ∙ (λ i. cutLayer (q i .ordered .paired) (same i))) (next-call ok rest)
+leave-one {m = m} (rise s g t answer ring′ t′ ok) {h} {cs} {ls} e q f rest = by (tellLayer answer) refl e
+  where
+    same : g ≡ h
+    same = cc
+
+    by : (a : Answer Told (ℕ × (ℕ × ℕ))) → tellLayer answer ≡ a → isRefusal a ≡ false → Leave (rise s g t answer ring′ t′ ok ∷ cs) (cutLayer (m .paired) h ∷ ls)
+    by (refuses r) z x = absurd (clash refl x)
+    by (gives v) z x =
+        subst (λ (l : files.Layer). Leave (rise s g t answer ring′ t′ ok ∷ cs) (l ∷ ls))
+        (rise-leaves ok z ∙ (λ i. cutLayer (q i .ordered .paired) (same i))) (next-call ok z rest)
 
 -- and those that rise to these heights
 leave-up : {m : OrderedMesh} {n n′ : ℕ} {r r′ : List ℕ} {cs : List Call} (hs : List ℤ) → Run m n r cs n′ r′ → fed cs ≡ unrefused (map to hs)
@@ -108,8 +118,8 @@ leave-up (h ∷ hs) (skipped x r) e = absurd (clash x (λ i. parts-of e .0 i .1)
 leave-up (h ∷ hs) (taken {c = c} x q r) e = leave-one c x q (λ i. parts-of e .0 i .0) (leave-up hs r (parts-of e .1))
 
 pub climb-claim : ClimbClaim
-climb-claim m right t room ring fresh ring₀ start hs above =
-    let made = layers-climb m (fine-none (rightTests m) right) t room start hs above in
+climb-claim m right t room ring start n ring₀ ok e hs above =
+    let made = layers-climb m (fine-none (rightTests m) right) t room ok e hs above in
     record { calls = made .calls; passed = made .passed; ring = made .ring; run = made .run; leave = leave-up hs (made .run) (made .all-made) }
 
 -- ---- All layers
@@ -125,13 +135,14 @@ passed-parts m heights w (more s (more y (more u (more r (more v (more x (more p
     let room = work-parts (length (m .paired .mesh .corners)) (lengthsOf (w .cut)) (length (w .ring)) (not-false _ (u 0 (omega arith))) in
     (more s (more r (more v (more x (more p (more o none-left))))), room .0)
 
-pub file-passed : {m : OrderedMesh} {heights : List ℤ} {w w′ : WorkTables} {output output′ : List ℕ} {n : ℕ} → Files m heights w output (Length n) w′ output′
+pub file-passed : {m : OrderedMesh} {heights : List ℤ} {w w′ : WorkTables} {output output′ : List ℕ} {answer : AllLayersAnswer} {n : ℕ}
+    → Files m heights w output answer w′ output′ → tellAllLayers answer ≡ gives n
     → None (rightTests m) × (cutRoomFor (length (m .paired .mesh .corners)) (lengthsOf (w .cut)) ≡ true)
-file-passed {m} {heights} {w} {output = output} {n = n} f =
+file-passed {m} {heights} {w} {output = output} f e =
     let hs = heightsTaken (m .paired .mesh .coords) heights in
     let tests = layersTests m heights (lengthsOf (w .cut)) (length (w .ring)) in
     let later = map usedAt (climbed m (w .ring) hs) ++ (shortOutput (length output) (sweptFile m (w .ring) hs) ∷ []) in
-    passed-parts m heights w (fine-none tests (join-fine tests later (given-verdict f {g = n} refl .0)))
+    passed-parts m heights w (fine-none tests (join-fine tests later (given-verdict f e .0)))
 
 module _ (bytes output : List ℕ) where
   front : take (length bytes) (overwrite bytes output) ≡ bytes
@@ -143,13 +154,13 @@ module _ (bytes output : List ℕ) where
   behind = drop-at bytes (drop (length bytes) output) (length bytes) refl
 
 pub file-claim : FileClaim
-file-claim m heights w w′ output output′ n f =
+file-claim m heights w w′ output output′ answer n f e =
     let hs = heightsTaken (m .paired .mesh .coords) heights in
     let bytes = cutFile (m .paired) hs in
-    let p = file-passed f in
-    let t = all-layers-tested f {n = n} refl in
-    let size = all-layers-length f {n = n} refl in
-    let written = all-layers-output f {n = n} refl in
+    let p = file-passed f e in
+    let t = all-layers-tested f e in
+    let size = all-layers-length f e in
+    let written = all-layers-output f e in
     let start = start-fine m (p .0) (w .ring) (t .ring-long) in
     record {
       cut = layer-of-cut (m .paired) (linked-none m (p .0));
@@ -157,7 +168,7 @@ file-claim m heights w w′ output output′ n f =
       bytes = (λ i. take (size i) (written i)) ∙ front bytes output;
       past = (λ i. drop (size i) (written i)) ∙ behind bytes output ∙ ap (λ (k : ℕ). drop k output) (sym size);
       start = start;
-      ascent = climb-claim m (none-fine (rightTests m) (p .0)) (w .cut) (p .1) (w .ring) (at 0) _ start hs (t .rises);
+      ascent = climb-claim m (none-fine (rightTests m) (p .0)) (w .cut) (p .1) (w .ring) (start .0) 0 _ (start .2) (start .1) hs (t .rises);
     }
 
 -- ---- demand 3

@@ -15,25 +15,26 @@ use Rattle.laws.specs.CountLaws.{count-le}
 use Rattle.laws.specs.LeastLaws.{some-at}
 use Rattle.mesh.specs.Corners.{vertexCount, zOf}
 use Rattle.mesh.specs.Meshes.{OrderedMesh}
-use Rattle.mesh.specs.Operation.{gives, fine, verdict}
+use Rattle.mesh.specs.Operation.{gives, refuses, fine, verdict}
 use Rattle.mesh.specs.OperationLaws.{Nowhere, None, more, done as none-left, none-fine, apart, does-give, refused-verdict}
 use Rattle.mesh.specs.OrderTableLaws.{ordered-rank}
 use Rattle.mesh.specs.RankLaws.{lower-sum, sum-lower}
-use Rattle.mesh.specs.Refusals.{toldOf}
-use Rattle.mesh.specs.declared.Refusal.{Refusal}
+use Rattle.mesh.specs.Refusals.{Told}
 use Rattle.section.specs.Section.{below, Right}
 use Rattle.section.specs.RightLaws.{right-of}
 use Rattle.section.specs.Contours.{Traced, namesOf}
 use Rattle.section.specs.LayerLaws.{trace-layer}
 use Rattle.cut.specs.Cut.{CutTables, lengthsOf, cutRoomFor, metAt, used, contoursOf, tablesAfterCut}
-use Rattle.sweep.specs.declared.State.{State}
+use Rattle.sweep.specs.declared.StartAnswer.{StartAnswer}
 use Rattle.sweep.specs.declared.StartAnswer.the-variants.{Fresh}
-use Rattle.sweep.specs.declared.StepAnswer.the-variants.{Stepped, Top, Refused as StepRefused}
-use Rattle.sweep.specs.declared.LayerAnswer.the-variants.{Layer, Refused as LayerRefused}
+use Rattle.sweep.specs.declared.StepAnswer.{StepAnswer}
+use Rattle.sweep.specs.declared.StepAnswer.the-variants.{Stepped, Top}
+use Rattle.sweep.specs.declared.LayerAnswer.{LayerAnswer}
+use Rattle.sweep.specs.declared.LayerAnswer.the-variants.{Layer}
 use Rattle.sweep.specs.Sweep.{sweep, RingAt, freshRing, stepRing, mayRise, countBelow}
 use Rattle.sweep.specs.SweepLaws.{may-rise}
-use Rattle.sweep.specs.Operations.{at, unlessRefused, linkedAt, passedHigh, startTests, Starts, stepTests, passes, top, Steps}
-use Rattle.sweep.specs.Operations.{risenPassed, risenTable, risenSection, layering, Rises}
+use Rattle.sweep.specs.Operations.{at, unlessRefused, linkedAt, passedHigh, startTests, tellStart, Starts, stepTests, passes, top, tellStep, Steps}
+use Rattle.sweep.specs.Operations.{risenPassed, risenTable, risenSection, layering, tellLayer, Rises}
 use Rattle.sweep.specs.Places.{InOrder, RiseTested}
 use Rattle.sweep.specs.RiseLaws.{rise-section}
 use Rattle.all_heights.specs.HeightLaws.{RisingHeights}
@@ -65,9 +66,9 @@ module _ (m : OrderedMesh) (right : None (rightTests m)) where
       go (more s rest) = more s (more (λ i l. le-ltb _ _ long) none-left)
 
   pub start-fine : (ring : List ℕ) → length (m .paired .mesh .corners) ≤ length ring
-      → Starts (m .paired .mesh) ring (Fresh (at 0)) (freshRing (m .paired .mesh .corners) ring)
+      → (answer : StartAnswer) × (tellStart answer ≡ gives 0) × Starts (m .paired .mesh) ring answer (freshRing (m .paired .mesh .corners) ring)
   unfolding unlessRefused
-  start-fine ring long = does-give refl (start-tests ring long) refl refl
+  start-fine ring long = (Fresh (at 0), refl, does-give refl (start-tests ring long) refl refl)
 
   -- ---- Step
 
@@ -123,21 +124,21 @@ module _ (m : OrderedMesh) (right : None (rightTests m)) where
   -- ---- after any run
 
   -- the next Step is not refused, nor is a Layer that is lent tables long enough and does not lower the plane
-  module _ (ring : List ℕ) (fresh : State) (ring₀ : List ℕ) (start : Starts (m .paired .mesh) ring (Fresh fresh) ring₀)
-      (calls : List Call) (passed : ℕ) (ring′ : List ℕ) (run : Run m (fresh .passed) ring₀ calls passed ring′) where
+  module _ {ring : List ℕ} {start : StartAnswer} {n : ℕ} {ring₀ : List ℕ} (ok : Starts (m .paired .mesh) ring start ring₀) (e : tellStart start ≡ gives n)
+      {calls : List Call} {passed : ℕ} {ring′ : List ℕ} (run : Run m n ring₀ calls passed ring′) where
     kept : SweepKept m passed passed ring′
     kept =
-        let k = run-keeps m 0 run (start-keeps m start) in
-        subst (λ (n : ℕ). SweepKept m n passed ring′) (sym (k .position)) k
+        let k = run-keeps m 0 run (start-keeps m ok e) in
+        subst (λ (i : ℕ). SweepKept m i passed ring′) (sym (k .position)) k
 
-    pub next-step : {r : Refusal} {ring″ : List ℕ} → Steps (sweep m ring′ passed) (StepRefused r) ring″ → ⊥
-    next-step {r} ok = apart (sym (refused-verdict ok {r = toldOf r} refl) ∙ step-fine (length ring′) passed (kept .few) (kept .table .long))
+    pub next-step : {answer : StepAnswer} {r : Told} {ring″ : List ℕ} → Steps (sweep m ring′ passed) answer ring″ → tellStep answer ≡ refuses r → ⊥
+    next-step d q = apart (sym (refused-verdict d q) ∙ step-fine (length ring′) passed (kept .few) (kept .table .long))
 
     pub next-rise : (h : ℤ) (t : CutTables) → cutRoomFor (length (m .paired .mesh .corners)) (lengthsOf t) ≡ true
         → passed ≤ countBelow (m .paired .mesh .coords) h
-        → {r : Refusal} {ring″ : List ℕ} {t′ : CutTables} → Rises (sweep m ring′ passed) h t (LayerRefused r) ring″ t′ → ⊥
-    next-rise h t room low {r} ok =
-        apart (sym (refused-verdict ok {r = toldOf r} refl) ∙ rise-fine ring′ passed h t room (kept .few) (kept .table) low)
+        → {answer : LayerAnswer} {r : Told} {ring″ : List ℕ} {t′ : CutTables} → Rises (sweep m ring′ passed) h t answer ring″ t′
+        → tellLayer answer ≡ refuses r → ⊥
+    next-rise h t room low d q = apart (sym (refused-verdict d q) ∙ rise-fine ring′ passed h t room (kept .few) (kept .table) low)
 
 -- ---- lists of moves
 
@@ -250,11 +251,11 @@ module _ (m : OrderedMesh) (right : None (rightTests m))
       made-rise n p ring h rest low k (λ p′ ring′ k′. made (moved (m .paired .mesh .coords) n (to h)) p′ ring′ rest c k′)
 
   -- after an unrefused start every list of moves that never lowers the plane can be made
-  pub every-climb : {ring : List ℕ} {fresh : State} {ring₀ : List ℕ} → Starts (m .paired .mesh) ring (Fresh fresh) ring₀ → (ms : List Move)
-      → Upward (m .paired .mesh .coords) 0 ms → MovesMade m (fresh .passed) ring₀ ms
-  every-climb {ring} {fresh} {ring₀} start ms c = made 0 (fresh .passed) ring₀ ms c (start-keeps m start)
+  pub every-climb : {ring : List ℕ} {start : StartAnswer} {n : ℕ} {ring₀ : List ℕ} → Starts (m .paired .mesh) ring start ring₀ → tellStart start ≡ gives n
+      → (ms : List Move) → Upward (m .paired .mesh .coords) 0 ms → MovesMade m n ring₀ ms
+  every-climb {n = n} {ring₀ = ring₀} ok e ms c = made 0 n ring₀ ms c (start-keeps m ok e)
 
   -- so strictly rising heights can be climbed by Layer from a start
-  pub layers-climb : {ring : List ℕ} {fresh : State} {ring₀ : List ℕ} → Starts (m .paired .mesh) ring (Fresh fresh) ring₀ → (hs : List ℤ) → RisingHeights hs
-      → MovesMade m (fresh .passed) ring₀ (map to hs)
-  layers-climb start hs above = every-climb start (map to hs) (rising-upward (m .paired .mesh .coords) hs above)
+  pub layers-climb : {ring : List ℕ} {start : StartAnswer} {n : ℕ} {ring₀ : List ℕ} → Starts (m .paired .mesh) ring start ring₀ → tellStart start ≡ gives n
+      → (hs : List ℤ) → RisingHeights hs → MovesMade m n ring₀ (map to hs)
+  layers-climb ok e hs above = every-climb ok e (map to hs) (rising-upward (m .paired .mesh .coords) hs above)

@@ -152,7 +152,7 @@ run = skipped refl (taken refl refl (taken refl refl (skipped refl (taken refl r
 
 -- so the claim holds of it
 swept : Swept p calls 4 4 ring0
-swept = subst (λ (n : ℕ). Swept p calls n 4 ring0) plane-is (sweep-claim p ring (at 0) ring0 started calls 4 ring0 run)
+swept = subst (λ (n : ℕ). Swept p calls n 4 ring0) plane-is (sweep-claim p ring (Fresh (at 0)) 0 ring0 started refl calls 4 ring0 run)
 
 -- and of its beginning
 run-begun : Run p 0 ring0 begun 3 ring3
@@ -164,7 +164,7 @@ unfolding planeAfter fed moveOf refused moved countBelow count below
 plane-begun = refl
 
 swept-begun : Swept p begun 3 3 ring3
-swept-begun = subst (λ (n : ℕ). Swept p begun n 3 ring3) plane-begun (sweep-claim p ring (at 0) ring0 started begun 3 ring3 run-begun)
+swept-begun = subst (λ (n : ℕ). Swept p begun n 3 ring3) plane-begun (sweep-claim p ring (Fresh (at 0)) 0 ring0 started refl begun 3 ring3 run-begun)
 
 -- the edge of corners 4 and 11 lies on that ring
 on-ring : Ring (λ k. getD ring3 k 0) 12 4
@@ -175,5 +175,5 @@ on-ring = swept-begun .rings 11 4 (omega arith) (inr refl) refl
 swept-refused : (pairs order : List ℕ) → Swept (ordered coords corners pairs order) (step unpaired (StepRefused (Pairing 0)) ring0 wrong ∷ []) 0 0 ring0
 unfolding planeAfter fed refused
 swept-refused pairs order =
-    sweep-claim (ordered coords corners pairs order) ring (at 0) ring0 started (step unpaired (StepRefused (Pairing 0)) ring0 wrong ∷ []) 0 ring0
+    sweep-claim (ordered coords corners pairs order) ring (Fresh (at 0)) 0 ring0 started refl (step unpaired (StepRefused (Pairing 0)) ring0 wrong ∷ []) 0 ring0
     (skipped refl done)

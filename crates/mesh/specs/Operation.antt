@@ -3,7 +3,7 @@
 -- leaves in the tables that it was lent. R is what a refusal tells, G what a result gives, T the tables.
 use Prim.Native.Nat.{ℕ, _<_}
 use mathlib.Core.Path.{_≡_}
-use mathlib.Core.Bool.{Bool, false, cond}
+use mathlib.Core.Bool.{Bool, true, false, cond}
 use mathlib.Core.List.{List, [], _∷_}
 use lib.ListN.{replicate}
 use Rattle.laws.specs.Least.{least, some}
@@ -22,6 +22,11 @@ Finding R = Answer R Unit
 
 abbrev pub fine : {R : Type 0} → Finding R
 fine = gives tt
+
+-- it is a refusal
+abbrev pub isRefusal : {R G : Type 0} → Answer R G → Bool
+isRefusal (gives _) = false
+isRefusal (refuses r) = true
 
 -- ---- refusals in order: what an operation tests of all that it is handed (CALL-3)
 

@@ -1,7 +1,7 @@
 -- What Start, Step and Layer promise: each refuses exactly if a listed condition holds, the first that fits, at its least place; gives its values exactly if
--- none does; and the outcome is the only one. Then what an unrefused call has tested, and what Start and Step give and leave by their answers.
+-- none does; and the outcome is the only one. Then what an unrefused call has tested, and what Start and Step give and leave by what their answers tell.
 use Prim.Native.Nat.{ℕ, suc, _≤_, _<_}
-use mathlib.Core.Path.{_≡_, refl, ap}
+use mathlib.Core.Path.{_≡_, refl, sym, ap}
 use mathlib.Core.Logic.{_↔_, ⊎-elim}
 use mathlib.Core.Bool.{Bool, true, false, not, cond}
 use mathlib.Core.List.{List}
@@ -20,13 +20,11 @@ use Rattle.mesh.specs.OperationLaws.{given-verdict, left-given, left-refused}
 use Rattle.mesh.specs.OrderTableLaws.{ordered-rank}
 use Rattle.mesh.specs.Refusals.{Told}
 use Rattle.mesh.specs.RefusalLaws.{refusalOf, refusal-once}
-use Rattle.mesh.specs.declared.Refusal.{Refusal}
 use Rattle.section.specs.Section.{below}
 use Rattle.section.specs.RightLaws.{right-of}
 use Rattle.cut.specs.Cut.{CutTables, Lengths}
 use Rattle.cut.specs.Outlines.{Long}
 use Rattle.cut.specs.OutlineLaws.{room-long}
-use Rattle.sweep.specs.declared.State.{State}
 use Rattle.sweep.specs.declared.StartAnswer.{StartAnswer}
 use Rattle.sweep.specs.declared.StartAnswer.the-variants.{Fresh, Refused as StartRefused}
 use Rattle.sweep.specs.declared.StepAnswer.{StepAnswer}
@@ -148,47 +146,30 @@ module _ (s : Sweep) where
           room-long (length (meshOf s .corners)) l (not-false _ (u 0 (omega arith))),
         )
 
--- ---- Start and Step by their answers
+-- ---- Start and Step by what their answers tell
 
--- an unrefused Start
-pub record FreshStart (m : Mesh) (ring : List ℕ) (state : State) (ring′ : List ℕ) : Type 0 where
-  pub none-passed : state .passed ≡ 0
+-- a Start that gave n
+pub record FreshStart (m : Mesh) (ring : List ℕ) (n : ℕ) (ring′ : List ℕ) : Type 0 where
+  pub none-passed : n ≡ 0
   pub long : length (m .corners) ≤ length ring
   pub fresh : ring′ ≡ freshRing (m .corners) ring
 
-pub fresh-start : {m : Mesh} {ring ring′ : List ℕ} {state : State} → Starts m ring (Fresh state) ring′ → FreshStart m ring state ring′
+pub fresh-start : {m : Mesh} {ring ring′ : List ℕ} {result : StartAnswer} {n : ℕ} → Starts m ring result ring′ → tellStart result ≡ gives n
+    → FreshStart m ring n ring′
 unfolding unlessRefused
-fresh-start {m} {ring} {ring′} {state} d =
-    let p = given-verdict d {g = state .passed} refl in
-    record { none-passed = p .1; long = go (fine-none (startTests m (length ring)) (p .0)); fresh = left-given d {g = state .passed} refl }
+fresh-start {m} {ring} d e =
+    let p = given-verdict d e in
+    record { none-passed = p .1; long = go (fine-none (startTests m (length ring)) (p .0)); fresh = left-given d e }
   where
     go : None (startTests m (length ring)) → length (m .corners) ≤ length ring
     go (more z (more l done)) = ltb-false _ _ (l 0 (omega arith))
 
--- a Step that passed the next vertex
-pub record StepTaken (s : Sweep) (state : State) (ring′ : List ℕ) : Type 0 where
+-- a Step that passed the next vertex, and gave n
+pub record StepTaken (s : Sweep) (n : ℕ) (ring′ : List ℕ) : Type 0 where
   pub tested : StepTested (s .ordered) (length (s .ring)) (s .passed)
   pub next : s .passed < vertexCount (meshOf s .coords)
-  pub one-more : state .passed ≡ suc (s .passed)
+  pub one-more : n ≡ suc (s .passed)
   pub relinks : ring′ ≡ stepRing s
-
-pub step-taken : {s : Sweep} {state : State} {ring′ : List ℕ} → Steps s (Stepped state) ring′ → StepTaken s state ring′
-unfolding unlessRefused
-step-taken {s} {state} {ring′} d = by (ltb (s .passed) (vertexCount (meshOf s .coords))) refl (p .1) (left-given d {g = passes (state .passed)} refl)
-  where
-    p : (verdict (stepping s .refusals) ≡ fine) × (passes (state .passed) ≡ stepping s .values)
-    p = given-verdict d refl
-
-    same : {a b : ℕ} → passes a ≡ passes b → a ≡ b
-    same e = cc
-
-    apart : {a : ℕ} → passes a ≡ top → ⊥
-    apart e = absurd (let z : _≡_ {A = ℕ} 0 1 = cc in omega arith)
-
-    by : (b : Bool) → ltb (s .passed) (vertexCount (meshOf s .coords)) ≡ b → passes (state .passed) ≡ cond b (passes (suc (s .passed))) top
-        → ring′ ≡ cond b (stepRing s) (s .ring) → StepTaken s state ring′
-    by false e q r = absurd (apart q)
-    by true e q r = record { tested = step-tested (s .ordered) (length (s .ring)) (s .passed) (p .0); next = ltb-true _ _ e; one-more = same q; relinks = r }
 
 -- a Step at the top
 pub record StepTop (s : Sweep) (ring′ : List ℕ) : Type 0 where
@@ -196,22 +177,39 @@ pub record StepTop (s : Sweep) (ring′ : List ℕ) : Type 0 where
   pub all-passed : vertexCount (meshOf s .coords) ≤ s .passed
   pub stays : ring′ ≡ s .ring
 
-pub step-top : {s : Sweep} {ring′ : List ℕ} → Steps s Top ring′ → StepTop s ring′
-unfolding unlessRefused
-step-top {s} {ring′} d = by (ltb (s .passed) (vertexCount (meshOf s .coords))) refl (p .1) (left-given d {g = top} refl)
-  where
-    p : (verdict (stepping s .refusals) ≡ fine) × (top ≡ stepping s .values)
-    p = given-verdict d refl
+same-count : {a b : ℕ} → passes a ≡ passes b → a ≡ b
+same-count e = cc
 
-    apart : {a : ℕ} → top ≡ passes a → ⊥
-    apart e = absurd (let z : _≡_ {A = ℕ} 0 1 = cc in omega arith)
+count-top : {A : Type 0} {a : ℕ} → passes a ≡ top → A
+count-top e = absurd (let z : _≡_ {A = ℕ} 0 1 = cc in omega arith)
 
-    by : (b : Bool) → ltb (s .passed) (vertexCount (meshOf s .coords)) ≡ b → top ≡ cond b (passes (suc (s .passed))) top
-        → ring′ ≡ cond b (stepRing s) (s .ring) → StepTop s ring′
-    by true e q r = absurd (apart q)
-    by false e q r = record { tested = step-tested (s .ordered) (length (s .ring)) (s .passed) (p .0); all-passed = ltb-false _ _ e; stays = r }
+module _ {s : Sweep} {result : StepAnswer} {ring′ : List ℕ} (d : Steps s result ring′) where
+  pub step-taken : {n : ℕ} → tellStep result ≡ gives (passes n) → StepTaken s n ring′
+  unfolding unlessRefused
+  step-taken {n} e = by (ltb (s .passed) (vertexCount (meshOf s .coords))) refl (p .1) (left-given d e)
+    where
+      p : (verdict (stepping s .refusals) ≡ fine) × (passes n ≡ stepping s .values)
+      p = given-verdict d e
 
--- a refused Step leaves the ring table
-pub unstepped-ring : {s : Sweep} {r : Refusal} {ring′ : List ℕ} → Steps s (StepRefused r) ring′ → ring′ ≡ s .ring
-unfolding unlessRefused
-unstepped-ring d = left-refused d refl
+      by : (b : Bool) → ltb (s .passed) (vertexCount (meshOf s .coords)) ≡ b → passes n ≡ cond b (passes (suc (s .passed))) top
+          → ring′ ≡ cond b (stepRing s) (s .ring) → StepTaken s n ring′
+      by false x q r = count-top q
+      by true x q r =
+          record { tested = step-tested (s .ordered) (length (s .ring)) (s .passed) (p .0); next = ltb-true _ _ x; one-more = same-count q; relinks = r }
+
+  pub step-top : tellStep result ≡ gives top → StepTop s ring′
+  unfolding unlessRefused
+  step-top e = by (ltb (s .passed) (vertexCount (meshOf s .coords))) refl (p .1) (left-given d e)
+    where
+      p : (verdict (stepping s .refusals) ≡ fine) × (top ≡ stepping s .values)
+      p = given-verdict d e
+
+      by : (b : Bool) → ltb (s .passed) (vertexCount (meshOf s .coords)) ≡ b → top ≡ cond b (passes (suc (s .passed))) top
+          → ring′ ≡ cond b (stepRing s) (s .ring) → StepTop s ring′
+      by true x q r = count-top (sym q)
+      by false x q r = record { tested = step-tested (s .ordered) (length (s .ring)) (s .passed) (p .0); all-passed = ltb-false _ _ x; stays = r }
+
+  -- a refused Step leaves the ring table
+  pub unstepped-ring : {r : Told} → tellStep result ≡ refuses r → ring′ ≡ s .ring
+  unfolding unlessRefused
+  unstepped-ring e = left-refused d e

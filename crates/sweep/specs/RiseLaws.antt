@@ -1,24 +1,24 @@
 -- An unrefused Layer at h ends at the number of vertices with z < h (LAYER-1), and gives what Cut gives at h (LAYER-2).
 use Prim.Native.Nat.{ℕ, _≤_}
-use mathlib.Core.Path.{_≡_, refl, sym, ap, _∙_, subst}
+use mathlib.Core.Path.{_≡_, refl, sym, _∙_, subst}
 use mathlib.Core.List.{List, [], _∷_}
 use native.Mathlib.Omega.{arith}
 use lib.ListN.{length}
 use lib.IntN.{ℤ}
 use Rattle.mesh.specs.Corners.{vertexCount}
-use Rattle.mesh.specs.Operation.{gives, fine, verdict}
+use Rattle.mesh.specs.Operation.{gives, refuses, fine, verdict}
 use Rattle.mesh.specs.OperationLaws.{Nowhere, None, more, done, none-fine, fine-none, join-fine, does-give, given-verdict, left-given, left-refused}
-use Rattle.mesh.specs.declared.Refusal.{Refusal}
+use Rattle.mesh.specs.Refusals.{Told}
 use Rattle.section.specs.Section.{below}
 use Rattle.section.specs.Contours.{Traced}
 use Rattle.section.specs.LinkLaws.{table-trace}
-use Rattle.cut.specs.Cut.{CutTables, lengthsOf, used, section, contoursOf, countsOf, tablesAfterCut, cutting, Cuts}
+use Rattle.cut.specs.Cut.{CutTables, lengthsOf, used, section, contoursOf, countsOf, tablesAfterCut, cutting, tellCut, Cuts}
+use Rattle.cut.specs.declared.CutAnswer.{CutAnswer}
 use Rattle.cut.specs.declared.CutAnswer.the-variants.{Layer as CutLayer}
-use Rattle.sweep.specs.declared.State.{State}
-use Rattle.sweep.specs.declared.LayerAnswer.the-variants.{Layer, Refused}
+use Rattle.sweep.specs.declared.LayerAnswer.{LayerAnswer}
 use Rattle.sweep.specs.Sweep.{Sweep, sweep, meshOf, sweepPairing, passedAt, RingAt, countBelow}
 use Rattle.sweep.specs.SweepLaws.{entry-same, count-few, passed-below, passed-count, risen-to, risen-right}
-use Rattle.sweep.specs.Operations.{at, unlessRefused, risenPassed, risenTable, risenSection, riseTests, layering, Rises}
+use Rattle.sweep.specs.Operations.{unlessRefused, risenPassed, risenTable, risenSection, riseTests, layering, tellLayer, Rises}
 use Rattle.sweep.specs.Places.{RiseTested}
 use Rattle.sweep.specs.AnswerLaws.{rise-passed}
 
@@ -65,37 +65,41 @@ rise-cut-fine s h t same e = none-fine (cutting (s .ordered .paired, h, t) .refu
         let last = subst (λ (y : Traced). Nowhere (used (length (meshOf s .corners)) y)) (sym same) x in
         more z (more u (more r (more v (more w (more p (more last done))))))
 
-module _ {s : Sweep} {h : ℤ} {t t′ : CutTables} {state : State} {j k : ℕ} {ring′ : List ℕ} (ok : Rises s h t (Layer state j k) ring′ t′) where
-  answered : (verdict (layering (s, h, t) .refusals) ≡ fine) × ((state .passed, (j, k)) ≡ layering (s, h, t) .values)
-  answered = given-verdict ok refl
+module _ {s : Sweep} {h : ℤ} {t t′ : CutTables} {result : LayerAnswer} {ring′ : List ℕ} (ok : Rises s h t result ring′ t′) where
+  -- a Layer that gave n passed, j contours and k points
+  module _ {n j k : ℕ} (e : tellLayer result ≡ gives (n, (j, k))) where
+    answered : (verdict (layering (s, h, t) .refusals) ≡ fine) × ((n, (j, k)) ≡ layering (s, h, t) .values)
+    answered = given-verdict ok e
 
-  left : (ring′, t′) ≡ layering (s, h, t) .leaves fine
-  left = left-given ok {g = (state .passed, (j, k))} refl
+    left : (ring′, t′) ≡ layering (s, h, t) .leaves fine
+    left = left-given ok e
 
-  pub rise-tests : RiseTested s h
-  rise-tests =
-      rise-passed s h (lengthsOf t) (join-fine (riseTests s h (lengthsOf t)) (used (length (meshOf s .corners)) (risenSection s h) ∷ []) (answered .0)) .0
+    pub rise-tests : RiseTested s h
+    rise-tests =
+        rise-passed s h (lengthsOf t) (join-fine (riseTests s h (lengthsOf t)) (used (length (meshOf s .corners)) (risenSection s h) ∷ []) (answered .0)) .0
 
-  -- the state that it answers
-  pub rise-state : state ≡ at (countBelow (meshOf s .coords) h)
-  rise-state = ap at ((λ i. answered .1 i .0) ∙ rise-to s h rise-tests)
+    -- the count that it gives
+    pub rise-state : n ≡ countBelow (meshOf s .coords) h
+    rise-state = (λ i. answered .1 i .0) ∙ rise-to s h rise-tests
 
-  -- the ring table that it leaves
-  pub rise-ring : RingAt (sweep (s .ordered) ring′ (countBelow (meshOf s .coords) h))
+    -- the ring table that it leaves
+    pub rise-ring : RingAt (sweep (s .ordered) ring′ (countBelow (meshOf s .coords) h))
+    unfolding unlessRefused
+    rise-ring =
+        subst (λ (r : List ℕ). RingAt (sweep (s .ordered) r (countBelow (meshOf s .coords) h))) (sym (λ i. left i .0)) (rise-table s h rise-tests)
+
+    -- Cut, for the same mesh, pairing, height and tables, gives the same counts and leaves the same four tables
+    pub rise-is-cut : (answer : CutAnswer) × (tellCut answer ≡ gives (j, k)) × Cuts (s .ordered .paired) h t answer t′
+    rise-is-cut =
+        let same = rise-section s h rise-tests in (
+          CutLayer j k,
+          refl,
+          does-give refl (rise-cut-fine s h t same (answered .0))
+              ((λ i. gives (answered .1 i .1)) ∙ (λ i. gives (countsOf (contoursOf (sym same i)))))
+              ((λ i. left i .1) ∙ (λ i. tablesAfterCut (meshOf s) h (contoursOf (sym same i)) t fine)),
+        )
+
+  -- a refused Layer leaves the ring table
+  pub unrisen-ring : {r : Told} → tellLayer result ≡ refuses r → ring′ ≡ s .ring
   unfolding unlessRefused
-  rise-ring =
-      subst (λ (r : List ℕ). RingAt (sweep (s .ordered) r (countBelow (meshOf s .coords) h))) (sym (λ i. left i .0)) (rise-table s h rise-tests)
-
-  -- its counts and its four tables are those of Cut for the same mesh, pairing, height and tables
-  pub rise-is-cut : Cuts (s .ordered .paired) h t (CutLayer j k) t′
-  rise-is-cut =
-      let same = rise-section s h rise-tests in
-      does-give refl (rise-cut-fine s h t same (answered .0))
-      ((λ i. gives (answered .1 i .1)) ∙ (λ i. gives (countsOf (contoursOf (sym same i)))))
-      ((λ i. left i .1) ∙ (λ i. tablesAfterCut (meshOf s) h (contoursOf (sym same i)) t fine))
-
--- ---- a refused Layer leaves the ring table
-
-pub unrisen-ring : {s : Sweep} {h : ℤ} {t t′ : CutTables} {r : Refusal} {ring′ : List ℕ} → Rises s h t (Refused r) ring′ t′ → ring′ ≡ s .ring
-unfolding unlessRefused
-unrisen-ring ok = λ i. left-refused ok refl i .0
+  unrisen-ring e = λ i. left-refused ok e i .0
