@@ -1,5 +1,5 @@
--- What the program writes, and what the function promises: `Short` exactly if the output is too short, else what the program writes stands at its front; its
--- outcome is the only one.
+-- What the program writes, and what the function promises: it refuses exactly if the output is too short, else what the program writes stands at its front;
+-- its outcome is the only one.
 use Prim.Native.Nat.{ℕ, _≤_}
 use mathlib.Core.Path.{_≡_, refl, sym, ap, _∙_}
 use mathlib.Core.List.{List, [], _∷_}
@@ -10,7 +10,7 @@ use lib.ListN.{length, take, drop, length-append}
 use lib.Seq.{take-at}
 use Rattle.laws.specs.Tables.{overwrite}
 use Rattle.mesh.specs.Operation.{gives, refuses, after}
-use Rattle.mesh.specs.OperationLaws.{First, None, more, done, first-refused, none-fine, then-refused, then-fine, Recovers, recovered, given-verdict, left-given}
+use Rattle.mesh.specs.OperationLaws.{First, None, more, done, first-refused, none-fine, then-refused, then-fine, Recovers, given-verdict, left-given}
 use Rattle.mesh.specs.OperationLaws.{refused-exactly, given-exactly, only-outcome}
 use Rattle.mesh.specs.Refusals.{Told}
 use Rattle.read_part.specs.Parts.{partIn}
@@ -40,7 +40,7 @@ list-recovers = record {
 }
 
 module _ {input output : List ℕ} {result : ListAnswer} {output′ : List ℕ} (k : Lists input output result output′) where
-  -- `Short` exactly if the output is too short, else the length of what is written; and one outcome only
+  -- refused exactly if the output is too short, else the length of what is written; and one outcome only
   pub list-short : (tellList result ≡ refuses tt) ↔ First (shortList output ∷ []) tt
   list-short = refused-exactly k tt
 
@@ -51,19 +51,19 @@ module _ {input output : List ℕ} {result : ListAnswer} {output′ : List ℕ} 
   list-only = only-outcome list-recovers k
 
   -- an output of so many bytes is always long enough
-  pub long-enough : mostOutput ≤ length output → result ≡ Length (length (listed input))
-  long-enough h = recovered list-recovers (list-given .1 (more (λ i l. le-ltb (length output) mostOutput h) done))
+  pub long-enough : mostOutput ≤ length output → tellList result ≡ gives (length (listed input))
+  long-enough h = list-given .1 (more (λ i l. le-ltb (length output) mostOutput h) done)
 
   -- the first n bytes of the output are what the program writes
   pub record ListingWritten (n : ℕ) : Type 0 where
     pub within : n ≤ length output′
     pub text : take n output′ ≡ listed input
 
-  pub written : {n : ℕ} → result ≡ Length n → ListingWritten n
+  pub written : {n : ℕ} → tellList result ≡ gives n → ListingWritten n
   unfolding overwrite after
   written {n} e =
-      let size : n ≡ length (listed input) = given-verdict k (ap tellList e) .1 in
-      let is : output′ ≡ overwrite (listed input) output = left-given k (ap tellList e) in
+      let size : n ≡ length (listed input) = given-verdict k e .1 in
+      let is : output′ ≡ overwrite (listed input) output = left-given k e in
       record {
         within = omega (arith, ap length is, length-append (listed input) (drop (length (listed input)) output));
         text = ap (take n) is ∙ take-at (listed input) (drop (length (listed input)) output) n (sym size);

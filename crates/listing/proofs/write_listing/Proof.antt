@@ -1,4 +1,6 @@
 -- `write_listing` meets its contract.
+use mathlib.Core.Path.{ap}
+use Rattle.list_part.specs.Listing.{tellList}
 use Rattle.list_part.specs.ListingLaws.{written}
 use Rattle.listing.proofs.Reading.{front-length}
 use borrow.Author.Needs.{needs}
@@ -15,12 +17,12 @@ enum-known-a : tie.Need-enum-known-a
 enum-known-a c = search needs
 
 array-share-prefix-output : tie.Need-array-share-prefix-output
-array-share-prefix-output c = written (c .before .before .before .before .list .ensures) (c .before .a .given .1) .within
+array-share-prefix-output c = written (c .before .before .before .before .list .ensures) (ap tellList (c .before .a .given .1)) .within
 
 slice-aggregate-write-all : tie.Need-slice-aggregate-write-all
 slice-aggregate-write-all c =
     let at-list = c .before .before .before .before .before in
-    front-length _ _ (written (at-list .list .ensures) (c .before .before .a .given .1) .within)
+    front-length _ _ (written (at-list .list .ensures) (ap tellList (c .before .before .a .given .1)) .within)
 
 write-all-requires : tie.Need-write-all-requires
 write-all-requires c κs = search needs
