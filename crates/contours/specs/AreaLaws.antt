@@ -1,7 +1,7 @@
 -- What Area promises: it refuses exactly if a listed condition holds, at the least place; its answer is at most 98,304 times the largest cross product; a run
 -- without points has area 0; points in range, and contours of such, are never refused.
 use Prim.Native.Nat.{ℕ, zero, suc, _+_, _*_, _/_, _%_, _≤_, _<_}
-use mathlib.Core.Path.{_≡_, refl, sym, ap, _∙_, subst}
+use mathlib.Core.Path.{_≡_, refl, sym, ap, _∙_}
 use mathlib.Core.Bool.{Bool, true, false, not, cond}
 use mathlib.Core.List.{List, []}
 use mathlib.Core.Logic.{_⊎_, inl, inr, ⊎-elim, _↔_}
@@ -14,7 +14,7 @@ use Rattle.laws.specs.Booleans.{and-parts, and-of, split-lt}
 use Rattle.laws.specs.Integers.{abs-add, abs-sub, abs-mul}
 use Rattle.mesh.specs.Corners.{largest}
 use Rattle.mesh.specs.Operation.{gives, refuses}
-use Rattle.mesh.specs.OperationLaws.{First, None, more, done, fine-none, Recovers, recovered, given-verdict, refused-exactly, given-exactly, only-outcome}
+use Rattle.mesh.specs.OperationLaws.{First, None, more, done, fine-none, Recovers, given-verdict, refused-exactly, given-exactly, only-outcome}
 use Rattle.mesh.specs.Refusals.{Told}
 use Rattle.mesh.specs.RefusalLaws.{refusalOf, refusal-once}
 use Rattle.mesh.specs.Tests.{outOfRange}
@@ -166,14 +166,14 @@ module _ {points : List ℤ} {result : AreaAnswer} (d : Measures points result) 
   pub area-only : {other : AreaAnswer} → Measures points other → result ≡ other
   area-only e = only-outcome area-recovers d e .0
 
-  pub run-measured : PointRun points → result ≡ Area (areaOf points)
-  run-measured r = recovered area-recovers (area-given .1 (none-of points r))
+  pub run-measured : PointRun points → tellArea result ≡ gives (areaOf points)
+  run-measured r = area-given .1 (none-of points r)
 
   -- an area that is answered is the area, and at most 98,304 × 2 × 2 ^ 40
-  pub area-is : (a : ℤ) → result ≡ Area a → a ≡ areaOf points
-  area-is a e = given-verdict d (ap tellArea e) .1
+  pub area-is : (a : ℤ) → tellArea result ≡ gives a → a ≡ areaOf points
+  area-is a e = given-verdict d e .1
 
-  pub area-bound : (a : ℤ) → result ≡ Area a → natAbs a ≤ mostPoints * largestCross
+  pub area-bound : (a : ℤ) → tellArea result ≡ gives a → natAbs a ≤ mostPoints * largestCross
   area-bound a e =
-      let f = given-verdict d (ap tellArea e) in
+      let f = given-verdict d e in
       rw (f .1) (run-bound points (run-of points (fine-none (measuring points .refusals) (f .0))))

@@ -10,10 +10,11 @@ use lib.Signed.{mag}
 use mir.Syntax.{w64}
 use mir.Val.{SFits, toZ, ofZ}
 use Rattle.laws.specs.Machine.{Rd, got, add-ok, add}
+use Rattle.mesh.specs.OperationLaws.{apart}
 use Rattle.mesh.specs.declared.Refusal.{Refusal}
 use Rattle.contours.specs.declared.AreaAnswer.{AreaAnswer}
 use Rattle.contours.specs.declared.AreaAnswer.the-variants.{Area, Refused}
-use Rattle.contours.specs.Areas.{pointCount, crossOf, nextPoint, sumOf, areaOf, Measures}
+use Rattle.contours.specs.Areas.{pointCount, crossOf, nextPoint, sumOf, areaOf, tellArea, Measures}
 use Rattle.contours.specs.AreaLaws.{sum-bound, cross-bound, run-measured, area-is}
 use Rattle.contours.specs.Contours.{contourOf}
 use Rattle.contours.specs.Runs.{largestCross, PointRun}
@@ -25,12 +26,10 @@ use Rattle.list_lines.specs.Steps.{areasIn, Summable}
 -- a part of the points that is contour i
 module _ {points run : List ℤ} {result : AreaAnswer} (d : Measures run result) (e : run ≡ points) where
   pub measured-area : {a : ℤ} → result ≡ Area a → a ≡ areaOf points
-  measured-area {a} f = area-is d a f ∙ ap areaOf e
+  measured-area {a} f = area-is d a (ap tellArea f) ∙ ap areaOf e
 
   pub never-refused : {r : Refusal} → PointRun points → result ≡ Refused r → ⊥
-  never-refused {r} runs f =
-      let g : Refused r ≡ Area (areaOf run) = sym f ∙ run-measured d (subst PointRun (sym e) runs) in
-      let z : _≡_ {A = ℕ} 0 1 = cc in omega arith
+  never-refused runs f = apart (ap tellArea (sym f) ∙ run-measured d (subst PointRun (sym e) runs))
 
 -- ---- the sum
 
