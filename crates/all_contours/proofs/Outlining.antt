@@ -2,7 +2,7 @@
 use Prim.Native.Nat.{ℕ, zero, suc, _+_, _≤_, _<_}
 use mathlib.Core.Path.{_≡_, refl, sym, ap, _∙_, subst}
 use mathlib.Core.Bool.{Bool, true, false, not}
-use mathlib.Core.List.{List, [], _∷_, _++_}
+use mathlib.Core.List.{List, [], _∷_, _++_, flatten}
 use mathlib.Core.Logic.{⊎-elim}
 use native.Mathlib.Omega.{arith}
 use lib.ListN.{length, getD, set, length-append}
@@ -72,6 +72,7 @@ module _ (m : PairedMesh) (h : ℤ) where
 
   pub outlining-start : {stamp : ℕ} {ring : List ℕ} {head : ℕ} {names ends marks : List ℕ} → Outlinable m h stamp ring head names ends marks
       → Outlining stamp ring head names ends marks names ends marks head 0 0
+  unfolding flatten
   outlining-start {head = head} {names} {ends} g =
       let e : head ≡ nextIn rises (length corners) 0 = g .stands .head-is in
       record {

@@ -4,7 +4,7 @@ use mathlib.Core.Path.{_≡_, refl, sym, ap, _∙_, subst}
 use mathlib.Core.Bool.{true}
 use mathlib.Core.List.{List, [], _∷_, _++_, map, flatten}
 use native.Mathlib.Omega.{arith}
-use lib.ListN.{length, getD, take, drop, replicate, length-append, length-drop, length-map, length-replicate}
+use lib.ListN.{length, getD, take, drop, replicate, length-drop, length-map, length-replicate}
 use lib.Seq.{drop-drop, drop-at, take-at, ext-getD, getD-drop}
 use lib.IntN.{ℤ}
 use lib.Dec.{eqb}
@@ -18,7 +18,7 @@ use Rattle.mesh.specs.Meshes.{Mesh, PairedMesh}
 use Rattle.section.specs.Section.{below, Right}
 use Rattle.section.specs.Contours.{Traced, contours, member, namesOf}
 use Rattle.section.specs.Layers as layers
-use Rattle.section.specs.LayerLaws.{trace-layer}
+use Rattle.section.specs.LayerLaws.{contours-few, trace-layer}
 use Rattle.section.specs.OrbitLaws.{member-join, at-member}
 use Rattle.cut_points.specs.Points.{pointAt, pointsOf}
 use Rattle.cut_points.specs.Climbs.{Climbs}
@@ -32,7 +32,7 @@ use Rattle.file_formats.specs.LayerFile.{mostPoints, Point, Layer}
 use Rattle.file_formats.specs.LayerRules.{PointRules, ContourRules, pointTotal, LayerRules}
 use Rattle.file_write.specs.Written.{layerOf, numbersOf, endsOf, layerBytes}
 use Rattle.file_write.specs.LayerTables.{LayerTables}
-use Rattle.file_write.specs.WrittenLaws.{layer-held, tables-held, flatten-map, ends-map, length-ends, layer-short}
+use Rattle.file_write.specs.WrittenLaws.{layer-held, tables-held, length-flatten, flatten-map, ends-map, length-ends, layer-short}
 use Rattle.all_active.specs.Lists.{activeAt}
 use Rattle.all_active.specs.Levels.{KeptFrom}
 use Rattle.all_active.specs.TotalLaws.{distinct-tally}
@@ -81,11 +81,6 @@ spent-kept {n} {t} {u} k =
 
 -- ---- contours told by names, and by points
 
-same-names : (rs : List (List ℕ)) → namesOf rs ≡ flatten rs
-unfolding flatten
-same-names [] = refl
-same-names (r ∷ rs) = ap (λ (l : List ℕ). r ++ l) (same-names rs)
-
 module _ (m : Mesh) (h : ℤ) where
   same-points : (names : List ℕ) → pointsOf m h names ≡ numbersOf (map (crossingAt m h) names)
   unfolding pointsOf numbersOf
@@ -97,14 +92,13 @@ module _ (m : Mesh) (h : ℤ) where
   shapesOf rs = drawn m h rs .contours
 
   pub drawn-points : (rs : List (List ℕ)) → pointsOf m h (namesOf rs) ≡ numbersOf (flatten (shapesOf rs))
-  drawn-points rs = ap (pointsOf m h) (same-names rs) ∙ same-points (flatten rs) ∙ ap numbersOf (sym (flatten-map (crossingAt m h) rs))
+  drawn-points rs = same-points (flatten rs) ∙ ap numbersOf (sym (flatten-map (crossingAt m h) rs))
 
   pub drawn-ends : (rs : List (List ℕ)) → endsOf rs ≡ endsOf (shapesOf rs)
   drawn-ends rs = sym (ends-map (crossingAt m h) 0 rs)
 
   pub drawn-total : (rs : List (List ℕ)) → pointTotal (shapesOf rs) ≡ length (namesOf rs)
-  drawn-total [] = refl
-  drawn-total (r ∷ rs) = omega (arith, length-append r (namesOf rs), length-map r (crossingAt m h), drawn-total rs)
+  drawn-total rs = sym (length-flatten (shapesOf rs)) ∙ ap length (flatten-map (crossingAt m h) rs) ∙ length-map (namesOf rs) (crossingAt m h)
 
   -- ---- the rules of the layer file
 
@@ -115,6 +109,7 @@ module _ (m : Mesh) (h : ℤ) where
 
   contours-rule : (rs : List (List ℕ)) → ((i : ℕ) → i < length rs → 2 ≤ length (layers.contourAt rs i))
       → ((x : ℕ) → member x (namesOf rs) ≡ true → PointRules (crossingAt m h x)) → Each ContourRules (shapesOf rs)
+  unfolding flatten
   contours-rule [] two all = tt
   contours-rule (r ∷ rs) two all = (
     (
@@ -123,10 +118,6 @@ module _ (m : Mesh) (h : ℤ) where
     ),
     contours-rule rs (λ i l. two (suc i) (omega arith)) (λ x e. all x (member-join x r (namesOf rs) ∙ or-right (member x r) (member x (namesOf rs)) e)),
   )
-
-contours-few : (rs : List (List ℕ)) → ((i : ℕ) → i < length rs → 2 ≤ length (layers.contourAt rs i)) → length rs ≤ length (namesOf rs)
-contours-few [] two = omega arith
-contours-few (r ∷ rs) two = omega (arith, two 0 (omega arith), length-append r (namesOf rs), contours-few rs (λ i l. two (suc i) (omega arith)))
 
 -- ---- the layer of a right mesh
 
@@ -238,7 +229,7 @@ module _ (m : PairedMesh) (right : Right m) (h : ℤ) where
     names-spent = subst (Spent (length (m .mesh .corners)) names) (sym names-are) (spent-front _ _ _ (omega (arith, k-few, k-is)) names-long)
 
     rings-ends : length (endsOf rings) ≤ length (m .mesh .corners)
-    rings-ends = omega (arith, k-few, k-is, contours-few rings rings-two, length-ends 0 rings)
+    rings-ends = omega (arith, k-few, k-is, contours-few rings (λ i l. omega (arith, rings-two i l)), length-ends 0 rings)
 
     pub ends-spent : Spent (length (m .mesh .corners)) ends ends′
     ends-spent = subst (Spent (length (m .mesh .corners)) ends) (sym ends-are) (spent-front _ _ _ rings-ends ends-long)

@@ -1,7 +1,7 @@
 -- The worked layer file (WORKED-10), from part P to its 23 bytes, by computation from the definitions.
 use Prim.Native.Nat.{ℕ}
 use mathlib.Core.Path.{_≡_, refl}
-use mathlib.Core.List.{List, [], _∷_}
+use mathlib.Core.List.{List, [], _∷_, flatten}
 use lib.ListN.{replicate}
 use lib.IntN.{ℤ, pos}
 use Rattle.laws.specs.Least.{least, some}
@@ -50,7 +50,7 @@ file : sweptFile p ring (heightsTaken coords heights)
     ≡ 0x04 ∷ 0x00 ∷ 0x00 ∷ 0x0A ∷ 0x01 ∷ 0x03 ∷ 0x0A ∷ 0x00 ∷ 0x09 ∷ 0x0A ∷ 0x00 ∷ 0x09 ∷ 0x14 ∷ 0x01 ∷ 0x03 ∷ 0x00 ∷ 0x00 ∷ 0x00 ∷ 0x00 ∷ 0x00 ∷ 0x00 ∷ 0x16
     ∷ 0x00 ∷ []
 unfolding heightsTaken sweptLayer climb freshRing tabulate overwrite mayRise risenTo risenRing stepRing relinked touches ringEntry passedAt below rising
-    risingIn successor member walk traceAt traceTo traceLinks hasLink numerator denominator rounded exactOver exactUnder pointAt encodeAll groups
+    risingIn successor member walk traceAt flatten traceTo traceLinks hasLink numerator denominator rounded exactOver exactUnder pointAt encodeAll groups
     encodeNumber coordinateFormat pointFormat contourFormat contourList heightAbove layerFormat layerFile
 file = refl
 
@@ -64,7 +64,7 @@ enough : answerOf (filing (p, heights, w, replicate 23 7)) ≡ gives 23
 unfolding verdict _then_ test some least sizesFit workRoomFor cutRoomFor outOfRange namesNone namesTwice reverse pairedAt orderedAt before place orderUpTo
     orderOf
     metAt notAboveLast heightsTaken sweptLayer climb freshRing tabulate overwrite mayRise risenTo risenRing stepRing relinked touches ringEntry passedAt
-    below rising risingIn successor member walk traceAt traceTo traceLinks hasLink numerator denominator rounded exactOver exactUnder pointAt encodeAll
+    below rising risingIn successor member walk traceAt flatten traceTo traceLinks hasLink numerator denominator rounded exactOver exactUnder pointAt encodeAll
     groups encodeNumber coordinateFormat pointFormat contourFormat contourList heightAbove layerFormat layerFile
 enough = refl
 
@@ -72,7 +72,7 @@ short : verdict (filing (p, heights, w, replicate 22 7) .refusals) ≡ refuses (
 unfolding verdict _then_ test some least sizesFit workRoomFor cutRoomFor outOfRange namesNone namesTwice reverse pairedAt orderedAt before place orderUpTo
     orderOf
     metAt notAboveLast heightsTaken sweptLayer climb freshRing tabulate overwrite mayRise risenTo risenRing stepRing relinked touches ringEntry passedAt
-    below rising risingIn successor member walk traceAt traceTo traceLinks hasLink numerator denominator rounded exactOver exactUnder pointAt encodeAll
+    below rising risingIn successor member walk traceAt flatten traceTo traceLinks hasLink numerator denominator rounded exactOver exactUnder pointAt encodeAll
     groups encodeNumber coordinateFormat pointFormat contourFormat contourList heightAbove layerFormat layerFile
 short = refl
 

@@ -1,7 +1,7 @@
 -- The worked pieces on sections and Cut (WORKED-5 to WORKED-9), by computation from the definitions.
 use Prim.Native.Nat.{ℕ}
 use mathlib.Core.Path.{_≡_, refl}
-use mathlib.Core.List.{List, [], _∷_}
+use mathlib.Core.List.{List, [], _∷_, flatten}
 use lib.Dec.{ltb}
 use lib.ListN.{replicate}
 use lib.IntN.{ℤ, pos}
@@ -33,8 +33,8 @@ t = lent (replicate 12 7) (replicate 24 (pos 7)) (replicate 12 7) (replicate 12 
 
 -- P at height 5: one contour of three points
 accepted : answerOf (cutting (p, pos 5, t)) ≡ gives (1, 3)
-unfolding verdict _then_ test some least sizesFit cutRoomFor outOfRange namesNone namesTwice reverse pairedAt metAt trace traceTo traceAt walk member rising
-    risingIn successor below
+unfolding verdict _then_ test some least sizesFit cutRoomFor outOfRange namesNone namesTwice reverse pairedAt metAt trace traceTo traceAt flatten walk member
+    rising risingIn successor below
 accepted = refl
 
 -- one vertex passed: ring 0, 6, 3 (WORKED-5); two: ring 0, 6, 4, 9 (WORKED-6)
@@ -42,16 +42,16 @@ first : ℕ → VertexSet
 first n v = ltb v n
 
 one-passed : trace (first 1) corners pairing ≡ contours ((0 ∷ 6 ∷ 3 ∷ []) ∷ [])
-unfolding first trace traceTo traceAt walk member rising risingIn successor
+unfolding first trace traceTo traceAt flatten walk member rising risingIn successor
 one-passed = refl
 
 two-passed : trace (first 2) corners pairing ≡ contours ((0 ∷ 6 ∷ 4 ∷ 9 ∷ []) ∷ [])
-unfolding first trace traceTo traceAt walk member rising risingIn successor
+unfolding first trace traceTo traceAt flatten walk member rising risingIn successor
 two-passed = refl
 
 -- height 5: names 4, 10, 6, and points (5,0), (0,5), (0,0) (WORKED-7)
 at-5 : section p (pos 5) ≡ contours ((4 ∷ 10 ∷ 6 ∷ []) ∷ [])
-unfolding below trace traceTo traceAt walk member rising risingIn successor
+unfolding below trace traceTo traceAt flatten walk member rising risingIn successor
 at-5 = refl
 
 points-5 : pointsOf (p .mesh) (pos 5) (4 ∷ 10 ∷ 6 ∷ []) ≡ pos 5 ∷ pos 0 ∷ pos 0 ∷ pos 5 ∷ pos 0 ∷ pos 0 ∷ []
@@ -64,7 +64,7 @@ ends-5 = refl
 
 -- height 10: three times (0,0) (WORKED-8)
 at-10 : section p (pos 10) ≡ contours ((4 ∷ 10 ∷ 6 ∷ []) ∷ [])
-unfolding below trace traceTo traceAt walk member rising risingIn successor
+unfolding below trace traceTo traceAt flatten walk member rising risingIn successor
 at-10 = refl
 
 points-10 : pointsOf (p .mesh) (pos 10) (4 ∷ 10 ∷ 6 ∷ []) ≡ pos 0 ∷ pos 0 ∷ pos 0 ∷ pos 0 ∷ pos 0 ∷ pos 0 ∷ []

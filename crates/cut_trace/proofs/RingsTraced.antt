@@ -2,7 +2,7 @@
 use Prim.Native.Nat.{ℕ, zero, suc, _+_, _-_, _≤_, _<_}
 use mathlib.Core.Path.{_≡_, refl, sym, ap, _∙_, subst}
 use mathlib.Core.Bool.{Bool, true, false, not, _&&_}
-use mathlib.Core.List.{List, [], _∷_, _++_}
+use mathlib.Core.List.{List, [], _∷_, _++_, flatten}
 use native.Mathlib.Omega.{arith}
 use native.Mathlib.Numerals.{add-one}
 use native.Mathlib.Nat.{add-zero}
@@ -53,6 +53,7 @@ pub record RingsTraced (n : ℕ) (links₀ names₀ ends₀ links names ends : L
   pub links-is : links ≡ strike links₀ (flat rings)
 
 pub tracing-start : {n : ℕ} {links names ends : List ℕ} → Traceable n links names ends → RingsTraced n links names ends links names ends 0 0 0
+unfolding flatten
 tracing-start {n} {links} {names} {ends} g =
     record {
       given = g;

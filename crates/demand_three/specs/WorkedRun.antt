@@ -4,7 +4,7 @@ use Prim.Native.Nat.{ℕ}
 use mathlib.Core.Path.{_≡_, refl, subst}
 use mathlib.Core.Logic.{inr}
 use mathlib.Core.Bool.{true, false}
-use mathlib.Core.List.{List, [], _∷_}
+use mathlib.Core.List.{List, [], _∷_, flatten}
 use native.Mathlib.Omega.{arith}
 use lib.ListN.{getD, replicate}
 use lib.IntN.{ℤ, pos}
@@ -95,7 +95,7 @@ layer5 = lent (4 ∷ 10 ∷ 6 ∷ replicate 9 7) (pos 5 ∷ pos 0 ∷ pos 0 ∷ 
 risen : Rises (sweep p ring1 1) (pos 5) tables (Layer (at 3) 1 3) ring3 layer5
 unfolding verdict _then_ test some least sizesFit cutRoomFor outOfRange namesNone namesTwice reverse pairedAt orderedAt orderOf orderUpTo place before linkedAt
     passedHigh metAt unlessRefused after mayRise risenTo risenRing stepRing relinked touches passedAt member ringEntry rising risingIn successor below
-    tabulate overwrite traceLinks traceTo traceAt walk hasLink endsFrom pointsOf pointAt exactOver exactUnder numerator denominator rounded
+    tabulate overwrite traceLinks traceTo traceAt flatten walk hasLink endsFrom pointsOf pointAt exactOver exactUnder numerator denominator rounded
 risen = record { answers = refl; leaves = refl }
 
 -- no rise goes down: at height 0 refusal 12, place 0

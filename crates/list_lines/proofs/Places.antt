@@ -1,7 +1,7 @@
 -- Where the contours of a layer lie in the tables that Cut leaves: Contour i of them has the points of contour i.
 use Prim.Native.Nat.{ℕ, zero, suc, _+_, _-_, _*_, _≤_, _<_}
 use mathlib.Core.Path.{_≡_, refl, sym, ap, _∙_, subst}
-use mathlib.Core.List.{List, [], _∷_, _++_, append-assoc}
+use mathlib.Core.List.{List, [], _∷_, _++_, flatten, append-assoc}
 use native.Mathlib.Omega.{arith}
 use lib.ListN.{length, getD, take, drop, length-append}
 use lib.Seq.{take-at, drop-at}
@@ -13,6 +13,7 @@ use Rattle.mesh.specs.Meshes.{Mesh}
 use Rattle.polygons.specs.FlatLaws.{length-ends}
 use Rattle.section.specs.Contours.{namesOf, endsFrom, endsOf}
 use Rattle.section.specs.Layers.{contourAt}
+use Rattle.section.specs.LayerLaws.{contours-few}
 use Rattle.cut_points.specs.Points.{pointsOf}
 use Rattle.cut_points.specs.PointLaws.{points-append, length-points}
 use Rattle.polygons.specs.Flat.{endBefore}
@@ -32,12 +33,14 @@ abbrev namesBefore : List (List ℕ) → ℕ → ℕ
 namesBefore rs i = length (namesOf (take i rs))
 
 before-next : (rs : List (List ℕ)) (i : ℕ) → i < length rs → namesBefore rs (suc i) ≡ namesBefore rs i + length (contourAt rs i)
+unfolding flatten
 before-next [] i h = absurd (omega arith)
 before-next (r ∷ rs) zero h = omega (arith, length-append r [])
 before-next (r ∷ rs) (suc i) h =
     omega (arith, length-append r (namesOf (take (suc i) rs)), length-append r (namesOf (take i rs)), before-next rs i (omega arith))
 
 names-split : (rs : List (List ℕ)) (i : ℕ) → i < length rs → namesOf rs ≡ namesOf (take i rs) ++ (contourAt rs i ++ namesOf (drop (suc i) rs))
+unfolding flatten
 names-split [] i h = absurd (omega arith)
 names-split (r ∷ rs) zero h = refl
 names-split (r ∷ rs) (suc i) h =
@@ -45,15 +48,10 @@ names-split (r ∷ rs) (suc i) h =
     ∙ sym (append-assoc r (namesOf (take i rs)) (contourAt rs i ++ namesOf (drop (suc i) rs)))
 
 end-at : (k : ℕ) (rs : List (List ℕ)) (i : ℕ) → i < length rs → getD (endsFrom k rs) i 0 ≡ k + namesBefore rs (suc i)
-unfolding endsFrom
+unfolding endsFrom flatten
 end-at k [] i h = absurd (omega arith)
 end-at k (r ∷ rs) zero h = omega (arith, length-append r [])
 end-at k (r ∷ rs) (suc i) h = omega (arith, end-at (k + length r) rs i (omega arith), length-append r (namesOf (take (suc i) rs)))
-
--- contours that have points are no more than these
-few-contours : (rs : List (List ℕ)) → ((i : ℕ) → i < length rs → 1 ≤ length (contourAt rs i)) → length rs ≤ length (namesOf rs)
-few-contours [] f = omega arith
-few-contours (r ∷ rs) f = omega (arith, length-append r (namesOf rs), f 0 (omega arith), few-contours rs (λ i h. f (suc i) (omega arith)))
 
 -- ---- the tables
 
@@ -72,7 +70,7 @@ module _ (m : Mesh) (h : ℤ) (rs : List (List ℕ)) (points : List ℤ) (ends :
     own = overwrite-at (endsOf rs) ends i 0 (omega (arith, length-ends 0 rs)) ∙ end-at 0 rs i l ∙ omega arith
 
     prior : priorEnd endsGiven i ≡ namesBefore rs i
-    unfolding endBefore
+    unfolding endBefore flatten
     prior = by i l
       where
         by : (k : ℕ) → k < length rs → priorEnd endsGiven k ≡ namesBefore rs k
@@ -155,7 +153,7 @@ module _ (m : Mesh) (h : ℤ) (rs : List (List ℕ)) (points : List ℤ) (ends :
       → Summable pointsAfter endsGiven (length rs)
   summable some few ranged =
       record {
-        few = omega (arith, few-contours rs some);
+        few = omega (arith, contours-few rs some);
         each = λ i l. contour-runs i l (omega arith) ranged;
         short = λ i l. contour-short i l few;
       }

@@ -2,7 +2,7 @@
 -- and the layer's names (CUT-2); its ends are those of any contours (polygons/Flat).
 use Prim.Native.Nat.{ℕ, zero, suc}
 use mathlib.Core.Bool.{Bool, true, false, not, cond, _&&_, _||_}
-use mathlib.Core.List.{List, [], _∷_, _++_}
+use mathlib.Core.List.{List, [], _∷_, _++_, flatten}
 use lib.ListN.{length}
 use lib.Dec.{eqb}
 unfoldable pub use Rattle.polygons.specs.Flat.{endsFrom}
@@ -48,8 +48,7 @@ pub data Traced : Type 0 where
 
 -- the names of a layer: the corners of its contours, in turn (CUT-2)
 abbrev pub namesOf : List (List ℕ) → List ℕ
-namesOf [] = []
-namesOf (r ∷ rs) = r ++ namesOf rs
+namesOf rs = flatten rs
 
 -- the contours found so far, with what the next walk finds
 abbrev pub more : List (List ℕ) → WalkEnd → Traced

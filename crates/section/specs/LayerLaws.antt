@@ -3,7 +3,7 @@ use Prim.Native.Nat.{ℕ, zero, suc, _+_, _-_, _≤_, _<_}
 use mathlib.Core.Path.{_≡_, refl, sym, ap, _∙_, subst}
 use mathlib.Core.Logic.{_⊎_, ⊎-elim}
 use mathlib.Core.Bool.{Bool, true, false, not, _&&_, _||_}
-use mathlib.Core.List.{List, [], _∷_, _++_, append-assoc, append-nil}
+use mathlib.Core.List.{List, [], _∷_, _++_, flatten, append-assoc, append-nil}
 use native.Mathlib.Omega.{arith}
 use native.Mathlib.Decide.{ℕ-discrete, decLt}
 use native.Mathlib.Nat.{not-suc-le-zero}
@@ -23,17 +23,24 @@ use Rattle.section.specs.OrbitLaws.{member-none, member-join, at-member,
 use Rattle.section.specs.OrbitLaws.{walk-closes, next-in, distinct-ring}
 
 pub names-snoc : (rs : List (List ℕ)) (r : List ℕ) → namesOf (rs ++ (r ∷ [])) ≡ namesOf rs ++ r
+unfolding flatten
 names-snoc [] r = append-nil r
 names-snoc (x ∷ rs) r = ap (λ (l : List ℕ). x ++ l) (names-snoc rs r) ∙ sym (append-assoc x (namesOf rs) r)
 
 pub ends-snoc : (k : ℕ) (rs : List (List ℕ)) (r : List ℕ) → endsFrom k (rs ++ (r ∷ [])) ≡ endsFrom k rs ++ ((k + length (namesOf rs) + length r) ∷ [])
-unfolding endsFrom
+unfolding endsFrom flatten
 ends-snoc k [] r = let e : k + length r ≡ k + 0 + length r = omega arith in ap (λ (x : ℕ). x ∷ []) e
 ends-snoc k (q ∷ rs) r =
     ap (λ (l : List ℕ). (k + length q) ∷ l)
     (ends-snoc (k + length q) rs r
     ∙ (let e : k + length q + length (namesOf rs) + length r ≡ k + length (q ++ namesOf rs) + length r = omega (arith, length-append q (namesOf rs)) in
     ap (λ (x : ℕ). endsFrom (k + length q) rs ++ (x ∷ [])) e))
+
+-- contours that have names are no more than these
+pub contours-few : (rs : List (List ℕ)) → ((i : ℕ) → i < length rs → 1 ≤ length (contourAt rs i)) → length rs ≤ length (namesOf rs)
+unfolding flatten
+contours-few [] f = omega arith
+contours-few (r ∷ rs) f = omega (arith, length-append r (namesOf rs), f 0 (omega arith), contours-few rs (λ i h. f (suc i) (omega arith)))
 
 module _ (rs : List (List ℕ)) (r : List ℕ) where
   old-at : (i : ℕ) → i < length rs → contourAt (rs ++ (r ∷ [])) i ≡ contourAt rs i
@@ -73,6 +80,7 @@ module _ (rises : ℕ → Bool) (next : ℕ → ℕ) (n : ℕ) (leads : Leads ri
     pub few : length rs ≤ c
 
   pub begun-start : Begun 0 []
+  unfolding flatten
   begun-start =
       record {
         is = unfold traceTo in refl;

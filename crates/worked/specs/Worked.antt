@@ -1,7 +1,7 @@
 -- The starred worked pieces (WORKED-4 to WORKED-14), all in one statement
 -- (WORKED-1): what the definitions give for these inputs are these results.
 use mathlib.Core.Path.{_≡_, refl, ap, _∙_}
-use mathlib.Core.List.{List, [], _∷_, map}
+use mathlib.Core.List.{List, [], _∷_, map, flatten}
 use Prim.Native.Nat.{ℕ}
 use lib.IntN.{ℤ, pos, negsuc}
 use Rattle.laws.specs.Least.{least, some}
@@ -135,31 +135,31 @@ unfolding checkedAs verdict _then_ test some least sizesFit check.checkRoomFor o
 P-opened = refl
 
 one-passed : passedAs ready 1 ≡ rings ((0 ∷ 6 ∷ 3 ∷ []) ∷ [])
-unfolding passedAs passedAt trace traceTo traceAt walk member rising risingIn successor
+unfolding passedAs passedAt trace traceTo traceAt flatten walk member rising risingIn successor
 one-passed = refl
 
 two-passed : passedAs ready 2 ≡ rings ((0 ∷ 6 ∷ 4 ∷ 9 ∷ []) ∷ [])
-unfolding passedAs passedAt trace traceTo traceAt walk member rising risingIn successor
+unfolding passedAs passedAt trace traceTo traceAt flatten walk member rising risingIn successor
 two-passed = refl
 
 at-5 : cutAs ready (pos 5) ≡ layered atFive
 unfolding cutAs verdict _then_ test some least after overwrite sizesFit cutRoomFor outOfRange namesNone namesTwice reverse pairedAt metAt
-    trace traceTo traceAt walk member rising risingIn successor below endsFrom pointsOf pointAt exactOver exactUnder numerator denominator rounded
+    trace traceTo traceAt flatten walk member rising risingIn successor below endsFrom pointsOf pointAt exactOver exactUnder numerator denominator rounded
 at-5 = refl
 
 at-10 : cutAs ready (pos 10) ≡ layered atTen
 unfolding cutAs verdict _then_ test some least after overwrite sizesFit cutRoomFor outOfRange namesNone namesTwice reverse pairedAt metAt
-    trace traceTo traceAt walk member rising risingIn successor below endsFrom pointsOf pointAt exactOver exactUnder numerator denominator rounded
+    trace traceTo traceAt flatten walk member rising risingIn successor below endsFrom pointsOf pointAt exactOver exactUnder numerator denominator rounded
 at-10 = refl
 
 at-0 : cutAs ready (pos 0) ≡ layered noContour
 unfolding cutAs verdict _then_ test some least after overwrite sizesFit cutRoomFor outOfRange namesNone namesTwice reverse pairedAt metAt
-    trace traceTo traceAt walk member rising risingIn successor below endsFrom pointsOf
+    trace traceTo traceAt flatten walk member rising risingIn successor below endsFrom pointsOf
 at-0 = refl
 
 at-11 : cutAs ready (pos 11) ≡ layered noContour
 unfolding cutAs verdict _then_ test some least after overwrite sizesFit cutRoomFor outOfRange namesNone namesTwice reverse pairedAt metAt
-    trace traceTo traceAt walk member rising risingIn successor below endsFrom pointsOf
+    trace traceTo traceAt flatten walk member rising risingIn successor below endsFrom pointsOf
 at-11 = refl
 
 area-5 : areaAs (pos 5 ∷ pos 0 ∷ pos 0 ∷ pos 5 ∷ pos 0 ∷ pos 0 ∷ []) ≡ number (pos 25)
@@ -169,8 +169,8 @@ area-5 = refl
 file-P : filedAs ready heights 23 ≡ bytes file
 unfolding filedAs verdict _then_ test some least overwrite tabulate sizesFit cutRoomFor workRoomFor outOfRange namesNone namesTwice reverse pairedAt orderedAt
     before place orderUpTo orderOf metAt notAboveLast heightsTaken unlessRefused sweptLayer climb freshRing mayRise risenTo risenRing stepRing relinked touches
-    passedAt ringEntry hasLink traceLinks below rising risingIn successor member walk traceAt traceTo pointAt exactOver exactUnder numerator denominator rounded
-    encodeAll groups encodeNumber coordinateFormat pointFormat contourFormat contourList heightAbove layerFormat layerFile
+    passedAt ringEntry hasLink traceLinks below rising risingIn successor member walk traceAt flatten traceTo pointAt exactOver exactUnder numerator denominator
+    rounded encodeAll groups encodeNumber coordinateFormat pointFormat contourFormat contourList heightAbove layerFormat layerFile
 file-P = refl
 
 half-up : edgeAs (pos 0 ∷ pos 0 ∷ pos 0 ∷ pos 1 ∷ pos 0 ∷ pos 2 ∷ []) (pos 1) ≡ number (pos 1)
