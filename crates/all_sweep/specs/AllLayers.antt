@@ -12,8 +12,8 @@ use Rattle.mesh.specs.Operation.{Answer, gives, refuses, Finding, Condition, wh
 use Rattle.mesh.specs.Refusals.{Told, refusal, numbered, toldOf}
 use Rattle.mesh.specs.Tests.{size, orders}
 use Rattle.mesh_tables.specs.MeshTests.{contentTests}
-use Rattle.cut_points.specs.Points.{pointAt}
-use Rattle.file_formats.specs.LayerFile.{Point, Layer, layerFile}
+use Rattle.cut_points.specs.Points.{pointOf}
+use Rattle.file_formats.specs.LayerFile.{Layer, layerFile}
 use Rattle.cut.specs.Cut.{CutTables, lent, Lengths, lengthsOf, cutRoomFor, used, section, contoursOf}
 use Rattle.sweep.specs.Sweep.{Sweep, sweep, meshOf, freshRing}
 use Rattle.sweep.specs.Operations.{unlessRefused, risenPassed, risenTable, risenSection}
@@ -23,13 +23,9 @@ use Rattle.all_sweep.specs.declared.AllLayersAnswer.the-variants.{Length
 
 -- ---- the layers
 
--- the point of a crossing at height h
-abbrev pub crossingAt : Mesh → ℤ → ℕ → Point
-crossingAt m h c = record { x = pointAt m h 0 c; y = pointAt m h 1 c }
-
 -- the layer of height h with these contours, by their points
 abbrev pub drawn : Mesh → ℤ → List (List ℕ) → Layer
-drawn m h rs = record { height = h; contours = map (map (crossingAt m h)) rs }
+drawn m h rs = record { height = h; contours = map (map (pointOf m h)) rs }
 
 -- what Layer gives at h, and the sweep after it
 unfoldable pub sweptLayer : Sweep × ℤ → Layer

@@ -20,7 +20,7 @@ use Rattle.section.specs.Contours.{Traced, contours, member, namesOf}
 use Rattle.section.specs.Layers as layers
 use Rattle.section.specs.LayerLaws.{contours-few, trace-layer}
 use Rattle.section.specs.OrbitLaws.{member-join, at-member}
-use Rattle.cut_points.specs.Points.{pointAt, pointsOf}
+use Rattle.cut_points.specs.Points.{pointOf, pointsOf}
 use Rattle.cut_points.specs.Climbs.{Climbs}
 use Rattle.cut_points.specs.PointLaws.{point-in, length-points}
 use Rattle.cut.specs.Cut.{section, contoursOf}
@@ -37,7 +37,7 @@ use Rattle.all_active.specs.Lists.{activeAt}
 use Rattle.all_active.specs.Levels.{KeptFrom}
 use Rattle.all_active.specs.TotalLaws.{distinct-tally}
 use Rattle.all_contours.specs.Rounds.{Followed}
-use Rattle.all_sweep.specs.AllLayers.{crossingAt, drawn, cutLayer}
+use Rattle.all_sweep.specs.AllLayers.{drawn, cutLayer}
 use Rattle.all_sweep.specs.Works.{Spent, HoldsLayer}
 
 -- ---- tables of which only the first entries may be other
@@ -82,38 +82,33 @@ spent-kept {n} {t} {u} k =
 -- ---- contours told by names, and by points
 
 module _ (m : Mesh) (h : ℤ) where
-  same-points : (names : List ℕ) → pointsOf m h names ≡ numbersOf (map (crossingAt m h) names)
-  unfolding pointsOf numbersOf
-  same-points [] = refl
-  same-points (c ∷ names) = ap (λ (l : List ℤ). pointAt m h 0 c ∷ pointAt m h 1 c ∷ l) (same-points names)
-
   -- the contours by their points
   abbrev shapesOf : List (List ℕ) → List (List Point)
   shapesOf rs = drawn m h rs .contours
 
   pub drawn-points : (rs : List (List ℕ)) → pointsOf m h (namesOf rs) ≡ numbersOf (flatten (shapesOf rs))
-  drawn-points rs = same-points (flatten rs) ∙ ap numbersOf (sym (flatten-map (crossingAt m h) rs))
+  drawn-points rs = ap numbersOf (sym (flatten-map (pointOf m h) rs))
 
   pub drawn-ends : (rs : List (List ℕ)) → endsOf rs ≡ endsOf (shapesOf rs)
-  drawn-ends rs = sym (ends-map (crossingAt m h) 0 rs)
+  drawn-ends rs = sym (ends-map (pointOf m h) 0 rs)
 
   pub drawn-total : (rs : List (List ℕ)) → pointTotal (shapesOf rs) ≡ length (namesOf rs)
-  drawn-total rs = sym (length-flatten (shapesOf rs)) ∙ ap length (flatten-map (crossingAt m h) rs) ∙ length-map (namesOf rs) (crossingAt m h)
+  drawn-total rs = sym (length-flatten (shapesOf rs)) ∙ ap length (flatten-map (pointOf m h) rs) ∙ length-map (namesOf rs) (pointOf m h)
 
   -- ---- the rules of the layer file
 
-  names-rule : (names : List ℕ) → ((x : ℕ) → member x names ≡ true → PointRules (crossingAt m h x)) → Each PointRules (map (crossingAt m h) names)
+  names-rule : (names : List ℕ) → ((x : ℕ) → member x names ≡ true → PointRules (pointOf m h x)) → Each PointRules (map (pointOf m h) names)
   unfolding member
   names-rule [] all = tt
   names-rule (c ∷ names) all = (all c (or-left _ _ (eq-eqb c c refl)), names-rule names (λ x e. all x (or-right (eqb x c) (member x names) e)))
 
   contours-rule : (rs : List (List ℕ)) → ((i : ℕ) → i < length rs → 2 ≤ length (layers.contourAt rs i))
-      → ((x : ℕ) → member x (namesOf rs) ≡ true → PointRules (crossingAt m h x)) → Each ContourRules (shapesOf rs)
+      → ((x : ℕ) → member x (namesOf rs) ≡ true → PointRules (pointOf m h x)) → Each ContourRules (shapesOf rs)
   unfolding flatten
   contours-rule [] two all = tt
   contours-rule (r ∷ rs) two all = (
     (
-      omega (arith, two 0 (omega arith), length-map r (crossingAt m h)),
+      omega (arith, two 0 (omega arith), length-map r (pointOf m h)),
       names-rule r (λ x e. all x (member-join x r (namesOf rs) ∙ or-left (member x r) (member x (namesOf rs)) e)),
     ),
     contours-rule rs (λ i l. two (suc i) (omega arith)) (λ x e. all x (member-join x r (namesOf rs) ∙ or-right (member x r) (member x (namesOf rs)) e)),
@@ -184,7 +179,7 @@ module _ (m : PairedMesh) (right : Right m) (h : ℤ) where
 
     written-holds : {j : ℕ} → j ≡ length rings → HoldsLayer m h points′ ends′ j
     written-holds {j} e =
-        let n : j ≡ length shapes = e ∙ sym (length-map rings (map (crossingAt (m .mesh) h))) in
+        let n : j ≡ length shapes = e ∙ sym (length-map rings (map (pointOf (m .mesh) h))) in
         record {
           is = (λ i. layerOf h (written-points i) (written-ends i) (n i)) ∙ layer-held shapes points ends h ∙ sym layer-is;
           tables = subst (λ (A : Type 0). A) (λ i. LayerTables (sym written-points i) (sym written-ends i) (sym n i)) (tables-held shapes points ends);

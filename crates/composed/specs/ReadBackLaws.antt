@@ -13,6 +13,7 @@ use Rattle.mesh.specs.OperationLaws.{then-fine, given-verdict, left-given}
 use Rattle.polygons.specs.Flat.{FlatLayer, numbersOf, endsOf, pointTotal}
 use Rattle.polygons.specs.FlatLaws.{length-points, length-ends}
 use Rattle.cut.specs.declared.CutAnswer.{CutAnswer}
+use Rattle.cut_points.specs.Points.{pointOf}
 use Rattle.cut.specs.Cut.{CutTables, section, contoursOf, tellCut, Cuts}
 use Rattle.read_layer.specs.declared.ReadLayerAnswer.{ReadLayerAnswer}
 use Rattle.read_layer.specs.Reading.{layerAt, entriesOf, readingTests, layerCounts, fillsLayer, tellReadLayer, ReadsLayer}
@@ -23,7 +24,7 @@ use Rattle.file_formats.specs.LayerFile.{layersOf}
 use Rattle.file_formats.specs.WholeFileLaws.{held-or-is}
 use Rattle.all_heights.specs.Heights.{heightsTaken}
 use Rattle.all_heights.specs.HeightLaws.{ranged-words}
-use Rattle.all_sweep.specs.AllLayers.{crossingAt, drawn, cutLayer}
+use Rattle.all_sweep.specs.AllLayers.{drawn, cutLayer}
 use Rattle.all_sweep.specs.CutLayerLaws.{drawn-points, drawn-ends, drawn-total}
 use Rattle.all_sweep.specs.LayersLaws.{all-layers-tested, all-layers-cut, all-layers-reads-back}
 use Rattle.demand_three.specs.FileLaws.{file-claim}
@@ -56,7 +57,7 @@ layer-left {m} {h} {t} {t′} {cut} {j} {k} c e =
     let cs = drawn (m .mesh) h rs .contours in
     let counts = given-verdict c e .1 in
     let left = left-given c e in
-    let count : length cs ≡ j = length-map rs (map (crossingAt (m .mesh) h)) ∙ sym (λ i. counts i .0) in
+    let count : length cs ≡ j = length-map rs (map (pointOf (m .mesh) h)) ∙ sym (λ i. counts i .0) in
     let total : pointTotal cs ≡ k = drawn-total (m .mesh) h rs ∙ sym (λ i. counts i .1) in
     let points : t′ .points ≡ overwrite (numbersOf (flatten cs)) (t .points) =
     ap (λ (u : CutTables). u .points) left ∙ ap (λ (l : List ℤ). overwrite l (t .points)) (drawn-points (m .mesh) h rs) in

@@ -1,15 +1,15 @@
 -- Area of a contour's numbers is the contour's area, point by point; so it is of contour j of a layer's tables.
-use Prim.Native.Nat.{ℕ, zero, suc, _+_, _*_, _%_, _<_}
-use mathlib.Core.Path.{_≡_, refl, sym, ap, _∙_}
+use Prim.Native.Nat.{ℕ, zero, suc, _+_, _*_, _<_}
+use mathlib.Core.Path.{_≡_, sym, ap, _∙_}
 use mathlib.Core.Bool.{true}
 use mathlib.Core.List.{List, [], _∷_}
 use native.Mathlib.Omega.{arith}
 use native.Mathlib.Numerals.{add-one}
 use lib.ListN.{length, getD}
-use lib.IntN.{ℤ, pos, _+ℤ_, _-ℤ_, _*ℤ_, +ℤ-idl, +ℤ-idr, +ℤ-assoc}
+use lib.IntN.{ℤ, _+ℤ_, _-ℤ_, _*ℤ_, +ℤ-idl, +ℤ-idr, +ℤ-assoc}
 use Rattle.polygons.specs.Flat.{Point, FlatLayer, numbersOf, polygonsOf, isLayer}
-use Rattle.polygons.specs.FlatLaws.{length-numbers}
-use Rattle.contours.specs.Areas.{pointCount, xOf, yOf, crossOf, sumOf, areaOf}
+use Rattle.polygons.specs.FlatLaws.{noPoint, length-numbers, number-x, number-y}
+use Rattle.contours.specs.Areas.{pointCount, crossOf, sumOf, areaOf}
 use Rattle.contours.specs.AreaLaws.{sum-same, area-none, area-closed}
 use Rattle.contours.specs.Contours.{contourOf}
 use Rattle.contours.specs.PolygonLaws.{contour-polygon}
@@ -24,30 +24,10 @@ sum-front (suc n) f =
 
 -- ---- point i of a list and of its numbers
 
--- past the last point, where the numbers have 0 too
-abbrev noPoint : Point
-noPoint = record { x = pos 0; y = pos 0 }
+abbrev nthPoint : List Point → ℕ → Point
+nthPoint c i = getD c i noPoint
 
-abbrev pointOf : List Point → ℕ → Point
-pointOf c i = getD c i noPoint
-
-number-x : (c : List Point) (i : ℕ) → xOf (numbersOf c) i ≡ pointOf c i .x
-unfolding numbersOf
-number-x [] i = refl
-number-x (p ∷ c) zero = refl
-number-x (p ∷ c) (suc i) =
-    let e : 2 * suc i ≡ suc (suc (2 * i)) = omega arith in
-    ap (λ (k : ℕ). getD (numbersOf (p ∷ c)) k (pos 0)) e ∙ number-x c i
-
-number-y : (c : List Point) (i : ℕ) → yOf (numbersOf c) i ≡ pointOf c i .y
-unfolding numbersOf
-number-y [] i = refl
-number-y (p ∷ c) zero = refl
-number-y (p ∷ c) (suc i) =
-    let e : 2 * suc i + 1 ≡ suc (suc (2 * i + 1)) = omega arith in
-    ap (λ (k : ℕ). getD (numbersOf (p ∷ c)) k (pos 0)) e ∙ number-y c i
-
-cross-numbers : (c : List Point) (i k : ℕ) → crossOf (numbersOf c) i k ≡ crossPoints (pointOf c i) (pointOf c k)
+cross-numbers : (c : List Point) (i k : ℕ) → crossOf (numbersOf c) i k ≡ crossPoints (nthPoint c i) (nthPoint c k)
 unfolding crossOf crossPoints
 cross-numbers c i k = λ t. number-x c i t *ℤ number-y c k t -ℤ number-x c k t *ℤ number-y c i t
 
@@ -55,22 +35,22 @@ cross-numbers c i k = λ t. number-x c i t *ℤ number-y c k t -ℤ number-x c k
 
 -- point i and the next, along a contour from its first point p
 crossAt : Point → List Point → ℕ → ℤ
-crossAt p c i = crossPoints (pointOf (p ∷ c) i) (pointOf c i)
+crossAt p c i = crossPoints (nthPoint (p ∷ c) i) (nthPoint c i)
 
 sum-area : (first p : Point) (c : List Point)
-    → sumOf (length c) (crossAt p c) +ℤ crossPoints (pointOf (p ∷ c) (length c)) first ≡ areaFrom first p c
+    → sumOf (length c) (crossAt p c) +ℤ crossPoints (nthPoint (p ∷ c) (length c)) first ≡ areaFrom first p c
 unfolding sumOf areaFrom crossAt
 sum-area first p [] = +ℤ-idl (crossPoints p first)
 sum-area first p (q ∷ c) =
-    ap (λ (z : ℤ). z +ℤ crossPoints (pointOf (q ∷ c) (length c)) first) (sum-front (length c) (crossAt p (q ∷ c)))
-    ∙ +ℤ-assoc (crossPoints p q) (sumOf (length c) (crossAt q c)) (crossPoints (pointOf (q ∷ c) (length c)) first)
+    ap (λ (z : ℤ). z +ℤ crossPoints (nthPoint (q ∷ c) (length c)) first) (sum-front (length c) (crossAt p (q ∷ c)))
+    ∙ +ℤ-assoc (crossPoints p q) (sumOf (length c) (crossAt q c)) (crossPoints (nthPoint (q ∷ c) (length c)) first)
     ∙ ap (λ (z : ℤ). crossPoints p q +ℤ z) (sum-area first q c)
 
 cross-next : (p : Point) (c : List Point) (i : ℕ) → crossOf (numbersOf (p ∷ c)) i (i + 1) ≡ crossAt p c i
 unfolding crossAt
 cross-next p c i =
     cross-numbers (p ∷ c) i (i + 1)
-    ∙ ap (λ (k : ℕ). crossPoints (pointOf (p ∷ c) i) (pointOf (p ∷ c) k)) (add-one i)
+    ∙ ap (λ (k : ℕ). crossPoints (nthPoint (p ∷ c) i) (nthPoint (p ∷ c) k)) (add-one i)
 
 -- ---- Area of a contour's numbers is the contour's area
 

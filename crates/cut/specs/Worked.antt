@@ -11,7 +11,7 @@ use Rattle.mesh.specs.Operation.{gives, test, _then_, verdict, answerOf}
 use Rattle.mesh.specs.Tests.{sizesFit, outOfRange, namesNone, namesTwice, reverse, pairedAt}
 use Rattle.section.specs.Section.{VertexSet, below, rising, risingIn, successor}
 use Rattle.section.specs.Contours.{member, walk, contours, traceAt, traceTo, trace, endsFrom, endsOf}
-use Rattle.cut_points.specs.Points.{numerator, denominator, rounded, exactOver, exactUnder, pointAt, pointsOf}
+use Rattle.cut_points.specs.Points.{numerator, denominator, rounded, exactOver, exactUnder, pointAt, numbersOf, pointsOf}
 use Rattle.cut.specs.Cut.{CutTables, lent, cutRoomFor, metAt, section, cutting}
 
 -- part P, and its pairing
@@ -55,7 +55,7 @@ unfolding below trace traceTo traceAt flatten walk member rising risingIn succes
 at-5 = refl
 
 points-5 : pointsOf (p .mesh) (pos 5) (4 ∷ 10 ∷ 6 ∷ []) ≡ pos 5 ∷ pos 0 ∷ pos 0 ∷ pos 5 ∷ pos 0 ∷ pos 0 ∷ []
-unfolding pointsOf pointAt exactOver exactUnder numerator denominator rounded
+unfolding numbersOf pointAt exactOver exactUnder numerator denominator rounded
 points-5 = refl
 
 ends-5 : endsOf {A = ℕ} ((4 ∷ 10 ∷ 6 ∷ []) ∷ []) ≡ 3 ∷ []
@@ -68,7 +68,7 @@ unfolding below trace traceTo traceAt flatten walk member rising risingIn succes
 at-10 = refl
 
 points-10 : pointsOf (p .mesh) (pos 10) (4 ∷ 10 ∷ 6 ∷ []) ≡ pos 0 ∷ pos 0 ∷ pos 0 ∷ pos 0 ∷ pos 0 ∷ pos 0 ∷ []
-unfolding pointsOf pointAt exactOver exactUnder numerator denominator rounded
+unfolding numbersOf pointAt exactOver exactUnder numerator denominator rounded
 points-10 = refl
 
 -- heights 0 and 11: no contour (WORKED-9)

@@ -13,7 +13,7 @@ use mir.Val.{toZ, ofZ}
 use Rattle.laws.specs.Tables.{overwrite}
 use Rattle.laws.specs.TableLaws.{overwrite-none, overwrite-snoc}
 use Rattle.mesh.specs.Meshes.{Mesh}
-use Rattle.cut_points.specs.Points.{pointAt, pointsOf}
+use Rattle.cut_points.specs.Points.{pointAt, numbersOf, pointsOf}
 use Rattle.cut_points.specs.PointLaws.{points-append, length-points}
 use Rattle.cut_points.proofs.Reading.{result-is}
 
@@ -25,7 +25,7 @@ pub record PointsPut (m : Mesh) (h : ℤ) (names : List ℕ) (table₀ : List �
 
 module _ {m : Mesh} {h : ℤ} {names : List ℕ} {table₀ : List ℤ} {k : ℕ} where
   pub written-none : PointsPut m h names table₀ k table₀ 0
-  unfolding pointsOf
+  unfolding numbersOf
   written-none = record { upto = omega arith; long = refl; holds = sym (overwrite-none table₀) }
 
   module _ {table : List ℤ} {i : ℕ} (w : PointsPut m h names table₀ k table i) where
@@ -33,7 +33,7 @@ module _ {m : Mesh} {h : ℤ} {names : List ℕ} {table₀ : List ℤ} {k : ℕ}
     pub written-more : (c : ℕ) (x y : ℤ) → c ≡ getD names i 0 → mag x < 2 ^ 31 → mag y < 2 ^ 31 → x ≡ pointAt m h 0 c → y ≡ pointAt m h 1 c
         → i < k → k ≤ length names → 2 * k ≤ length table₀
         → PointsPut m h names table₀ k (set (set table (2 * i) (toZ w32 (ofZ w32 x))) (2 * i + 1) (toZ w32 (ofZ w32 y))) (i + 1)
-    unfolding pointsOf
+    unfolding numbersOf
     written-more c x y ec fx fy ex ey l q r =
         let p = pointsOf m h (take i names) in
         let x′ = toZ w32 (ofZ w32 x) in

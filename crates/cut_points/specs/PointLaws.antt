@@ -1,13 +1,13 @@
 -- Laws of points: a point is within half a unit of the exact crossing
 -- (RESULT-3) and in coordinate range; the points of a list of names.
 use Prim.Native.Nat.{ℕ, zero, suc, _+_, _*_, _/_, _%_, _<_, _≤_}
-use mathlib.Core.Path.{_≡_, refl, sym, ap, _∙_, subst}
-use mathlib.Core.List.{List, [], _∷_, _++_}
+use mathlib.Core.Path.{_≡_, sym, ap, _∙_, subst}
+use mathlib.Core.List.{List, [], _∷_, _++_, map, map-append}
 use mathlib.Core.Bool.{Bool, true, false, not}
-use native.Mathlib.Nat.{mul-le-mul-right, lt-of-mul-lt-mul-right, not-suc-le-zero, le-of-suc-le-suc}
+use native.Mathlib.Nat.{mul-le-mul-right, lt-of-mul-lt-mul-right}
 use native.Mathlib.Omega.{arith}
 use lib.Dec.{T}
-use lib.ListN.{length, getD}
+use lib.ListN.{length, getD, length-map}
 use lib.IntN.{ℤ, pos, negsuc, natAbs, _+ℤ_, _-ℤ_, _*ℤ_}
 use lib.Signed.{_≤ℤ_, _<ℤ_, ltZ, ltZ-yes, ltZ-no}
 use Rattle.laws.specs.Integers.{one-zero, abs-is, abs-add, abs-sub, abs-mul, sum, diff, prod, le-in, lt-in, le-out, lt-out}
@@ -17,7 +17,9 @@ use Rattle.mesh.specs.Corners.{largest, vertexCount, nextCorner, startOf, endOf
 use Rattle.mesh.specs.Meshes.{Mesh}
 use Rattle.mesh.specs.Tests.{WholeTriangles}
 use Rattle.mesh.specs.TestLaws.{next-below}
-use Rattle.cut_points.specs.Points.{numerator, denominator, rounded, exactOver, exactUnder, pointAt, pointsOf}
+use Rattle.polygons.specs.Flat.{Point}
+use Rattle.polygons.specs.FlatLaws.{noPoint, length-numbers, numbers-append, number-x, number-y, map-at}
+use Rattle.cut_points.specs.Points.{numerator, denominator, rounded, exactOver, exactUnder, pointAt, pointOf, numbersOf, pointsOf}
 use Rattle.cut_points.specs.Climbs.{Fraction, CrossedEdge, Climbs}
 
 -- ---- rounding
@@ -167,34 +169,23 @@ module _ (m : Mesh) (h : ℤ) where
   -- ---- the points of a list of names
 
   pub points-append : (cs ds : List ℕ) → pointsOf m h (cs ++ ds) ≡ pointsOf m h cs ++ pointsOf m h ds
-  unfolding pointsOf
-  points-append [] ds = refl
-  points-append (c ∷ cs) ds = ap (λ (l : List ℤ). pointAt m h 0 c ∷ pointAt m h 1 c ∷ l) (points-append cs ds)
+  points-append cs ds = ap numbersOf (map-append (pointOf m h) cs ds) ∙ numbers-append (map (pointOf m h) cs) (map (pointOf m h) ds)
 
   pub length-points : (names : List ℕ) → length (pointsOf m h names) ≡ 2 * length names
-  unfolding pointsOf
-  length-points [] = refl
-  length-points (c ∷ names) = omega (arith, length-points names)
+  length-points names = length-numbers (map (pointOf m h) names) ∙ ap (λ (n : ℕ). 2 * n) (length-map names (pointOf m h))
 
-  -- entry 2 i + axis is that coordinate of name i
-  pub points-at : (names : List ℕ) (i axis : ℕ) → i < length names → axis ≤ 1
-      → getD (pointsOf m h names) (2 * i + axis) (pos 0) ≡ pointAt m h axis (getD names i 0)
-  unfolding pointsOf
-  points-at [] i axis l k = absurd (not-suc-le-zero l)
-  points-at (c ∷ names) zero zero l k = refl
-  points-at (c ∷ names) zero (suc zero) l k = refl
-  points-at (c ∷ names) zero (suc (suc axis)) l k = absurd (omega arith)
-  points-at (c ∷ names) (suc i) axis l k =
-      let e : 2 * suc i + axis ≡ suc (suc (2 * i + axis)) = omega arith in
-      ap (λ (j : ℕ). getD (pointsOf m h (c ∷ names)) j (pos 0)) e ∙ points-at names i axis (le-of-suc-le-suc l) k
+  -- entries 2 i and 2 i + 1 are those of name i
+  module _ (names : List ℕ) (i : ℕ) (l : i < length names) where
+    pub points-x : getD (pointsOf m h names) (2 * i) (pos 0) ≡ pointAt m h 0 (getD names i 0)
+    points-x = number-x (map (pointOf m h) names) i ∙ ap (λ (p : Point). p .x) (map-at (pointOf m h) names i 0 noPoint l)
 
-  pub points-x : (names : List ℕ) (i : ℕ) → i < length names → getD (pointsOf m h names) (2 * i) (pos 0) ≡ pointAt m h 0 (getD names i 0)
-  points-x names i l =
-      let e : 2 * i ≡ 2 * i + 0 = omega arith in
-      ap (λ (j : ℕ). getD (pointsOf m h names) j (pos 0)) e ∙ points-at names i 0 l (omega arith)
+    pub points-y : getD (pointsOf m h names) (2 * i + 1) (pos 0) ≡ pointAt m h 1 (getD names i 0)
+    points-y = number-y (map (pointOf m h) names) i ∙ ap (λ (p : Point). p .y) (map-at (pointOf m h) names i 0 noPoint l)
 
-  pub points-y : (names : List ℕ) (i : ℕ) → i < length names → getD (pointsOf m h names) (2 * i + 1) (pos 0) ≡ pointAt m h 1 (getD names i 0)
-  points-y names i l = points-at names i 1 l (omega arith)
+    points-at : (axis : ℕ) → axis ≤ 1 → getD (pointsOf m h names) (2 * i + axis) (pos 0) ≡ pointAt m h axis (getD names i 0)
+    points-at zero k = let e : 2 * i + 0 ≡ 2 * i = omega arith in ap (λ (j : ℕ). getD (pointsOf m h names) j (pos 0)) e ∙ points-x
+    points-at (suc zero) k = points-y
+    points-at (suc (suc axis)) k = absurd (omega arith)
 
   -- all in coordinate range
   pub points-in : (names : List ℕ) → ((i : ℕ) → i < length names → Climbs m h (getD names i 0)) → (j : ℕ) → j < length (pointsOf m h names)
@@ -204,4 +195,4 @@ module _ (m : Mesh) (h : ℤ) where
       let i : j / 2 < length names = omega (arith, length-points names) in
       let k : j % 2 ≤ 1 = omega arith in
       subst (λ (n : ℕ). natAbs (getD (pointsOf m h names) n (pos 0)) ≤ largest) e
-      (rw (points-at names (j / 2) (j % 2) i k) (point-in (getD names (j / 2) 0) (t (j / 2) i) (j % 2) k))
+      (rw (points-at names (j / 2) i (j % 2) k) (point-in (getD names (j / 2) 0) (t (j / 2) i) (j % 2) k))

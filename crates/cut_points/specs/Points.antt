@@ -1,10 +1,12 @@
 -- Points (POINT-1 to POINT-3): where an edge meets the height h, exactly and as a point.
 use Prim.Native.Nat.{ℕ}
-use mathlib.Core.List.{List, [], _∷_}
+use mathlib.Core.List.{List, map}
 use lib.IntN.{ℤ, pos, natAbs, _+ℤ_, _-ℤ_, _*ℤ_}
 use lib.Signed.{shrZ}
 use Rattle.mesh.specs.Corners.{startOf, endOf, coordOf, zOf}
 use Rattle.mesh.specs.Meshes.{Mesh}
+use Rattle.polygons.specs.Flat.{Point}
+unfoldable pub use Rattle.polygons.specs.Flat.{numbersOf}
 
 -- on an edge from u0 at height z0 up to u1 at height z1 the exact x (or y) at height h is numerator / denominator,
 -- which is u0 + (u1 − u0) (h − z0) / (z1 − z0) (POINT-1)
@@ -38,7 +40,10 @@ exactUnder m c = denominator (zOf (m .coords) (startOf (m .corners) c)) (zOf (m 
 unfoldable pub pointAt : Mesh → ℤ → ℕ → ℕ → ℤ
 pointAt m h axis c = rounded (exactOver m h axis c) (exactUnder m c)
 
+-- the point of corner c: x by axis 0, y by axis 1
+abbrev pub pointOf : Mesh → ℤ → ℕ → Point
+pointOf m h c = record { x = pointAt m h 0 c; y = pointAt m h 1 c }
+
 -- x and y of the point of each name, in turn (CUT-3), equal ones kept (POINT-3)
-unfoldable pub pointsOf : Mesh → ℤ → List ℕ → List ℤ
-pointsOf m h [] = []
-pointsOf m h (c ∷ cs) = pointAt m h 0 c ∷ pointAt m h 1 c ∷ pointsOf m h cs
+abbrev pub pointsOf : Mesh → ℤ → List ℕ → List ℤ
+pointsOf m h cs = numbersOf (map (pointOf m h) cs)

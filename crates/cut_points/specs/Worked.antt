@@ -4,7 +4,7 @@ use mathlib.Core.List.{List, [], _∷_}
 use Prim.Native.Nat.{ℕ}
 use lib.IntN.{ℤ, pos, negsuc, negℤ, _-ℤ_, _*ℤ_}
 use Rattle.mesh.specs.Meshes.{mesh}
-use Rattle.cut_points.specs.Points.{numerator, denominator, rounded, exactOver, exactUnder, pointAt, pointsOf}
+use Rattle.cut_points.specs.Points.{numerator, denominator, rounded, exactOver, exactUnder, pointAt, numbersOf, pointsOf}
 use Rattle.cut_points.specs.Normals.{normalX, normalY}
 
 -- edge (0,0,0) to (1,0,2) at 1: x is 1 (WORKED-11)
@@ -26,7 +26,7 @@ corners = 0 ∷ 2 ∷ 1 ∷ 0 ∷ 1 ∷ 3 ∷ 0 ∷ 3 ∷ 2 ∷ 1 ∷ 2 ∷ 3 �
 
 -- height 5: names 4, 10, 6; points (5,0), (0,5), (0,0) (WORKED-7)
 middle : pointsOf (mesh coords corners) (pos 5) (4 ∷ 10 ∷ 6 ∷ []) ≡ pos 5 ∷ pos 0 ∷ pos 0 ∷ pos 5 ∷ pos 0 ∷ pos 0 ∷ []
-unfolding pointsOf pointAt exactOver exactUnder rounded numerator denominator
+unfolding numbersOf pointAt exactOver exactUnder rounded numerator denominator
 middle = refl
 
 -- from name 4 to name 10, through triangle 3 with vertices 3, 1, 2, in turn: (10 − 5) (−ny, nx), multiplied out

@@ -21,6 +21,7 @@ use Rattle.section.specs.RightLaws.{right-of}
 use Rattle.file_formats.specs.LayerFile as files
 use Rattle.file_write.specs.Written.{layerOf}
 use Rattle.file_write.specs.WrittenLaws.{layer-held}
+use Rattle.cut_points.specs.Points.{pointOf}
 use Rattle.cut.specs.Cut.{CutTables, Lengths, lengthsOf, cutRoomFor, used, section, contoursOf, countsOf, cutting, tellCut, Cuts}
 use Rattle.cut.specs.OutlineLaws.{section-fine}
 use Rattle.cut.specs.declared.CutAnswer.{CutAnswer}
@@ -30,7 +31,7 @@ use Rattle.sweep.specs.Operations.{linkedTests, tellLayer, Rises}
 use Rattle.sweep.specs.RiseLaws.{rise-is-cut}
 use Rattle.all_heights.specs.Heights.{heightsTaken}
 use Rattle.all_sweep.specs.declared.AllLayersAnswer.{AllLayersAnswer}
-use Rattle.all_sweep.specs.AllLayers.{crossingAt, drawn, cutLayer, cutFile, sweptFile, climbed, WorkTables, workRoomFor, layersTests, usedAt, shortOutput}
+use Rattle.all_sweep.specs.AllLayers.{drawn, cutLayer, cutFile, sweptFile, climbed, WorkTables, workRoomFor, layersTests, usedAt, shortOutput}
 use Rattle.all_sweep.specs.AllLayers.{tellAllLayers, Files}
 use Rattle.all_sweep.specs.CutLayerLaws.{drawn-points, drawn-ends}
 use Rattle.all_sweep.specs.LayersLaws.{all-layers-tested, all-layers-length, all-layers-output}
@@ -53,7 +54,7 @@ cut-leaves {m} {h} {t} {t′} {answer} {j} {k} c e =
     ap (λ (u : CutTables). u .points) left ∙ ap (λ (l : List ℤ). overwrite l (t .points)) (drawn-points (m .mesh) h rs) in
     let ends : t′ .ends ≡ overwrite (endsOf cs) (t .ends) =
     ap (λ (u : CutTables). u .ends) left ∙ ap (λ (l : List ℕ). overwrite l (t .ends)) (drawn-ends (m .mesh) h rs) in
-    let count : j ≡ length cs = (λ i. given-verdict c e .1 i .0) ∙ sym (length-map rs (map (crossingAt (m .mesh) h))) in
+    let count : j ≡ length cs = (λ i. given-verdict c e .1 i .0) ∙ sym (length-map rs (map (pointOf (m .mesh) h))) in
     (λ i. layerOf h (points i) (ends i) (count i)) ∙ layer-held cs (t .points) (t .ends) h
 
 -- and in those of Layer

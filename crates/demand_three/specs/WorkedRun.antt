@@ -20,7 +20,7 @@ use Rattle.section.specs.Section.{below, rising, risingIn, successor, noCorner,
 use Rattle.section.specs.Rings.{Ring}
 use Rattle.section.specs.Contours.{member, walk, traceAt, traceTo, endsFrom}
 use Rattle.section.specs.Links.{hasLink, traceLinks}
-use Rattle.cut_points.specs.Points.{numerator, denominator, rounded, exactOver, exactUnder, pointAt, pointsOf}
+use Rattle.cut_points.specs.Points.{numerator, denominator, rounded, exactOver, exactUnder, pointAt, numbersOf}
 use Rattle.cut.specs.Cut.{CutTables, lent, cutRoomFor, metAt}
 use Rattle.sweep.specs.declared.StartAnswer.the-variants.{Fresh}
 use Rattle.sweep.specs.declared.StepAnswer.the-variants.{Stepped, Top, Refused as StepRefused}
@@ -95,7 +95,7 @@ layer5 = lent (4 ∷ 10 ∷ 6 ∷ replicate 9 7) (pos 5 ∷ pos 0 ∷ pos 0 ∷ 
 risen : Rises (sweep p ring1 1) (pos 5) tables (Layer (at 3) 1 3) ring3 layer5
 unfolding verdict _then_ test some least sizesFit cutRoomFor outOfRange namesNone namesTwice reverse pairedAt orderedAt orderOf orderUpTo place before linkedAt
     passedHigh metAt unlessRefused after mayRise risenTo risenRing stepRing relinked touches passedAt member ringEntry rising risingIn successor below
-    tabulate overwrite traceLinks traceTo traceAt flatten walk hasLink endsFrom pointsOf pointAt exactOver exactUnder numerator denominator rounded
+    tabulate overwrite traceLinks traceTo traceAt flatten walk hasLink endsFrom numbersOf pointAt exactOver exactUnder numerator denominator rounded
 risen = record { answers = refl; leaves = refl }
 
 -- no rise goes down: at height 0 refusal 12, place 0

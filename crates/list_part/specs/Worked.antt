@@ -10,7 +10,7 @@ use Rattle.check_pairing.specs.Partners.{repeatsEdge, doubledAt, openAt, partne
 use Rattle.check_mesh.specs.Check.{checkRoomFor}
 use Rattle.section.specs.Section.{below, rising, risingIn, successor}
 use Rattle.section.specs.Contours.{member, walk, traceAt, traceTo, trace}
-use Rattle.cut_points.specs.Points.{numerator, denominator, rounded, exactOver, exactUnder, pointAt, pointsOf}
+use Rattle.cut_points.specs.Points.{numerator, denominator, rounded, exactOver, exactUnder, pointAt, numbersOf}
 use Rattle.contours.specs.Areas.{crossOf, nextPoint, sumOf, areaOf}
 use Rattle.file_formats.specs.Formats.{parseAll}
 use Rattle.file_formats.specs.Numbers.{parseNumber}
@@ -43,7 +43,7 @@ five-lines : listed ((0x04 ∷ 0x04 ∷ vertices) ++ (three ++ (last ++ (0x04 �
 unfolding vertices three last listed verdict _then_ test some least beyond
     brokenAt heldOr partOf partFile tablesFor countsFormat signedList plainRun signedRun parseNumber parseAll
     heightsTaken notAboveLast sizesFit checkRoomFor outOfRange namesNone namesTwice reverse repeatsEdge doubledAt openAt partnerOf pairingOf tabulate
-    below trace traceTo traceAt walk member rising risingIn successor pointsOf pointAt exactOver exactUnder numerator denominator rounded
+    below trace traceTo traceAt walk member rising risingIn successor numbersOf pointAt exactOver exactUnder numerator denominator rounded
     crossOf nextPoint sumOf areaOf layersLine layerLine areaSum lineOf lineAt listing flatten signedDecimal decimal digits
 five-lines = refl
 

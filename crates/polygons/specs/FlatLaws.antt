@@ -10,7 +10,7 @@ use borrow.Author.Tests.{leb-true, eqb-true, le-leb, eq-eqb, not-false}
 use lib.ListN.{length, getD, take, drop, length-append, length-map, length-drop, take-append-drop, drop-of-length-le}
 use lib.Seq.{take-at, drop-at, length-take-le, drop-drop}
 use lib.Dec.{leb}
-use lib.IntN.{ℤ}
+use lib.IntN.{ℤ, pos}
 use Rattle.laws.specs.Booleans.{and-parts, and-of}
 use Rattle.mesh.specs.Operation.{fine, test}
 use Rattle.mesh.specs.OperationLaws.{whole-fine, fine-nowhere}
@@ -65,8 +65,34 @@ length-flatten (c ∷ cs) = length-append c (flatten cs) ∙ ap (λ (n : ℕ). l
 pub length-points : (cs : List (List Point)) → length (flatOf cs .points) ≡ 2 * pointTotal cs
 length-points cs = length-numbers (flatten cs) ∙ ap (λ (n : ℕ). 2 * n) (length-flatten cs)
 
+-- past the last point, where the numbers have 0 too
+abbrev pub noPoint : Point
+noPoint = record { x = pos 0; y = pos 0 }
+
+-- numbers 2 i and 2 i + 1 are those of point i
+pub number-x : (c : List Point) (i : ℕ) → getD (numbersOf c) (2 * i) (pos 0) ≡ getD c i noPoint .x
+unfolding numbersOf
+number-x [] i = refl
+number-x (p ∷ c) zero = refl
+number-x (p ∷ c) (suc i) =
+    let e : 2 * suc i ≡ suc (suc (2 * i)) = omega arith in
+    ap (λ (k : ℕ). getD (numbersOf (p ∷ c)) k (pos 0)) e ∙ number-x c i
+
+pub number-y : (c : List Point) (i : ℕ) → getD (numbersOf c) (2 * i + 1) (pos 0) ≡ getD c i noPoint .y
+unfolding numbersOf
+number-y [] i = refl
+number-y (p ∷ c) zero = refl
+number-y (p ∷ c) (suc i) =
+    let e : 2 * suc i + 1 ≡ suc (suc (2 * i + 1)) = omega arith in
+    ap (λ (k : ℕ). getD (numbersOf (p ∷ c)) k (pos 0)) e ∙ number-y c i
+
 -- for contours that are told by names: the points of the names, and the same ends
 module _ {A B : Type 0} (f : A → B) where
+  pub map-at : (l : List A) (i : ℕ) (d : A) (e : B) → i < length l → getD (map f l) i e ≡ f (getD l i d)
+  map-at [] i d e h = absurd (omega arith)
+  map-at (a ∷ l) zero d e h = refl
+  map-at (a ∷ l) (suc i) d e h = map-at l i d e (omega arith)
+
   pub flatten-map : (cs : List (List A)) → flatten (map (map f) cs) ≡ map f (flatten cs)
   unfolding flatten
   flatten-map [] = refl

@@ -15,7 +15,7 @@ use Rattle.check_mesh.specs.Check as check
 use Rattle.section.specs.Section.{below, rising, risingIn, successor, ringEntry}
 use Rattle.section.specs.Contours.{member, walk, traceAt, traceTo, trace, endsFrom}
 use Rattle.section.specs.Links.{hasLink, traceLinks}
-use Rattle.cut_points.specs.Points.{numerator, denominator, rounded, exactOver, exactUnder, pointAt, pointsOf}
+use Rattle.cut_points.specs.Points.{numerator, denominator, rounded, exactOver, exactUnder, pointAt, numbersOf}
 use Rattle.cut.specs.Cut.{cutRoomFor, metAt}
 use Rattle.contours.specs.Areas as areas
 use Rattle.contours.specs.Areas.{crossOf, nextPoint, sumOf, runFits}
@@ -144,22 +144,22 @@ two-passed = refl
 
 at-5 : cutAs ready (pos 5) ≡ layered atFive
 unfolding cutAs verdict _then_ test some least after overwrite sizesFit cutRoomFor outOfRange namesNone namesTwice reverse pairedAt metAt
-    trace traceTo traceAt flatten walk member rising risingIn successor below endsFrom pointsOf pointAt exactOver exactUnder numerator denominator rounded
+    trace traceTo traceAt flatten walk member rising risingIn successor below endsFrom numbersOf pointAt exactOver exactUnder numerator denominator rounded
 at-5 = refl
 
 at-10 : cutAs ready (pos 10) ≡ layered atTen
 unfolding cutAs verdict _then_ test some least after overwrite sizesFit cutRoomFor outOfRange namesNone namesTwice reverse pairedAt metAt
-    trace traceTo traceAt flatten walk member rising risingIn successor below endsFrom pointsOf pointAt exactOver exactUnder numerator denominator rounded
+    trace traceTo traceAt flatten walk member rising risingIn successor below endsFrom numbersOf pointAt exactOver exactUnder numerator denominator rounded
 at-10 = refl
 
 at-0 : cutAs ready (pos 0) ≡ layered noContour
 unfolding cutAs verdict _then_ test some least after overwrite sizesFit cutRoomFor outOfRange namesNone namesTwice reverse pairedAt metAt
-    trace traceTo traceAt flatten walk member rising risingIn successor below endsFrom pointsOf
+    trace traceTo traceAt flatten walk member rising risingIn successor below endsFrom numbersOf
 at-0 = refl
 
 at-11 : cutAs ready (pos 11) ≡ layered noContour
 unfolding cutAs verdict _then_ test some least after overwrite sizesFit cutRoomFor outOfRange namesNone namesTwice reverse pairedAt metAt
-    trace traceTo traceAt flatten walk member rising risingIn successor below endsFrom pointsOf
+    trace traceTo traceAt flatten walk member rising risingIn successor below endsFrom numbersOf
 at-11 = refl
 
 area-5 : areaAs (pos 5 ∷ pos 0 ∷ pos 0 ∷ pos 5 ∷ pos 0 ∷ pos 0 ∷ []) ≡ number (pos 25)
