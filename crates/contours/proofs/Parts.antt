@@ -1,6 +1,6 @@
 -- Where a contour lies, at each return of `contour_part`: the code's previous end s and own end e against the definitions.
 use Prim.Native.Nat.{ℕ, _+_, _-_, _*_, _≤_, _<_}
-use mathlib.Core.Path.{_≡_, refl, sym}
+use mathlib.Core.Path.{_≡_, refl, sym, _∙_}
 use mathlib.Core.Bool.{Bool, true, false}
 use mathlib.Core.List.{List}
 use native.Mathlib.Omega.{arith}
@@ -8,7 +8,7 @@ use lib.ListN.{length, take, drop}
 use lib.IntN.{ℤ}
 use Rattle.laws.specs.Booleans.{clash}
 use Rattle.contours.specs.Contours.{priorEnd, ownEnd, isContour, spanOf, firstOf, contourOf}
-use Rattle.contours.specs.ContourLaws.{contour-parts, contour-of, span-there, span-none, first-there, first-none}
+use Rattle.contours.specs.ContourLaws.{contour-parts, contour-of, span-there, span-none, first-there, first-none, contour-lies}
 
 module _ (n : ℕ) (ends : List ℕ) (j : ℕ) where
   empty : spanOf n ends j ≡ 0 → (0 ≡ firstOf n ends j) × (0 ≡ spanOf n ends j)
@@ -37,7 +37,6 @@ module _ (n : ℕ) (ends : List ℕ) (j : ℕ) where
 -- the part that `contour` returns
 pub part-is : (points : List ℤ) (ends : List ℕ) (j : ℕ) {f s : ℕ} → f ≡ firstOf (length points) ends j → s ≡ spanOf (length points) ends j
     → take (f + s - f) (drop f points) ≡ contourOf points ends j
-unfolding contourOf
 part-is points ends j {f} {s} p q =
     let e : f + s - f ≡ spanOf (length points) ends j = omega arith in
-    λ i. take (e i) (drop (p i) points)
+    (λ i. take (e i) (drop (p i) points)) ∙ sym (contour-lies points ends j)

@@ -10,7 +10,7 @@ use lib.ListN.{length, getD, take, drop, length-take, length-drop}
 use lib.Seq.{getD-take, getD-drop}
 use lib.IntN.{ℤ}
 use Rattle.laws.specs.Booleans.{clash, and-parts, and-of, is-false}
-use Rattle.polygons.specs.Flat.{endBefore}
+use Rattle.polygons.specs.Flat.{pointsBetween, endBefore}
 use Rattle.contours.specs.Contours.{priorEnd, ownEnd, isContour, spanOf, firstOf, contourOf}
 
 pub prior-later : (ends : List ℕ) (j : ℕ) → 0 < j → getD ends (j - 1) 0 ≡ priorEnd ends j
@@ -83,38 +83,44 @@ module _ (n : ℕ) (ends : List ℕ) (j : ℕ) where
           omega (arith, c .rises, c .within, span-there c, first-there (omega arith))
 
 module _ (points : List ℤ) (ends : List ℕ) (j : ℕ) where
-  pub length-contour : length (contourOf points ends j) ≡ spanOf (length points) ends j
-  unfolding contourOf
-  length-contour = simp (length-take, length-drop) (omega (arith, span-fits (length points) ends j))
-
-  -- number i of contour j
-  pub contour-at : (i : ℕ) (d : ℤ) → i < spanOf (length points) ends j → getD (contourOf points ends j) i d ≡ getD points (2 * priorEnd ends j + i) d
-  unfolding contourOf
-  contour-at i d h =
-      getD-take (spanOf (length points) ends j) (drop (firstOf (length points) ends j) points) i d h
-      ∙ getD-drop (firstOf (length points) ends j) points i d
-      ∙ ap (λ (k : ℕ). getD points (k + i) d) (first-there (length points) ends j (omega arith))
-
   -- from the previous end to its own
-  pub contour-is : isContour (length points) ends j ≡ true
-      → contourOf points ends j ≡ take (2 * (ownEnd ends j - priorEnd ends j)) (drop (2 * priorEnd ends j) points)
+  pub contour-is : isContour (length points) ends j ≡ true → contourOf points ends j ≡ pointsBetween points (priorEnd ends j) (ownEnd ends j)
   unfolding contourOf
-  contour-is e = by (spanOf (length points) ends j) refl
-    where
-      s : spanOf (length points) ends j ≡ 2 * (ownEnd ends j - priorEnd ends j)
-      s = span-there (length points) ends j (contour-parts (length points) ends j e)
-
-      by : (k : ℕ) → spanOf (length points) ends j ≡ k
-          → take (spanOf (length points) ends j) (drop (firstOf (length points) ends j) points)
-          ≡ take (2 * (ownEnd ends j - priorEnd ends j)) (drop (2 * priorEnd ends j) points)
-      by zero q =
-          ap (λ (k : ℕ). take k (drop (firstOf (length points) ends j) points)) q
-          ∙ sym (ap (λ (k : ℕ). take k (drop (2 * priorEnd ends j) points)) (sym s ∙ q))
-      by (suc k) q = λ i. take (s i) (drop (first-there (length points) ends j (omega arith) i) points)
+  contour-is e = ap (λ (b : Bool). cond b (pointsBetween points (priorEnd ends j) (ownEnd ends j)) []) e
 
   -- or the empty part
   pub contour-none : isContour (length points) ends j ≡ false → contourOf points ends j ≡ []
   unfolding contourOf
-  contour-none e =
-      ap (λ (k : ℕ). take k (drop (firstOf (length points) ends j) points))
-      (span-none (length points) ends j (λ c. clash (contour-of (length points) ends j c) e))
+  contour-none e = ap (λ (b : Bool). cond b (pointsBetween points (priorEnd ends j) (ownEnd ends j)) []) e
+
+  -- it lies where `firstOf` and `spanOf` say
+  pub contour-lies : contourOf points ends j ≡ take (spanOf (length points) ends j) (drop (firstOf (length points) ends j) points)
+  contour-lies = by (isContour (length points) ends j) refl
+    where
+      -- no numbers, or those from the previous end on
+      here : HasContour (length points) ends j → (k : ℕ) → spanOf (length points) ends j ≡ k
+          → pointsBetween points (priorEnd ends j) (ownEnd ends j) ≡ take (spanOf (length points) ends j) (drop (firstOf (length points) ends j) points)
+      here c zero q =
+          ap (λ (k : ℕ). take k (drop (2 * priorEnd ends j) points)) (sym (span-there (length points) ends j c) ∙ q)
+          ∙ sym (ap (λ (k : ℕ). take k (drop (firstOf (length points) ends j) points)) q)
+      here c (suc k) q =
+          sym (λ i. take (span-there (length points) ends j c i) (drop (first-there (length points) ends j (omega arith) i) points))
+
+      by : (b : Bool) → isContour (length points) ends j ≡ b
+          → contourOf points ends j ≡ take (spanOf (length points) ends j) (drop (firstOf (length points) ends j) points)
+      by true e = contour-is e ∙ here (contour-parts (length points) ends j e) (spanOf (length points) ends j) refl
+      by false e =
+          contour-none e
+          ∙ sym (ap (λ (k : ℕ). take k (drop (firstOf (length points) ends j) points))
+          (span-none (length points) ends j (λ c. clash (contour-of (length points) ends j c) e)))
+
+  pub length-contour : length (contourOf points ends j) ≡ spanOf (length points) ends j
+  length-contour = ap length contour-lies ∙ simp (length-take, length-drop) (omega (arith, span-fits (length points) ends j))
+
+  -- number i of contour j
+  pub contour-at : (i : ℕ) (d : ℤ) → i < spanOf (length points) ends j → getD (contourOf points ends j) i d ≡ getD points (2 * priorEnd ends j + i) d
+  contour-at i d h =
+      ap (λ (l : List ℤ). getD l i d) contour-lies
+      ∙ getD-take (spanOf (length points) ends j) (drop (firstOf (length points) ends j) points) i d h
+      ∙ getD-drop (firstOf (length points) ends j) points i d
+      ∙ ap (λ (k : ℕ). getD points (k + i) d) (first-there (length points) ends j (omega arith))

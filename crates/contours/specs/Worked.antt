@@ -5,7 +5,7 @@ use mathlib.Core.List.{List, [], _∷_}
 use Prim.Native.Nat.{ℕ}
 use lib.IntN.{ℤ, pos, negsuc}
 use Rattle.laws.specs.Least.{least, some}
-use Rattle.mesh.specs.Operation.{Answer, gives, refuses, test, _then_, verdict, answerOf}
+use Rattle.mesh.specs.Operation.{gives, refuses, test, _then_, verdict, answerOf}
 use Rattle.mesh.specs.Refusals.{refusal}
 use Rattle.mesh.specs.Tests.{outOfRange}
 use Rattle.polygons.specs.Flat.{pointsIn, endBefore}
@@ -67,11 +67,11 @@ abbrev ends : List ℕ
 ends = 3 ∷ 5 ∷ []
 
 first-contour : contourOf points ends 0 ≡ pos 10 ∷ pos 11 ∷ pos 20 ∷ pos 21 ∷ pos 30 ∷ pos 31 ∷ []
-unfolding contourOf firstOf spanOf isContour endBefore
+unfolding contourOf isContour endBefore
 first-contour = refl
 
 second-contour : contourOf points ends 1 ≡ pos 40 ∷ pos 41 ∷ pos 50 ∷ pos 51 ∷ []
-unfolding contourOf firstOf spanOf isContour endBefore
+unfolding contourOf isContour endBefore
 second-contour = refl
 
 -- it starts at position 6
@@ -81,12 +81,12 @@ second-first = refl
 
 -- j has no end
 without-end : contourOf points ends 2 ≡ []
-unfolding contourOf firstOf spanOf isContour endBefore
+unfolding contourOf isContour endBefore
 without-end = refl
 
 -- the ends fall
 falling : contourOf points (3 ∷ 2 ∷ []) 1 ≡ []
-unfolding contourOf firstOf spanOf isContour endBefore
+unfolding contourOf isContour endBefore
 falling = refl
 
 -- the ends are one: an empty part, at position 0
@@ -96,15 +96,15 @@ level = refl
 
 -- its own end passes the table
 past : contourOf points (3 ∷ 6 ∷ []) 1 ≡ []
-unfolding contourOf firstOf spanOf isContour endBefore
+unfolding contourOf isContour endBefore
 past = refl
 
 -- the largest end there is
 far-past : contourOf points (4294967295 ∷ []) 0 ≡ []
-unfolding contourOf firstOf spanOf isContour endBefore
+unfolding contourOf isContour endBefore
 far-past = refl
 
 -- the last point of a table of odd length lacks its y
 half-point : contourOf (pos 10 ∷ pos 11 ∷ pos 20 ∷ []) (2 ∷ []) 0 ≡ []
-unfolding contourOf firstOf spanOf isContour endBefore
+unfolding contourOf isContour endBefore
 half-point = refl

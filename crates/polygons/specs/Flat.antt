@@ -70,11 +70,15 @@ pointsIn [] = []
 pointsIn (x ∷ []) = []
 pointsIn (x ∷ y ∷ row) = record { x = x; y = y } ∷ pointsIn row
 
--- the contours with these ends, after one that ended at `from`: each is
--- a part of the points, from the previous end to its own (CONTOUR-1)
+-- the part of the points from one end to another (CONTOUR-1)
+abbrev pub pointsBetween : List ℤ → ℕ → ℕ → List ℤ
+pointsBetween points from end = take (2 * (end - from)) (drop (2 * from) points)
+
+-- the contours with these ends, after one that ended at `from`:
+-- each is the part from the previous end to its own
 unfoldable pub contoursIn : List ℤ → ℕ → List ℕ → List (List Point)
 contoursIn points from [] = []
-contoursIn points from (end ∷ ends) = pointsIn (take (2 * (end - from)) (drop (2 * from) points)) ∷ contoursIn points end ends
+contoursIn points from (end ∷ ends) = pointsIn (pointsBetween points from end) ∷ contoursIn points end ends
 
 -- the end before number j of these ends, `from` for the first; asked only where number j is an end
 unfoldable pub endBefore : ℕ → List ℕ → ℕ → ℕ

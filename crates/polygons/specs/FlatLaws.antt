@@ -16,7 +16,7 @@ use Rattle.mesh.specs.Operation.{fine, test}
 use Rattle.mesh.specs.OperationLaws.{whole-fine, fine-nowhere}
 use Rattle.mesh.specs.Refusals.{refusal}
 use Rattle.polygons.specs.Flat.{Point, mostPoints, fewestPoints, pointTotal, Each, Polygons, FlatLayer, flat, numbersOf, endsFrom, endsOf, flatOf}
-use Rattle.polygons.specs.Flat.{pointsIn, contoursIn, polygonsOf, endBefore, runFits, endsRise, lastEnd, isLayer, notLayer}
+use Rattle.polygons.specs.Flat.{pointsIn, pointsBetween, contoursIn, polygonsOf, endBefore, runFits, endsRise, lastEnd, isLayer, notLayer}
 
 -- ---- how long the tables are, part by part
 
@@ -117,8 +117,7 @@ module _ (front c : List Point) (cs : List (List Point)) (rest : List ℤ) where
   split : numbersOf (c ++ flatten cs) ++ rest ≡ numbersOf c ++ (numbersOf (flatten cs) ++ rest)
   split = ap (λ (l : List ℤ). l ++ rest) (numbers-append c (flatten cs)) ∙ append-assoc (numbersOf c) (numbersOf (flatten cs)) rest
 
-  first-part : take (2 * (length front + length c - length front)) (drop (2 * length front) (numbersOf front ++ (numbersOf (c ++ flatten cs) ++ rest)))
-      ≡ numbersOf c
+  first-part : pointsBetween (numbersOf front ++ (numbersOf (c ++ flatten cs) ++ rest)) (length front) (length front + length c) ≡ numbersOf c
   first-part =
       let size : length front + length c - length front ≡ length c = omega arith in
       (λ i. take (2 * size i) (drop-at (numbersOf front) (numbersOf (c ++ flatten cs) ++ rest) (2 * length front) (length-numbers front) i))
@@ -192,16 +191,16 @@ module _ (points : List ℤ) where
       let n = 2 * (end - from) in
       let low : 2 * end ≤ length points = omega (arith, last-above end ends (p .1)) in
       let left : length (drop (2 * from) points) ≡ length points - 2 * from = length-drop (2 * from) points in
-      let size : length (take n (drop (2 * from) points)) ≡ 2 * (end - from) = length-take-le n (drop (2 * from) points) (omega arith) in
-      let row = row-points (end - from) (take n (drop (2 * from) points)) size in
+      let size : length (pointsBetween points from end) ≡ 2 * (end - from) = length-take-le n (drop (2 * from) points) (omega arith) in
+      let row = row-points (end - from) (pointsBetween points from end) size in
       let rest = back end ends (p .1) e in
       let at : 2 * from + n ≡ 2 * end = omega arith in
-      let own : from + length (pointsIn (take n (drop (2 * from) points))) ≡ end = omega (arith, row .1) in
+      let own : from + length (pointsIn (pointsBetween points from end)) ≡ end = omega (arith, row .1) in
       record {
         points-back =
-            flatten-first (pointsIn (take n (drop (2 * from) points))) (contoursIn points end ends)
+            flatten-first (pointsIn (pointsBetween points from end)) (contoursIn points end ends)
             ∙ (λ i. row .0 i ++ rest .points-back i)
-            ∙ ap (λ (l : List ℤ). take n (drop (2 * from) points) ++ l) (ap (λ (k : ℕ). drop k points) (sym at) ∙ sym (drop-drop n (2 * from) points))
+            ∙ ap (λ (l : List ℤ). pointsBetween points from end ++ l) (ap (λ (k : ℕ). drop k points) (sym at) ∙ sym (drop-drop n (2 * from) points))
             ∙ take-append-drop n (drop (2 * from) points);
         ends-back = (λ i. own i ∷ endsFrom (own i) (contoursIn points end ends)) ∙ ap (λ (l : List ℕ). end ∷ l) (rest .ends-back);
         total = omega (arith, row .1, rest .total);
@@ -278,13 +277,13 @@ before-later from end ends (suc j) = refl
 
 pub contour-in : (points : List ℤ) (from : ℕ) (ends : List ℕ) (j : ℕ) → j < length ends
     → getD (contoursIn points from ends) j []
-    ≡ pointsIn (take (2 * (getD ends j 0 - endBefore from ends j)) (drop (2 * endBefore from ends j) points))
+    ≡ pointsIn (pointsBetween points (endBefore from ends j) (getD ends j 0))
 unfolding contoursIn endBefore
 contour-in points from [] j h = absurd (omega arith)
 contour-in points from (end ∷ ends) zero h = refl
 contour-in points from (end ∷ ends) (suc j) h =
     contour-in points end ends j (omega arith)
-    ∙ ap (λ (b : ℕ). pointsIn (take (2 * (getD ends j 0 - b)) (drop (2 * b) points))) (before-later from end ends j)
+    ∙ ap (λ (b : ℕ). pointsIn (pointsBetween points b (getD ends j 0))) (before-later from end ends j)
 
 -- it has two points or more and ends with the last one or before
 pub end-rises : (from : ℕ) (ends : List ℕ) → endsRise from ends ≡ true → (j : ℕ) → j < length ends
