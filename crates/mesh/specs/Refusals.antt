@@ -25,44 +25,29 @@ numbered (n ∷ ns) r = eqb (r .number) n || numbered ns r
 
 -- ---- the enums: each case has the number of its rule, REFUSAL-1 to REFUSAL-16 (FORM-8)
 
+abbrev pub toldOf : Refusal → Told
+toldOf (Size place) = refusal 1 place
+toldOf (Range place) = refusal 2 place
+toldOf (Vertex place) = refusal 3 place
+toldOf (Triangle place) = refusal 4 place
+toldOf (Doubled place) = refusal 5 place
+toldOf (Open place) = refusal 6 place
+toldOf (Pairing place) = refusal 7 place
+toldOf (Order place) = refusal 8 place
+toldOf (Room place) = refusal 9 place
+toldOf (Passed place) = refusal 10 place
+toldOf (Ring place) = refusal 11 place
+toldOf (Height place) = refusal 12 place
+toldOf (File place) = refusal 13 place
+toldOf (Output place) = refusal 14 place
+toldOf (Layer place) = refusal 15 place
+toldOf (Used place) = refusal 16 place
+
 abbrev pub numberOf : Refusal → ℕ
-numberOf (Size p) = 1
-numberOf (Range p) = 2
-numberOf (Vertex p) = 3
-numberOf (Triangle p) = 4
-numberOf (Doubled p) = 5
-numberOf (Open p) = 6
-numberOf (Pairing p) = 7
-numberOf (Order p) = 8
-numberOf (Room p) = 9
-numberOf (Passed p) = 10
-numberOf (Ring p) = 11
-numberOf (Height p) = 12
-numberOf (File p) = 13
-numberOf (Output p) = 14
-numberOf (Layer p) = 15
-numberOf (Used p) = 16
+numberOf r = toldOf r .number
 
 abbrev pub placeOf : Refusal → ℕ
-placeOf (Size p) = p
-placeOf (Range p) = p
-placeOf (Vertex p) = p
-placeOf (Triangle p) = p
-placeOf (Doubled p) = p
-placeOf (Open p) = p
-placeOf (Pairing p) = p
-placeOf (Order p) = p
-placeOf (Room p) = p
-placeOf (Passed p) = p
-placeOf (Ring p) = p
-placeOf (Height p) = p
-placeOf (File p) = p
-placeOf (Output p) = p
-placeOf (Layer p) = p
-placeOf (Used p) = p
-
-abbrev pub toldOf : Refusal → Told
-toldOf r = refusal (numberOf r) (placeOf r)
+placeOf r = toldOf r .place
 
 -- what tests answer
 abbrev pub tellVerdict : Verdict → Answer Told Unit
