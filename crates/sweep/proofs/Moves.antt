@@ -4,17 +4,16 @@ use mathlib.Core.Path.{_≡_, refl, sym, ap, _∙_}
 use mathlib.Core.Bool.{Bool, true, false, not, cond, _&&_, _||_}
 use mathlib.Core.List.{List}
 use native.Mathlib.Omega.{arith}
-use native.Mathlib.Numerals.{add-one}
 use borrow.Author.Tests.{lt-ltb, le-ltb, eq-eqb, ne-eqb, not-true}
 use lib.Dec.{ltb, eqb}
 use lib.ListN.{length, getD, set}
 use lib.IntN.{ℤ, negsuc, natAbs}
-use lib.Signed.{ltZ, leZ, mag}
+use lib.Signed.{ltZ, mag}
 use mir.Syntax.{w32}
 use mir.Val.{SFits, toZ, ofZ}
 use mir.ValLaws.{toZ-ofZ}
 use Rattle.laws.specs.Booleans.{clash, is-false}
-use Rattle.laws.specs.Integers.{abs-is, lt-not-le}
+use Rattle.laws.specs.Integers.{abs-is}
 use Rattle.laws.specs.Least.{least}
 use Rattle.laws.specs.LeastLaws.{least-same, some-of, some-at}
 use Rattle.laws.specs.Machine.{same}
@@ -29,7 +28,7 @@ use Rattle.mesh.specs.Tests.{pairOf}
 use Rattle.mesh.specs.RankLaws.{lower-sum}
 use Rattle.section.specs.Section.{VertexSet, below, under, ringEntry}
 use Rattle.section.specs.Contours.{member}
-use Rattle.sweep.specs.Sweep.{Sweep, meshOf, sweepPairing, passedAt, touches, relinked, mayRise, risenTo}
+use Rattle.sweep.specs.Sweep.{Sweep, meshOf, sweepPairing, passedAt, touches, relinked}
 use Rattle.sweep.specs.Operations.{linkedAt, wrongRing, passedHigh, notAbove}
 use Rattle.sweep.specs.Places.{heightBehind, numberBehind, wrongFor, InOrder, Placed}
 use Rattle.sweep.specs.SweepLaws.{entry-same, passed-under, earlier-below}
@@ -202,62 +201,3 @@ module _ (coords : List ℤ) (order : List ℕ) (h : ℤ) where
 
     pub high-last : ltZ z h ≡ false → refuses (refusal 12 0) ≡ test (notAbove coords order n h)
     high-last e = whole-refused (refusal 12) (passedHigh coords order n h) (high-of n (n - 1) (omega arith) (last e))
-
--- ---- risen_to
-
-module _ (coords : List ℤ) (order : List ℕ) (h : ℤ) where
-  turn-on : (m p : ℕ) → mayRise coords order h p ≡ true → risenTo coords order h (suc m) p ≡ risenTo coords order h m (suc p)
-  unfolding risenTo
-  turn-on m p e = ap (λ (b : Bool). cond b (risenTo coords order h m (suc p)) p) e
-
-  turn-off : (m p : ℕ) → mayRise coords order h p ≡ false → risenTo coords order h m p ≡ p
-  unfolding risenTo
-  turn-off zero p e = refl
-  turn-off (suc m) p e = ap (λ (b : Bool). cond b (risenTo coords order h m (suc p)) p) e
-
-  -- the rise from n goes on from p
-  pub record RiseGoesOn (n p : ℕ) : Type 0 where
-    pub low : n ≤ p
-    pub few : p ≤ vertexCount coords
-    pub left : ℕ
-    pub enough : vertexCount coords ≤ p + left
-    pub rest : risenTo coords order h (vertexCount coords) n ≡ risenTo coords order h left p
-
-  pub rising-start : (n : ℕ) → n ≤ vertexCount coords → RiseGoesOn n n
-  rising-start n l = record { low = omega arith; few = l; left = vertexCount coords; enough = omega arith; rest = refl }
-
-  pub rising-stop : (n p : ℕ) → RiseGoesOn n p → mayRise coords order h p ≡ false → p ≡ risenTo coords order h (vertexCount coords) n
-  rising-stop n p r e = sym (r .rest ∙ turn-off (r .left) p e)
-
-  pub rising-more : (n p : ℕ) → RiseGoesOn n p → p < vertexCount coords → mayRise coords order h p ≡ true → RiseGoesOn n (p + 1)
-  rising-more n p r l e = by (r .left) (r .enough) (r .rest)
-    where
-      by : (m : ℕ) → vertexCount coords ≤ p + m → risenTo coords order h (vertexCount coords) n ≡ risenTo coords order h m p → RiseGoesOn n (p + 1)
-      by zero k q = absurd (omega arith)
-      by (suc m) k q =
-          record {
-            low = omega (arith, r .low);
-            few = omega arith;
-            left = m;
-            enough = omega arith;
-            rest = q ∙ turn-on m p e ∙ ap (risenTo coords order h m) (sym (add-one p));
-          }
-
-  -- the code's comparison
-  module _ (p w : ℕ) (fz : mag (zOf coords w) < 2 ^ 31) (ew : w ≡ getD order p 0) (l : p < vertexCount coords) where
-    compared : {b : Bool} → leZ h (held (zOf coords w)) ≡ b → below coords h (getD order p 0) ≡ not b
-    compared e =
-        below-is coords order h (getD order p 0)
-        (ap (λ (v : ℕ). ltZ (zOf coords v) h) (sym ew) ∙ lt-not-le (zOf coords w) h ∙ ap not (ap (leZ h) (sym (same w32 (zOf coords w) fz)) ∙ e))
-
-    pub may-not : leZ h (held (zOf coords w)) ≡ true → mayRise coords order h p ≡ false
-    unfolding mayRise
-    may-not e = let a = lt-ltb p (vertexCount coords) l in let b = compared e in simp (a, b)
-
-    pub may : leZ h (held (zOf coords w)) ≡ false → mayRise coords order h p ≡ true
-    unfolding mayRise
-    may e = let a = lt-ltb p (vertexCount coords) l in let b = compared e in simp (a, b)
-
-  pub may-end : (p : ℕ) → vertexCount coords ≤ p → mayRise coords order h p ≡ false
-  unfolding mayRise
-  may-end p l = let a = le-ltb p (vertexCount coords) l in simp a

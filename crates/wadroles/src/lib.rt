@@ -135,7 +135,7 @@ pub extern "C" fn wadroles_layer(
         (out .exit .now) ⌝ }
 {
     let s = State { passed: passed };
-    let a = sweep::layer(
+    let a = sweep_layer::layer(
         coords,
         corners,
         pairing,

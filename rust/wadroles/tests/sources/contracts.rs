@@ -9,7 +9,7 @@
 use crate::tree;
 
 /// The crates whose top module has the operations, and the public functions that are there at least.
-const OPERATIONS: [(&str, &[&str]); 9] = [
+const OPERATIONS: [(&str, &[&str]); 10] = [
     ("check_mesh", &["check"]),
     ("contours", &["area", "contour"]),
     ("cut", &["cut"]),
@@ -17,7 +17,8 @@ const OPERATIONS: [(&str, &[&str]); 9] = [
     ("list_part", &["list"]),
     ("read_part", &["read_part"]),
     ("read_layer", &["read_layer"]),
-    ("sweep", &["start", "step", "layer"]),
+    ("sweep", &["start", "step"]),
+    ("sweep_layer", &["layer"]),
     (
         "wadroles",
         &[

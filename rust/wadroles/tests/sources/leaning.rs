@@ -3,13 +3,14 @@
 use crate::tree;
 use std::collections::{BTreeMap, BTreeSet};
 
-const CUTTING: [&str; 10] = [
+const CUTTING: [&str; 11] = [
     "section",
     "cut_trace",
     "cut_points",
     "cut",
     "contours",
     "sweep",
+    "sweep_layer",
     "all_active",
     "all_contours",
     "all_sweep",

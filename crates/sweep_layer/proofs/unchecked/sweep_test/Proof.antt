@@ -3,20 +3,21 @@ use denote.Ref.{now}
 use mathlib.Core.Path.{ap, _∙_}
 use mathlib.Core.List.{List, [], _∷_}
 use lib.IntN.{ℤ}
+use mir.Syntax.{w32}
+use mir.ValLaws.{toZ-ofZ}
 use Rattle.mesh.specs.Meshes.{ordered}
 use Rattle.mesh.specs.Operation.{Condition, test}
 use Rattle.mesh.specs.OperationLaws.{join-stop, join-next, verdict-stop, verdict-next, verdict-one}
 use Rattle.mesh.specs.Refusals.{Told, tellVerdict}
 use Rattle.sweep.specs.declared.SweepTest.the-variants.{Height}
 use Rattle.sweep.specs.Sweep.{Sweep, sweep}
 use Rattle.sweep.specs.Operations.{wrongRing, notAbove, stateTests}
 use Rattle.sweep.specs.SweepTests.{sweepCondition}
 use Rattle.sweep.specs.Places.{Placed}
-use Rattle.sweep.proofs.Moves.{back}
-use Rattle.sweep.proofs.Operating.{placed-of}
+use Rattle.sweep_layer.proofs.Lifting.{placed-of}
 use borrow.Author.Needs.{needs}
-use Rattle.sweep.proofs.unchecked.sweep_test.Statement.{statement}
-use Rattle.sweep.proofs.unchecked.sweep_test.Tie as tie
+use Rattle.sweep_layer.proofs.unchecked.sweep_test.Statement.{statement}
+use Rattle.sweep_layer.proofs.unchecked.sweep_test.Tie as tie
 
 abbrev sweepOf : tie.Start → Sweep
 sweepOf start =
@@ -79,7 +80,8 @@ returns-3 c =
     let start = at-state .before .before .before .before .before .before .before in
     join-next (first start) (second start) (at-state .before .before .state-test .ensures) (ap tellVerdict (at-state .enum-told2 .given .1))
     (verdict-next _ _ (at-ring .before .before .one-sweep-test .ensures) (ap tellVerdict (at-ring .enum-told4 .given .1))
-    (c .one-sweep-test2 .ensures ∙ ap (λ (z : ℤ). test (sweepCondition Height (sweepOf start) z)) (back (start .fits .h)) ∙ verdict-one _))
+    (c .one-sweep-test2 .ensures ∙ ap (λ (z : ℤ). test (sweepCondition Height (sweepOf start) z)) (toZ-ofZ w32 (start .args .h) (start .fits .h))
+    ∙ verdict-one _))
 
 pub sweep-test-spec : {M : Type 1} → statement M
 sweep-test-spec =

@@ -5,12 +5,12 @@ use Rattle.mesh.specs.Meshes.{ordered}
 use Rattle.mesh.specs.Operation.{verdict}
 use Rattle.mesh.specs.Refusals.{tellVerdict}
 use Rattle.cut.specs.Cut.{CutTables, lent, lengthsOf}
 use Rattle.sweep.specs.Sweep.{Sweep, sweep}
 use Rattle.sweep.specs.Operations.{riseTests}
-use Rattle.sweep.proofs.Operating.{held-tests, held-tested, at-height, liftable, rises-refused, rises-lifted}
+use Rattle.sweep_layer.proofs.Lifting.{held-tests, held-tested, at-height, liftable, rises-refused, rises-lifted}
 use borrow.Author.Needs.{needs}
-use Rattle.sweep.proofs.layer.Statement.{statement}
-use Rattle.sweep.proofs.layer.Tie as tie
+use Rattle.sweep_layer.proofs.layer.Statement.{statement}
+use Rattle.sweep_layer.proofs.layer.Tie as tie
 
 abbrev sweepOf : tie.Start → Sweep
 sweepOf start =

@@ -1,21 +1,27 @@
 -- `unchecked::raise` meets its contract.
 use denote.Ref.{now}
+use lib.IntN.{ℤ}
+use mir.Syntax.{w32}
+use mir.Val.{toZ, ofZ}
 use Rattle.mesh.specs.Meshes.{ordered}
 use Rattle.cut.specs.OutlineLaws.{long-links}
 use Rattle.sweep.specs.Sweep.{Sweep, sweep}
 use Rattle.sweep.specs.Places.{RiseTested}
-use Rattle.sweep.proofs.Moves.{held}
-use Rattle.sweep.proofs.Operating.{held-tested, at-height, raise-outlined, never-refused, lifts}
+use Rattle.sweep_layer.proofs.Lifting.{held-tested, at-height, raise-outlined, never-refused, lifts}
 use borrow.Author.Needs.{needs}
-use Rattle.sweep.proofs.unchecked.raise.Statement.{statement}
-use Rattle.sweep.proofs.unchecked.raise.Tie as tie
+use Rattle.sweep_layer.proofs.unchecked.raise.Statement.{statement}
+use Rattle.sweep_layer.proofs.unchecked.raise.Tie as tie
 
 abbrev sweepOf : tie.Start → Sweep
 sweepOf start =
     sweep (ordered (now (start .args .coords)) (now (start .args .corners)) (now (start .args .pairing)) (now (start .args .order)))
     (now (start .args .ring)) (start .args .n)
 
-tested : (start : tie.Start) → RiseTested (sweepOf start) (held (start .args .h))
+-- the height as the code holds it
+abbrev heightOf : tie.Start → ℤ
+heightOf start = toZ w32 (ofZ w32 (start .args .h))
+
+tested : (start : tie.Start) → RiseTested (sweepOf start) (heightOf start)
 tested start = held-tested (sweepOf start) (start .fits .h) (start .pre .0)
 
 -- the layer of a right mesh is never refused
@@ -25,7 +31,7 @@ never c =
     let at-copy = at-outline .before .before .before .before .before .before .before in
     let at-link = at-copy .before .before .before .before .before in
     let start = at-link .before .before .before .before .before .before .before .before .before .before in
-    never-refused (sweepOf start) (held (start .args .h)) (tested start) (now (start .args .marks)) (at-link .link-at .ensures) (at-copy .copy-front .ensures)
+    never-refused (sweepOf start) (heightOf start) (tested start) (now (start .args .marks)) (at-link .link-at .ensures) (at-copy .copy-front .ensures)
     (at-outline .outline-rings .ensures) (c .s2 .given .1)
 
 risen-to-requires : tie.Need-risen-to-requires
@@ -43,7 +49,7 @@ outline-rings-requires c κs =
     let at-link = at-copy .before .before .before .before .before in
     let start = at-link .before .before .before .before .before .before .before .before .before .before in
     let marks = now (start .args .marks) in (
-      raise-outlined (sweepOf start) (held (start .args .h)) (tested start) marks (at-link .link-at .ensures) (at-copy .copy-front .ensures),
+      raise-outlined (sweepOf start) (heightOf start) (tested start) marks (at-link .link-at .ensures) (at-copy .copy-front .ensures),
       long-links (start .pre .1) (at-copy .copy-front .kept .1 .0),
     )
 
@@ -84,7 +90,7 @@ returns c =
     let at-link = at-copy .before .before .before .before .before in
     let start = at-link .before .before .before .before .before .before .before .before .before .before in
     at-height (sweepOf start) (start .fits .h)
-    (lifts (sweepOf start) (held (start .args .h)) (tested start) (now (start .args .marks)) (at-link .link-at .ensures) (at-copy .copy-front .ensures)
+    (lifts (sweepOf start) (heightOf start) (tested start) (now (start .args .marks)) (at-link .link-at .ensures) (at-copy .copy-front .ensures)
     (at-outline .outline-rings .ensures) (c .before .s .given .1) (at-link .before .before .risen-to .ensures))
 
 same-length-6 : tie.Need-same-length-6

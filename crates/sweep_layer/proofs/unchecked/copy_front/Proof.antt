@@ -6,8 +6,8 @@ use native.Mathlib.Omega.{arith}
 use lib.ListN.{length, getD, set}
 use Rattle.laws.specs.Tables.{refill}
 use Rattle.laws.specs.TableLaws.{refill-none, refill-more, length-refill}
-use Rattle.sweep.proofs.unchecked.copy_front.Statement.{statement}
-use Rattle.sweep.proofs.unchecked.copy_front.Tie as tie
+use Rattle.sweep_layer.proofs.unchecked.copy_front.Statement.{statement}
+use Rattle.sweep_layer.proofs.unchecked.copy_front.Tie as tie
 
 abbrev Inv-loop : tie.InvT-loop
 Inv-loop from to₀ n i₀ to i = (i ≤ n) × (to ≡ refill i (λ c. getD from c 0) to₀)

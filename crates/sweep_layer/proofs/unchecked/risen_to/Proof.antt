@@ -7,12 +7,13 @@ use lib.ListN.{length}
 use lib.IntN.{ℤ}
 use mir.Syntax.{w32}
 use mir.Val.{toZ}
+use mir.ValLaws.{toZ-ofZ}
 use Rattle.mesh.specs.Corners.{vertexCount}
 use Rattle.sweep.specs.Sweep.{risenTo}
 use denote.Ref.{now}
-use Rattle.sweep.proofs.Moves.{back, RiseGoesOn, rising-start, rising-stop, rising-more, may-not, may, may-end}
-use Rattle.sweep.proofs.unchecked.risen_to.Statement.{statement}
-use Rattle.sweep.proofs.unchecked.risen_to.Tie as tie
+use Rattle.sweep_layer.proofs.Rising.{RiseGoesOn, rising-start, rising-stop, rising-more, may-not, may, may-end}
+use Rattle.sweep_layer.proofs.unchecked.risen_to.Statement.{statement}
+use Rattle.sweep_layer.proofs.unchecked.risen_to.Tie as tie
 
 abbrev Inv-loop : tie.InvT-loop
 Inv-loop coords order n h vertices p₀ p = RiseGoesOn coords order (toZ w32 h) n p
@@ -72,7 +73,7 @@ returns c =
     let l : at-loop .loop .p < vertexCount (now (start .args .coords)) = omega (arith, at-loop-test .loop-test .taken) in
     rising-stop _ _ _ _ _ (at-loop .loop .inv)
     (may-not (now (start .args .coords)) _ _ (at-loop .loop .p) (at-wide .wide .result) (c .before .if12 .given) (at-wide .wide .ensures) l (c .if1 .taken))
-    ∙ ap (count start) (back (start .fits .h))
+    ∙ ap (count start) (toZ-ofZ w32 (start .args .h) (start .fits .h))
 
 add-p : tie.Need-add-p Inv-loop μ-loop
 add-p c = omega (arith, c .before .before .before .before .loop-test .taken)
@@ -94,7 +95,7 @@ returns-2 : tie.Need-returns-2 Inv-loop μ-loop
 returns-2 c =
     let start = c .before .before .before in
     let l : vertexCount (now (start .args .coords)) ≤ c .before .loop .p = omega (arith, c .loop-test .left) in
-    rising-stop _ _ _ _ _ (c .before .loop .inv) (may-end _ _ _ (c .before .loop .p) l) ∙ ap (count start) (back (start .fits .h))
+    rising-stop _ _ _ _ _ (c .before .loop .inv) (may-end _ _ _ (c .before .loop .p) l) ∙ ap (count start) (toZ-ofZ w32 (start .args .h) (start .fits .h))
 
 pub risen-to-spec : {M : Type 1} → statement M
 risen-to-spec =

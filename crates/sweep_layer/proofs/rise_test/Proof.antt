@@ -2,18 +2,19 @@
 use denote.Ref.{now}
 use mathlib.Core.Path.{ap, _∙_}
 use lib.IntN.{ℤ}
+use mir.Syntax.{w32}
+use mir.ValLaws.{toZ-ofZ}
 use Rattle.mesh.specs.Meshes.{ordered}
 use Rattle.mesh.specs.Operation.{verdict}
 use Rattle.mesh.specs.OperationLaws.{join-stop, join-next}
 use Rattle.mesh.specs.Refusals.{tellVerdict}
 use Rattle.cut.specs.Cut.{Lengths, lengths, cutTests}
 use Rattle.sweep.specs.Sweep.{Sweep, sweep}
 use Rattle.sweep.specs.Operations.{sweepTests}
-use Rattle.sweep.proofs.Moves.{back}
-use Rattle.sweep.proofs.Operating.{right-tested}
+use Rattle.sweep_layer.proofs.Lifting.{right-tested}
 use borrow.Author.Needs.{needs}
-use Rattle.sweep.proofs.rise_test.Statement.{statement}
-use Rattle.sweep.proofs.rise_test.Tie as tie
+use Rattle.sweep_layer.proofs.rise_test.Statement.{statement}
+use Rattle.sweep_layer.proofs.rise_test.Tie as tie
 
 abbrev sweepOf : tie.Start → Sweep
 sweepOf start =
@@ -51,7 +52,7 @@ returns-2 c =
     let s = sweepOf start in
     join-next (cutTests (s .ordered .paired) (roomOf start)) (sweepTests s (start .args .h)) (at-tables .tables-test .ensures)
     (ap tellVerdict (c .before .enum-told2 .given .1))
-    (c .sweep-test .ensures ∙ ap (λ (z : ℤ). verdict (sweepTests s z)) (back (start .fits .h)))
+    (c .sweep-test .ensures ∙ ap (λ (z : ℤ). verdict (sweepTests s z)) (toZ-ofZ w32 (start .args .h) (start .fits .h)))
 
 pub rise-test-spec : {M : Type 1} → statement M
 rise-test-spec =
