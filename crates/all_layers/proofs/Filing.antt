@@ -1,4 +1,4 @@
--- All layers as a whole: its tests in turn, the output, the work tables, and what each return leaves.
+-- All layers as a whole: its tests in turn, the work tables, and what each return leaves.
 use Prim.Native.Nat.{ℕ, _*_, _≤_, _<_}
 use mathlib.Core.Path.{_≡_, refl, sym, ap, _∙_, subst}
 use mathlib.Core.Bool.{Bool, true, false, not, _&&_}
@@ -15,11 +15,10 @@ use Rattle.laws.specs.Tables.{overwrite}
 use Rattle.mesh.specs.Meshes.{OrderedMesh}
 use Rattle.mesh.specs.Operation.{gives, refuses, Finding, fine, Condition, whole, test, _then_, verdict, after}
 use Rattle.mesh.specs.OperationLaws.{join-stop, join-next, verdict-one, verdict-stop, verdict-next, refused-every}
-use Rattle.mesh.specs.OperationLaws.{whole-refused, whole-fine, after-kept, does-refuse, does-give}
+use Rattle.mesh.specs.OperationLaws.{whole-refused, whole-fine, after-kept, does-refuse}
 use Rattle.mesh.specs.Refusals.{Told, refusal, numbered, toldOf}
 use Rattle.mesh.specs.Tests.{size, orders}
 use Rattle.mesh.specs.declared.Refusal.{Refusal}
-use Rattle.mesh.specs.declared.Refusal.the-variants.{Output}
 use Rattle.mesh_tables.specs.MeshTests.{contentTests, openingTests}
 use Rattle.cut.specs.Cut.{Lengths, lengthsOf, cutRoomFor}
 use Rattle.sweep.specs.Operations.{unlessRefused}
@@ -29,7 +28,7 @@ use Rattle.all_heights.specs.HeightLaws.{falling-taken}
 use Rattle.all_heights.specs.Taking.{baseZ, Takable}
 use Rattle.all_heights.specs.TakingLaws.{takable}
 use Rattle.all_sweep.specs.declared.AllLayersAnswer.{AllLayersAnswer}
-use Rattle.all_sweep.specs.declared.AllLayersAnswer.the-variants.{Length, Refused}
+use Rattle.all_sweep.specs.declared.AllLayersAnswer.the-variants.{Refused}
 use Rattle.all_sweep.specs.AllLayers.{cutFile, sweptFile, climbed, WorkTables, work, workRoomFor, workRoom, workAfter, layersTests, usedAt, shortOutput, filing}
 use Rattle.all_sweep.specs.AllLayers.{Files}
 use Rattle.all_sweep.specs.Works.{Works, Zeroed, takenHeights, PutsFile}
@@ -101,20 +100,6 @@ layers-tested {m} {heights} t a b =
             (takable coords heights k (λ i h. omega (arith, mag-le (getD coords i (pos 0)), t .right .inside i h)) (omega arith));
       };
     }
-
--- ---- the output
-
-module _ (file output : List ℕ) where
-  -- it is shorter than the file
-  pub puts-short : ltb (length output) (length file) ≡ true → PutsFile file output (Refused (Output 0)) output
-  unfolding unlessRefused
-  puts-short e = does-refuse (whole-refused (refusal 14) _ e ∙ verdict-one _) refl refl refl
-
-  -- it has room
-  pub puts-whole : {n : ℕ} {output′ : List ℕ} → ltb (length output) (length file) ≡ false → n ≡ length file → output′ ≡ overwrite file output
-      → PutsFile file output (Length n) output′
-  unfolding unlessRefused
-  puts-whole e n is = does-give (whole-fine (refusal 14) _ e ∙ verdict-one _) refl (ap gives n) is
 
 -- ---- the work tables
 

@@ -14,6 +14,7 @@ const CUTTING: [&str; 11] = [
     "all_active",
     "all_contours",
     "all_sweep",
+    "all_output",
     "all_layers",
 ];
 const CHECKING: [&str; 3] = ["check_mesh", "check_pairing", "check_order"];

@@ -6,11 +6,11 @@ use mir.ValLaws.{toZ-ofZ}
 use Rattle.all_sweep.specs.SweepLaws.{climbing}
 use Rattle.all_sweep.specs.PassLaws.{works-begun, works-more}
 use Rattle.all_sweep.specs.StepLaws.{right-ranged, tested-held, tested-more}
-use Rattle.all_layers.proofs.Bounding.{file-bound}
-use Rattle.all_layers.proofs.Filing.{puts-short, puts-whole}
+use Rattle.all_output.proofs.Bounding.{file-bound}
+use Rattle.all_output.proofs.Putting.{puts-short, puts-whole}
 use borrow.Author.Needs.{needs}
-use Rattle.all_layers.proofs.unchecked.put_layers.Statement.{statement}
-use Rattle.all_layers.proofs.unchecked.put_layers.Tie as tie
+use Rattle.all_output.proofs.unchecked.put_layers.Statement.{statement}
+use Rattle.all_output.proofs.unchecked.put_layers.Tie as tie
 
 begin-requires : tie.Need-begin-requires
 begin-requires c κs =

@@ -8,9 +8,9 @@ use Rattle.all_active.specs.LevelLaws.{climbing-held}
 use Rattle.file_formats.specs.NumberLaws.{number-bytes}
 use Rattle.all_sweep.specs.Works.{takenHeights}
 use Rattle.all_sweep.specs.PassLaws.{held-word-is}
-use Rattle.all_layers.proofs.Bounding.{Bounding, bounding-start, bounding-next, bounding-end}
-use Rattle.all_layers.proofs.unchecked.longest.Statement.{statement}
-use Rattle.all_layers.proofs.unchecked.longest.Tie as tie
+use Rattle.all_output.proofs.Bounding.{Bounding, bounding-start, bounding-next, bounding-end}
+use Rattle.all_output.proofs.unchecked.longest.Statement.{statement}
+use Rattle.all_output.proofs.unchecked.longest.Tie as tie
 
 abbrev Inv-loop : tie.InvT-loop
 Inv-loop low heights count crossings total₀ k₀ total k = Bounding (takenHeights (toZ w32 low) heights count) crossings k total

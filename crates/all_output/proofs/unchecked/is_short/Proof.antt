@@ -6,10 +6,10 @@ use Rattle.laws.specs.Booleans.{clash}
 use Rattle.all_sweep.specs.SweepLaws.{climbing}
 use Rattle.all_sweep.specs.PassLaws.{works-none, works-begun, works-more}
 use Rattle.all_sweep.specs.StepLaws.{right-ranged, tested-held, tested-more, sweeping-held}
-use Rattle.all_layers.proofs.Bounding.{room-bound, room-short, not-short}
+use Rattle.all_output.proofs.Putting.{room-bound, room-short, not-short}
 use borrow.Author.Needs.{needs}
-use Rattle.all_layers.proofs.unchecked.is_short.Statement.{statement}
-use Rattle.all_layers.proofs.unchecked.is_short.Tie as tie
+use Rattle.all_output.proofs.unchecked.is_short.Statement.{statement}
+use Rattle.all_output.proofs.unchecked.is_short.Tie as tie
 
 returns : tie.Need-returns
 returns c =

@@ -1,12 +1,9 @@
 -- The longest that a layer file can be: added up over the heights, and not less than the file.
 use Prim.Native.Nat.{ℕ, zero, suc, _+_, _*_, _^_, _≤_, _<_}
 use mathlib.Core.Path.{_≡_, sym, ap, _∙_, subst}
-use mathlib.Core.Bool.{true, false}
 use mathlib.Core.List.{List, map}
 use native.Mathlib.Omega.{arith}
 use native.Mathlib.Numerals.{add-one}
-use borrow.Author.Tests.{lt-ltb, le-ltb}
-use lib.Dec.{ltb}
 use lib.ListN.{length, take}
 use lib.IntN.{ℤ}
 use Rattle.laws.specs.Count.{count as tally}
@@ -22,7 +19,7 @@ use Rattle.all_sweep.specs.AllLayers.{cutLayer}
 use Rattle.all_sweep.specs.Works.{TakenHeights, takenHeights, takenAt, ListedHeights, takenFile}
 use Rattle.all_sweep.specs.CutLayerLaws.{layer-bound}
 use Rattle.all_sweep.specs.PassLaws.{total-next, total-all}
-use Rattle.all_layers.specs.Bounds.{longestFile}
+use Rattle.all_output.specs.Bounds.{longestFile}
 
 -- ---- added up
 
@@ -73,14 +70,3 @@ module _ (m : PairedMesh) (right : Right m) {t : TakenHeights} (listed : ListedH
       → length (takenFile m t) ≤ bound
   unfolding longestFile
   file-bound c e = omega (arith, e, total-all m listed {k = t .count} (omega arith), layers-bound (t .count) (omega arith), c .most)
-
--- ---- the room
-
-pub room-bound : {room n m : ℕ} → n ≤ m → m ≤ room → false ≡ ltb room n
-room-bound {room} {n} h k = sym (le-ltb room n (omega arith))
-
-pub room-short : {room n m : ℕ} → m ≡ n → room < m → true ≡ ltb room n
-room-short {room} e h = sym (lt-ltb _ _ (subst (λ (k : ℕ). room < k) e h))
-
-pub not-short : {room n m : ℕ} → m ≡ n → m ≤ room → false ≡ ltb room n
-not-short {room} e h = sym (le-ltb _ _ (subst (λ (k : ℕ). k ≤ room) e h))

@@ -3,10 +3,10 @@ use mathlib.Core.Path.{ap, _∙_}
 use mir.Syntax.{w64}
 use Rattle.laws.specs.Machine.{fit, cast, cast-ok}
 use Rattle.file_formats.specs.Numbers.{zigzag}
-use Rattle.all_layers.proofs.Bounding.{height-measured}
+use Rattle.all_output.proofs.Bounding.{height-measured}
 use borrow.Author.Needs.{needs}
-use Rattle.all_layers.proofs.unchecked.height_length.Statement.{statement}
-use Rattle.all_layers.proofs.unchecked.height_length.Tie as tie
+use Rattle.all_output.proofs.unchecked.height_length.Statement.{statement}
+use Rattle.all_output.proofs.unchecked.height_length.Tie as tie
 
 cast-unsigned-of : tie.Need-cast-unsigned-of
 cast-unsigned-of c = cast-ok (fit (c .fits .h)) tt

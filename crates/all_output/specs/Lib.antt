@@ -1,0 +1,2 @@
+-- The bound of a layer file.
+pub mod Bounds
