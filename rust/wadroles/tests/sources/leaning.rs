@@ -3,7 +3,7 @@
 use crate::tree;
 use std::collections::{BTreeMap, BTreeSet};
 
-const CUTTING: [&str; 11] = [
+const CUTTING: [&str; 12] = [
     "section",
     "cut_trace",
     "cut_points",
