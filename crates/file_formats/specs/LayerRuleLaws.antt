@@ -1,6 +1,6 @@
 -- Layers may be written exactly if they obey the rules.
 use mathlib.Core.List.{List, [], _∷_}
-use Prim.Native.Nat.{ℕ, zero, suc, _-_, _≤_}
+use Prim.Native.Nat.{ℕ, zero, suc, _-_, _*_, _≤_}
 use native.Mathlib.Omega.{arith}
 use lib.Dec.{le→leb, leb→le}
 use lib.ListN.{length}
@@ -52,8 +52,8 @@ contours-ruled (suc n) room (c ∷ cs) e =
     let g = contours-ruled n (room - length c) cs (e .1) in
     (omega (arith, h .0, g .0), (h .1, g .1))
 
--- no more contours than points
-few-contours : (cs : List (List Point)) → Each ContourRules cs → length cs ≤ pointTotal cs
+-- two points or more for each contour
+pub few-contours : (cs : List (List Point)) → Each ContourRules cs → 2 * length cs ≤ pointTotal cs
 few-contours [] e = omega arith
 few-contours (c ∷ cs) e = omega (arith, e .0 .0, few-contours cs (e .1))
 

@@ -10,7 +10,7 @@ use Rattle.laws.specs.Integers.{abs-sub}
 use Rattle.laws.specs.Tables.{overwrite}
 use Rattle.laws.specs.TableLaws.{overwrite-none, overwrite-more}
 use Rattle.mesh.specs.Corners.{largest}
-use Rattle.polygons.specs.FlatLaws.{length-numbers, numbers-none, contours-in}
+use Rattle.polygons.specs.FlatLaws.{length-numbers, contours-in}
 pub use Rattle.polygons.specs.FlatLaws.{length-ends, length-flatten, flatten-map, ends-map}
 use Rattle.file_formats.specs.Formats.{Format, encodeAll, Each}
 use Rattle.file_formats.specs.Numbers.{encodeNumber, zigzag}
@@ -20,6 +20,7 @@ use Rattle.file_formats.specs.LayerFile.{Point, Layer, mostPoints, pointFormat,
 use Rattle.file_formats.specs.LayerFile.{heightOf, lowest, layerFile}
 use Rattle.file_formats.specs.LayerFileLaws.{point-encode}
 use Rattle.file_formats.specs.LayerRules.{PointRules, ContourRules, pointTotal, LayerRules}
+use Rattle.file_formats.specs.LayerRuleLaws.{few-contours}
 use Rattle.file_write.specs.Written.{contoursIn, layerOf, numbersOf, endsFrom, endsOf, pointBytes, contourBytes, layerBytes, mostLayerBytes, HasRoom}
 use Rattle.file_write.specs.Written.{Puts, totalOf}
 use Rattle.file_write.specs.LayerTables.{EndsWithin, LayerTables}
@@ -192,10 +193,6 @@ contours-short (c ∷ cs) h e =
     let m = points-short origin (omega arith, omega arith) c (e .0 .1) in
     let l = simp length-append at (ap length (contour-bytes c)) in
     omega (arith, n, m, l, length-append (contourBytes c) (flatMap contourBytes cs), contours-short cs (omega arith) (e .1))
-
-few-contours : (cs : List (List Point)) → Each ContourRules cs → 2 * length cs ≤ pointTotal cs
-few-contours [] e = omega arith
-few-contours (c ∷ cs) e = omega (arith, e .0 .0, few-contours cs (e .1))
 
 -- a layer whose points and contours keep the rules
 pub layer-short : (l : Layer) → pointTotal (l .contours) ≤ mostPoints → Each ContourRules (l .contours)
