@@ -22,7 +22,7 @@ use Rattle.section.specs.LayerLaws.{contours-few, trace-layer}
 use Rattle.section.specs.OrbitLaws.{member-join, at-member}
 use Rattle.cut_points.specs.Points.{pointOf, pointsOf}
 use Rattle.cut_points.specs.Climbs.{Climbs}
-use Rattle.cut_points.specs.PointLaws.{point-in, length-points}
+use Rattle.cut_points.specs.PointLaws.{point-in, length-pointsOf}
 use Rattle.cut.specs.Cut.{section, contoursOf}
 use Rattle.cut.specs.CutLaws.{one-each}
 use Rattle.cut.specs.SolidLaws.{crossing-climbs}
@@ -243,4 +243,4 @@ module _ (m : PairedMesh) (right : Right m) (h : ℤ) where
       pub points-spent : Spent (2 * length (m .mesh .corners)) points points′
       points-spent =
           subst (Spent (2 * length (m .mesh .corners)) points) (sym points-are)
-          (spent-front _ _ _ (omega (arith, k-few, k-is, length-points (m .mesh) h (namesOf rings))) points-long)
+          (spent-front _ _ _ (omega (arith, k-few, k-is, length-pointsOf (m .mesh) h (namesOf rings))) points-long)

@@ -14,7 +14,7 @@ use Rattle.laws.specs.Tables.{overwrite}
 use Rattle.laws.specs.TableLaws.{overwrite-none, overwrite-snoc}
 use Rattle.mesh.specs.Meshes.{Mesh}
 use Rattle.cut_points.specs.Points.{pointAt, numbersOf, pointsOf}
-use Rattle.cut_points.specs.PointLaws.{points-append, length-points}
+use Rattle.cut_points.specs.PointLaws.{points-append, length-pointsOf}
 use Rattle.cut_points.proofs.Reading.{result-is}
 
 -- the table holds the points of the first i of k names
@@ -38,7 +38,7 @@ module _ {m : Mesh} {h : ℤ} {names : List ℕ} {table₀ : List ℤ} {k : ℕ}
         let p = pointsOf m h (take i names) in
         let x′ = toZ w32 (ofZ w32 x) in
         let y′ = toZ w32 (ofZ w32 y) in
-        let n : length p ≡ 2 * i = length-points m h (take i names) ∙ ap (λ (j : ℕ). 2 * j) (length-take-le i names (omega arith)) in
+        let n : length p ≡ 2 * i = length-pointsOf m h (take i names) ∙ ap (λ (j : ℕ). 2 * j) (length-take-le i names (omega arith)) in
         record {
           upto = omega arith;
           long = length-set (set table (2 * i) x′) (2 * i + 1) y′ ∙ length-set table (2 * i) x′ ∙ w .long;

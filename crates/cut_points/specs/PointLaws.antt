@@ -171,8 +171,8 @@ module _ (m : Mesh) (h : ℤ) where
   pub points-append : (cs ds : List ℕ) → pointsOf m h (cs ++ ds) ≡ pointsOf m h cs ++ pointsOf m h ds
   points-append cs ds = ap numbersOf (map-append (pointOf m h) cs ds) ∙ numbers-append (map (pointOf m h) cs) (map (pointOf m h) ds)
 
-  pub length-points : (names : List ℕ) → length (pointsOf m h names) ≡ 2 * length names
-  length-points names = length-numbers (map (pointOf m h) names) ∙ ap (λ (n : ℕ). 2 * n) (length-map names (pointOf m h))
+  pub length-pointsOf : (names : List ℕ) → length (pointsOf m h names) ≡ 2 * length names
+  length-pointsOf names = length-numbers (map (pointOf m h) names) ∙ ap (λ (n : ℕ). 2 * n) (length-map names (pointOf m h))
 
   -- entries 2 i and 2 i + 1 are those of name i
   module _ (names : List ℕ) (i : ℕ) (l : i < length names) where
@@ -192,7 +192,7 @@ module _ (m : Mesh) (h : ℤ) where
       → natAbs (getD (pointsOf m h names) j (pos 0)) ≤ largest
   points-in names t j l =
       let e : 2 * (j / 2) + j % 2 ≡ j = omega arith in
-      let i : j / 2 < length names = omega (arith, length-points names) in
+      let i : j / 2 < length names = omega (arith, length-pointsOf names) in
       let k : j % 2 ≤ 1 = omega arith in
       subst (λ (n : ℕ). natAbs (getD (pointsOf m h names) n (pos 0)) ≤ largest) e
       (rw (points-at names (j / 2) i (j % 2) k) (point-in (getD names (j / 2) 0) (t (j / 2) i) (j % 2) k))

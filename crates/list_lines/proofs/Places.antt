@@ -15,7 +15,7 @@ use Rattle.section.specs.Contours.{namesOf, endsFrom, endsOf}
 use Rattle.section.specs.Layers.{contourAt}
 use Rattle.section.specs.LayerLaws.{contours-few}
 use Rattle.cut_points.specs.Points.{pointsOf}
-use Rattle.cut_points.specs.PointLaws.{points-append, length-points}
+use Rattle.cut_points.specs.PointLaws.{points-append, length-pointsOf}
 use Rattle.polygons.specs.Flat.{endBefore}
 use Rattle.contours.specs.Areas.{pointCount, areaOf}
 use Rattle.contours.specs.AreaLaws.{sum-same, contour-run}
@@ -90,7 +90,7 @@ module _ (m : Mesh) (h : ℤ) (rs : List (List ℕ)) (points : List ℤ) (ends :
 
     long : 2 * length (namesOf rs) ≤ length pointsAfter
     unfolding overwrite
-    long = omega (arith, length-append all (drop (length all) points), length-points m h (namesOf rs))
+    long = omega (arith, length-append all (drop (length all) points), length-pointsOf m h (namesOf rs))
 
     there : i < length endsGiven
     unfolding overwrite
@@ -126,8 +126,8 @@ module _ (m : Mesh) (h : ℤ) (rs : List (List ℕ)) (points : List ℤ) (ends :
         (contour-of (length pointsAfter) endsGiven i
         (record { there = there; rises = omega (arith, own, prior, n); within = omega (arith, own, within, long) }))
         ∙ (λ k. take (2 * size k) (drop (2 * prior k) (split k)))
-        ∙ ap (take (2 * length (contourAt rs i))) (drop-at front (its ++ back) (2 * namesBefore rs i) (length-points m h (namesOf (take i rs))))
-        ∙ take-at its back (2 * length (contourAt rs i)) (length-points m h (contourAt rs i))
+        ∙ ap (take (2 * length (contourAt rs i))) (drop-at front (its ++ back) (2 * namesBefore rs i) (length-pointsOf m h (namesOf (take i rs))))
+        ∙ take-at its back (2 * length (contourAt rs i)) (length-pointsOf m h (contourAt rs i))
 
     -- and a run where the points are in range and few
     pub contour-runs : length (namesOf rs) ≤ mostPoints → ((k : ℕ) → k < length all → natAbs (getD all k (pos 0)) ≤ largest)
@@ -135,11 +135,11 @@ module _ (m : Mesh) (h : ℤ) (rs : List (List ℕ)) (points : List ℤ) (ends :
     contour-runs few ranged =
         contour-run pointsAfter endsGiven i (omega (arith, own, within))
         (λ k q.
-        let b : k < length all = omega (arith, own, within, length-points m h (namesOf rs)) in
+        let b : k < length all = omega (arith, own, within, length-pointsOf m h (namesOf rs)) in
         subst (λ (z : ℤ). natAbs z ≤ largest) (sym (overwrite-at all points k (pos 0) b)) (ranged k b))
 
     pub contour-short : length (namesOf rs) ≤ heldEntries → pointCount (contourOf pointsAfter endsGiven i) ≤ heldEntries
-    contour-short few = omega (arith, ap length contour-here ∙ length-points m h (contourAt rs i), before-next rs i l, within)
+    contour-short few = omega (arith, ap length contour-here ∙ length-pointsOf m h (contourAt rs i), before-next rs i l, within)
 
   -- the sum of the areas
   pub areas-here : areasIn pointsAfter endsGiven (length rs) ≡ areaSum m h rs
