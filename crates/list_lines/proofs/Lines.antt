@@ -1,12 +1,13 @@
 -- The lines of a listing, word by word, and how long they are.
-use Prim.Native.Nat.{ℕ, _+_, _^_, _≤_, _<_}
-use mathlib.Core.Path.{_≡_, refl, sym, ap, _∙_}
+use Prim.Native.Nat.{ℕ, _^_, _≤_, _<_}
+use mathlib.Core.Path.{_≡_, refl, sym}
 use mathlib.Core.List.{List, [], _∷_, flatten}
 use native.Mathlib.Omega.{arith}
-use lib.ListN.{length, length-append}
+use lib.ListN.{length}
 use lib.IntN.{ℤ}
 use lib.Signed.{mag}
 use Rattle.mesh.specs.Refusals.{Told, refusal}
+use Rattle.polygons.specs.FlatLaws.{length-flatten}
 use Rattle.list_decimals.specs.DecimalLaws.{decimal-word, signed-word}
 use Rattle.list_decimals.specs.Texts.{TextRoom, PutsText}
 use Rattle.list_decimals.specs.TextLaws.{TextWriting, text-writing, next-room, next-put, all-put}
@@ -33,22 +34,11 @@ module _ {l : List ℕ} {at : ℕ} {line m : List ℕ} {p : ℕ} where
   pub words-put : WordsLeft l at line m p [] → PutsText l at line p m
   words-put k = all-put (k .left)
 
--- ---- how long a line is: as long as its words
-
-abbrev total : List (List ℕ) → ℕ
-total [] = 0
-total (w ∷ ws) = length w + total ws
-
-total-length : (ws : List (List ℕ)) → length (flatten ws) ≡ total ws
-unfolding flatten
-total-length [] = refl
-total-length (w ∷ ws) = length-append w (flatten ws) ∙ ap (λ (n : ℕ). length w + n) (total-length ws)
-
--- ---- each line
+-- ---- each line: as long as its words
 
 refused-short : (r : Told) → r .number < 2 ^ 64 → r .place < 2 ^ 64 → length (refusedLine r) ≤ mostRefused
 unfolding refusedLine
-refused-short r g h = omega (arith, total-length (refusedWords r), decimal-word (r .number) g, decimal-word (r .place) h)
+refused-short r g h = omega (arith, length-flatten (refusedWords r), decimal-word (r .number) g, decimal-word (r .place) h)
 
 pub refused-words : {l : List ℕ} (r : Told) {n p : ℕ} → n ≡ r .number → p ≡ r .place → n < 2 ^ 64 → p < 2 ^ 64 → mostRefused ≤ length l
     → WordsLeft l 0 (refusedLine r) l 0 (refusedWords (refusal n p))
@@ -58,7 +48,7 @@ refused-words r e f g h long =
 
 pub layers-short : (count : ℕ) → count < 2 ^ 64 → length (layersLine count) ≤ mostFirst
 unfolding layersLine
-layers-short count h = omega (arith, total-length (layersWords count), decimal-word count h)
+layers-short count h = omega (arith, length-flatten (layersWords count), decimal-word count h)
 
 pub layers-words : {l : List ℕ} {at : ℕ} (count : ℕ) → TextRoom l at (layersLine count) → WordsLeft l at (layersLine count) l at (layersWords count)
 unfolding layersLine
@@ -67,7 +57,7 @@ layers-words count h = words-start h refl
 pub layer-line-short : (h : ℤ) (j k : ℕ) (a : ℤ) → mag h < 2 ^ 63 → j < 2 ^ 64 → k < 2 ^ 64 → mag a < 2 ^ 63 → length (layerLine h j k a) ≤ mostLine
 unfolding layerLine
 layer-line-short h j k a eh ej ek ea =
-    omega (arith, total-length (layerLineWords h j k a), signed-word h eh, decimal-word j ej, decimal-word k ek, signed-word a ea)
+    omega (arith, length-flatten (layerLineWords h j k a), signed-word h eh, decimal-word j ej, decimal-word k ek, signed-word a ea)
 
 -- the height and the area as the calls get them
 pub layer-words : {l : List ℕ} {at : ℕ} {h g : ℤ} (j k : ℕ) {a b : ℤ} → g ≡ h → b ≡ a → TextRoom l at (layerLine h j k a)

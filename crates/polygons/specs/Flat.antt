@@ -21,8 +21,8 @@ pub record Point : Type 0 where
 abbrev pub fewestPoints : ℕ
 fewestPoints = 2
 
--- the points of a layer in all
-abbrev pub pointTotal : List (List Point) → ℕ
+-- how many values the lists have in all: the points of a layer
+abbrev pub pointTotal : {A : Type 0} → List (List A) → ℕ
 pointTotal [] = 0
 pointTotal (c ∷ cs) = length c + pointTotal cs
 

@@ -56,7 +56,7 @@ pub flatten-none : numbersOf (flatten []) ≡ []
 unfolding flatten numbersOf
 flatten-none = refl
 
-pub length-flatten : (cs : List (List Point)) → length (flatten cs) ≡ pointTotal cs
+pub length-flatten : {A : Type 0} (cs : List (List A)) → length (flatten cs) ≡ pointTotal cs
 unfolding flatten
 length-flatten [] = refl
 length-flatten (c ∷ cs) = length-append c (flatten cs) ∙ ap (λ (n : ℕ). length c + n) (length-flatten cs)
