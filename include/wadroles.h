@@ -37,7 +37,7 @@
  * What the caller owes, and no function can test:
  *
  * - Each table really has the length given, and is aligned for its elements;
- *   so is `out`, which is never null.
+ *   so are `out` and the `xy` of wadroles_preview, which are never null.
  * - A table that the function writes (one whose pointer is not const), and
  *   `out`, overlap no other table.
  * - Until the function returns no other thread writes a table, or reads one
@@ -59,17 +59,19 @@ extern "C" {
 /* The version. Until 1.0 a change of behaviour or of a file raises the minor
  * number. */
 #define WADROLES_VERSION_MAJOR 0
-#define WADROLES_VERSION_MINOR 1
+#define WADROLES_VERSION_MINOR 2
 #define WADROLES_VERSION_PATCH 0
 
 /* The most vertices and triangles a mesh may have. */
 #define WADROLES_MAX_VERTICES 32768
 #define WADROLES_MAX_TRIANGLES 65536
 
-/* The farthest a coordinate may be from zero, on either side. */
+/* The farthest a coordinate may be from zero, on either side; one of the origin
+ * of wadroles_preview too. */
 #define WADROLES_MAX_COORDINATE 1048576
 
-/* The most points that wadroles_area takes, and that a layer of a file has. */
+/* The most points that wadroles_area takes, and that a layer has: one of a file
+ * and one that wadroles_preview takes. */
 #define WADROLES_MAX_POINTS 98304
 
 /* The most layers that a layer file has, and heights that wadroles_all_layers
@@ -83,7 +85,8 @@ extern "C" {
  * byte of a file, or 0 where the call as a whole is meant; each function says
  * which. */
 enum wadroles_refusal {
-    /* A length not a multiple of three (points: two), or a count too big. */
+    /* A length not a multiple of three (points: two), a count too big, or ends
+     * that are not those of the points. */
     WADROLES_SIZE = 1,
     /* A coordinate out of range. */
     WADROLES_RANGE = 2,
@@ -116,7 +119,9 @@ enum wadroles_refusal {
     /* A walk meeting a crossing already used that is not its start. This never
      * arises: the pairing is tested before, and with a right one no walk does
      * so. */
-    WADROLES_USED = 16
+    WADROLES_USED = 16,
+    /* An origin that is not whole or out of range. */
+    WADROLES_ORIGIN = 17
 };
 
 /*
@@ -534,6 +539,94 @@ uint32_t wadroles_read_part(const uint8_t *file, size_t file_len,
                             uint32_t *corners, size_t corners_len,
                             int32_t *heights, size_t heights_len,
                             uint64_t out[4]);
+
+/*
+ * Gives call `number` (from 0) of those that draw a layer on a screen: a move
+ * to a point, a line to a point, or a close. Each contour, in the order of the
+ * ends, is a move to its first point, a line to each later point and a close,
+ * so a layer has as many calls as points and contours together.
+ *
+ * Points and ends are those that wadroles_cut, wadroles_layer and
+ * wadroles_read_layer write; give twice the number of points as points_len and
+ * the number of contours as ends_len, so that old entries are not taken for the
+ * layer's.
+ *
+ * A move and a line carry x and y of their point, each after the origin's has
+ * been added. Both are whole numbers, so every sum is exact, and the origin
+ * taken off again gives back the point. An origin of -0.0 is 0, and a sum of 0
+ * is drawn as 0.0, never -0.0.
+ *
+ * Writes x and y of a move or a line into xy, which has 2 entries; a close, and
+ * the answer that there is no such call, leave xy as before.
+ *
+ * On success out[0] is 0 for a move, 1 for a line, 2 for a close, and 3 where
+ * `number` is past the last call.
+ *
+ * The tests, in this sequence; the first that fails is the refusal:
+ *
+ *   WADROLES_ORIGIN    origin_x or origin_y is no whole number (a fraction, an
+ *                      infinity or no number at all), or is farther from zero
+ *                      than WADROLES_MAX_COORDINATE; place 0
+ *   WADROLES_SIZE      points_len is odd, there are more than
+ *                      WADROLES_MAX_POINTS points, an end is not above the one
+ *                      before it (0 for the first) by two or more, or the last
+ *                      end (0 if there is none) is not the number of points;
+ *                      place 0
+ *   WADROLES_RANGE     a number is out of the range of coordinates; place its
+ *                      position in points
+ *
+ * After a refusal xy is as before. The whole layer is tested each time, so to
+ * fetch every call singly takes time by calls times points: take runs, with
+ * wadroles_preview_run.
+ */
+uint32_t wadroles_preview(const int32_t *points, size_t points_len,
+                          const uint32_t *ends, size_t ends_len,
+                          float origin_x, float origin_y,
+                          size_t number,
+                          float xy[2],
+                          uint64_t out[4]);
+
+/*
+ * Gives a run of the calls of wadroles_preview, from call `number` on: the
+ * layer, the origin and the calls are as there. It fills the first entries of
+ * two lent tables:
+ *
+ *   kinds  one entry per call: 0 for a move, 1 for a line, 2 for a close
+ *   xy     two entries per call: x and y of a move or a line; those of a close
+ *          stay
+ *
+ * It fills as many calls as are left from `number` on, as kinds has entries,
+ * and as xy has pairs of entries, whichever is least; a short table is not
+ * refused. Later entries of both tables stay, and so does an odd last one of
+ * xy.
+ *
+ * On success out[0] is the number of calls filled. It is 0 where `number` is
+ * past the last call, or a table holds none.
+ *
+ * The tests, in this sequence; the first that fails is the refusal:
+ *
+ *   WADROLES_ORIGIN    origin_x or origin_y is no whole number (a fraction, an
+ *                      infinity or no number at all), or is farther from zero
+ *                      than WADROLES_MAX_COORDINATE; place 0
+ *   WADROLES_SIZE      points_len is odd, there are more than
+ *                      WADROLES_MAX_POINTS points, an end is not above the one
+ *                      before it (0 for the first) by two or more, or the last
+ *                      end (0 if there is none) is not the number of points;
+ *                      place 0
+ *   WADROLES_RANGE     a number is out of the range of coordinates; place its
+ *                      position in points
+ *
+ * After a refusal both tables are as before. Each run tests the whole layer
+ * once, so the fewer runs the better: kinds of WADROLES_MAX_POINTS * 3 / 2
+ * entries, and xy of twice as many, hold all calls of any layer.
+ */
+uint32_t wadroles_preview_run(const int32_t *points, size_t points_len,
+                              const uint32_t *ends, size_t ends_len,
+                              float origin_x, float origin_y,
+                              size_t number,
+                              uint8_t *kinds, size_t kinds_len,
+                              float *xy, size_t xy_len,
+                              uint64_t out[4]);
 
 #ifdef __cplusplus
 }

@@ -13,11 +13,6 @@ use Rattle.laws.specs.Booleans.{clash, and-parts, and-of, is-false}
 use Rattle.polygons.specs.Flat.{pointsBetween, endBefore}
 use Rattle.contours.specs.Contours.{priorEnd, ownEnd, isContour, spanOf, firstOf, contourOf}
 
-pub prior-later : (ends : List ℕ) (j : ℕ) → 0 < j → getD ends (j - 1) 0 ≡ priorEnd ends j
-unfolding endBefore
-prior-later ends zero h = absurd (omega arith)
-prior-later ends (suc j) h = let e : suc j - 1 ≡ j = omega arith in ap (λ (i : ℕ). getD ends i 0) e
-
 module _ (n : ℕ) (ends : List ℕ) (j : ℕ) where
   -- what makes a contour
   pub record HasContour : Type 0 where

@@ -7,12 +7,12 @@ ghost use Rattle.mesh.specs.Refusals.{tellVerdict};
 ghost use Rattle.contours.specs.Areas.{runSize, measuring, Measures};
 ghost use Rattle.contours.specs.Contours.{firstOf, spanOf, contourOf};
 use crate::unchecked::doubled_area;
-use crate::unchecked::prior_end;
 use mesh::Refusal;
 use mesh::Verdict;
-use mesh::limits::MOST_POINTS;
 use mesh::numbers::wide;
 use mesh::tests::range_test;
+use polygons::run_fits;
+use polygons::unchecked::prior_end;
 
 pub mod unchecked;
 
@@ -74,13 +74,10 @@ pub fn contour<'a>(points: &'a [i32], ends: &[u32], j: usize) -> &'a [i32]
 fn run_test(points: &[i32]) -> Verdict
     ensures told { λ r. ⌜ tellVerdict r ≡ test (runSize (points .entry .now)) ⌝ }
 {
-    if points.len() % 2 != 0 {
-        return Verdict::Refused(Refusal::Size(0));
+    if run_fits(points.len()) {
+        return Verdict::Fine;
     }
-    if MOST_POINTS < points.len() / 2 {
-        return Verdict::Refused(Refusal::Size(0));
-    }
-    Verdict::Fine
+    Verdict::Refused(Refusal::Size(0))
 }
 
 // Refusals 1 and 2 (AREA-2).

@@ -1,13 +1,10 @@
-// The doubled area of points that the tests have passed, the cross product of two of them, and the end before a contour.
+// The doubled area of points that the tests have passed, and the cross product of two of them.
 ghost use mathlib.Core.Path.{_≡_};
-ghost use Prim.Native.Nat.{_≤_, _<_};
+ghost use Prim.Native.Nat.{_≤_};
 ghost use lib.IntN.{natAbs, _-ℤ_, _*ℤ_};
 ghost use Rattle.mesh.specs.Corners.{largest};
 ghost use Rattle.contours.specs.Areas.{areaOf};
 ghost use Rattle.contours.specs.Runs.{largestCross, PointRun};
-ghost use lib.ListN.{length};
-ghost use Rattle.contours.specs.Contours.{priorEnd};
-use mesh::numbers::wide;
 
 // The cross product of two points, and that it is small.
 fn cross(x: i32, y: i32, u: i32, v: i32) -> i64
@@ -43,16 +40,4 @@ pub fn doubled_area(points: &[i32]) -> i64
         y = v;
     }
     sum + cross(x, y, x0, y0)
-}
-
-// The end before that of contour j.
-pub fn prior_end(ends: &[u32], j: usize) -> usize
-    requires { ⌜ j < length (now ends) ⌝ }
-    ensures value { λ r. ⌜ r ≡ priorEnd (ends .entry .now) j ⌝ }
-{
-    if j == 0 {
-        return 0;
-    }
-    let i = j - 1;
-    wide(ends[i])
 }

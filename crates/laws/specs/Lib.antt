@@ -4,6 +4,7 @@ pub mod Least
 pub mod LeastLaws
 pub mod Tables
 pub mod TableLaws
+pub mod EntryLaws
 pub mod Count
 pub mod CountLaws
 pub mod Integers

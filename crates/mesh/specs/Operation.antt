@@ -68,6 +68,11 @@ module _ {R : Type 0} where
   after clears (gives _) filled n zero table = overwrite filled table
   after clears (refuses r) filled n zero table = cond (clears r) (overwrite (replicate n zero) table) table
 
+  -- what a call leaves where a refusal changes nothing
+  unfoldable pub unlessRefused : {A : Type 0} → A → A → Finding R → A
+  unlessRefused changed before (gives _) = changed
+  unlessRefused changed before (refuses r) = before
+
 -- ---- an operation, at one input: refusals in order, values, and what it leaves, also after a refusal (CALL-5)
 
 pub record Operation (R G T : Type 0) : Type 0 where

@@ -40,6 +40,8 @@ pub enum Refusal {
     Layer(usize),
     // 16: a walk meets a used crossing, not its start.
     Used(usize),
+    // 17: the origin is not whole or out of range.
+    Origin(usize),
 }
 
 // What tests find: no refusal, or the first that fits.

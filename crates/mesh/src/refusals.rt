@@ -24,6 +24,7 @@ pub fn number_of(r: Refusal) -> u32
         Refusal::Output(_) => 14,
         Refusal::Layer(_) => 15,
         Refusal::Used(_) => 16,
+        Refusal::Origin(_) => 17,
     }
 }
 
@@ -47,5 +48,6 @@ pub fn place_of(r: Refusal) -> usize
         Refusal::Output(p) => p,
         Refusal::Layer(p) => p,
         Refusal::Used(p) => p,
+        Refusal::Origin(p) => p,
     }
 }

@@ -2,12 +2,17 @@
 use Prim.Native.Nat.{ℕ, _-_}
 use mathlib.Core.Path.{_≡_}
 use mathlib.Core.List.{List, [], _∷_}
+use mathlib.Core.Option.{Option, none, some}
 use lib.ListN.{set}
 use lib.Seq.{sets}
 use lib.IntN.{ℤ, pos, negsuc}
+use lib.Ieee.{Float}
 use Rattle.mesh.specs.Operation.{Answer, gives, refuses}
 use Rattle.mesh.specs.Refusals.{Told, numberIn}
 use Rattle.sweep.specs.Operations.{StepGives, passes, top}
+use Rattle.preview.specs.declared.PathCall.{PathCall}
+use Rattle.preview.specs.declared.PathCall.the-variants.{Move, Line, Close}
+use Rattle.preview.specs.Preview.{kindOf}
 
 -- the place on refusal, on success the values as words; the other numbers stay
 unfoldable pub outAfter : {G : Type 0} → (G → List ℕ) → Answer Told G → List ℕ → List ℕ
@@ -58,3 +63,17 @@ readLayerWords (layers, height, contours, points) = layers ∷ wordOf height ∷
 -- Read part: the counts of vertices, triangles and heights
 abbrev pub readPartWords : ℕ × ℕ × ℕ → List ℕ
 readPartWords (vertices, triangles, heights) = vertices ∷ triangles ∷ heights ∷ []
+
+-- Preview: 0 for a move, 1 for a line, 2 for a close, 3 past the last
+abbrev pub previewWords : Option PathCall → List ℕ
+previewWords (some c) = kindOf c ∷ []
+previewWords none = 3 ∷ []
+
+-- ---- the two floats of Preview, which a move and a line write
+
+abbrev pub xyAfter : Answer Told (Option PathCall) → List Float → List Float
+xyAfter (gives (some (Move x y))) xy = sets xy 0 (x ∷ y ∷ [])
+xyAfter (gives (some (Line x y))) xy = sets xy 0 (x ∷ y ∷ [])
+xyAfter (gives (some Close)) xy = xy
+xyAfter (gives none) xy = xy
+xyAfter (refuses r) xy = xy

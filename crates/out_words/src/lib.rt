@@ -1,16 +1,19 @@
 // Answers as the C interface tells them: 0 or the refusal's number, and `out` with the place, or the values as words.
 ghost use mathlib.Core.Path.{_≡_};
+ghost use mathlib.Core.Option.{some};
 ghost use lib.ListN.{set};
+ghost use Rattle.mesh.specs.Operation.{gives};
 ghost use Rattle.mesh.specs.Refusals.{numberOf, placeOf};
 ghost use Rattle.check_mesh.specs.Check.{tellCheck};
 ghost use Rattle.cut.specs.Cut.{tellCut};
 ghost use Rattle.contours.specs.Areas.{tellArea};
 ghost use Rattle.sweep.specs.Operations.{tellStart, tellStep, tellLayer};
 ghost use Rattle.all_sweep.specs.AllLayers.{tellAllLayers};
+ghost use Rattle.preview.specs.Preview.{tellPreview, tellPreviewRun};
 ghost use Rattle.read_layer.specs.Reading.{tellReadLayer};
 ghost use Rattle.read_part.specs.Parts.{tellReadPart};
 ghost use Rattle.out_words.specs.Words.{wordOf, Says, noWords, oneWord, signedWord, cutWords, stepWords, layerWords};
-ghost use Rattle.out_words.specs.Words.{readLayerWords, readPartWords};
+ghost use Rattle.out_words.specs.Words.{readLayerWords, readPartWords, previewWords, xyAfter};
 use all_sweep::AllLayersAnswer;
 use check_mesh::CheckAnswer;
 use contours::AreaAnswer;
@@ -18,6 +21,9 @@ use cut::CutAnswer;
 use mesh::Refusal;
 use mesh::refusals::number_of;
 use mesh::refusals::place_of;
+use preview::PathCall;
+use preview::PreviewAnswer;
+use preview::PreviewRunAnswer;
 use read_layer::ReadLayerAnswer;
 use read_part::ReadPartAnswer;
 use sweep::LayerAnswer;
@@ -160,5 +166,56 @@ pub fn tell_read_part(a: ReadPartAnswer, out: &mut [u64; 4]) -> u32
             0
         }
         ReadPartAnswer::Refused(r) => refuse(r, out),
+    }
+}
+
+// A call's kind and, for a move and a line, its two floats.
+pub fn tell_call(c: PathCall, xy: &mut [f32; 2], out: &mut [u64; 4]) -> u32
+    ensures outcome { λ n. ⌜ Says previewWords (gives (some c)) (out .entry .now) n (out .exit .now) ⌝ }
+    ensures left { λ _. ⌜ xy .exit .now ≡ xyAfter (gives (some c)) (xy .entry .now) ⌝ }
+{
+    match c {
+        PathCall::Move(x, y) => {
+            xy[0] = x;
+            xy[1] = y;
+            out[0] = 0;
+            0
+        }
+        PathCall::Line(x, y) => {
+            xy[0] = x;
+            xy[1] = y;
+            out[0] = 1;
+            0
+        }
+        PathCall::Close => {
+            out[0] = 2;
+            0
+        }
+    }
+}
+
+pub fn tell_preview(a: PreviewAnswer, xy: &mut [f32; 2], out: &mut [u64; 4]) -> u32
+    ensures outcome { λ n. ⌜ Says previewWords (tellPreview a) (out .entry .now) n (out .exit .now) ⌝ }
+    ensures left { λ _. ⌜ xy .exit .now ≡ xyAfter (tellPreview a) (xy .entry .now) ⌝ }
+{
+    match a {
+        PreviewAnswer::Call(c) => tell_call(c, xy, out),
+        PreviewAnswer::Past => {
+            out[0] = 3;
+            0
+        }
+        PreviewAnswer::Refused(r) => refuse(r, out),
+    }
+}
+
+pub fn tell_preview_run(a: PreviewRunAnswer, out: &mut [u64; 4]) -> u32
+    ensures outcome { λ n. ⌜ Says oneWord (tellPreviewRun a) (out .entry .now) n (out .exit .now) ⌝ }
+{
+    match a {
+        PreviewRunAnswer::Calls(n) => {
+            out[0] = n as u64;
+            0
+        }
+        PreviewRunAnswer::Refused(r) => refuse(r, out),
     }
 }

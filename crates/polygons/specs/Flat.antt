@@ -9,6 +9,7 @@ use lib.IntN.{ℤ}
 pub use Rattle.mesh.specs.Corners.{mostPoints}
 use Rattle.mesh.specs.Operation.{Condition, whole}
 use Rattle.mesh.specs.Refusals.{Told, refusal}
+use Rattle.mesh.specs.Tests.{range}
 
 -- ---- contours
 
@@ -16,6 +17,9 @@ use Rattle.mesh.specs.Refusals.{Told, refusal}
 pub record Point : Type 0 where
   pub x : ℤ
   pub y : ℤ
+
+abbrev pub point : ℤ → ℤ → Point
+point x y = record { x = x; y = y }
 
 -- fewest points of a contour (SECTION-7, FILE-4)
 abbrev pub fewestPoints : ℕ
@@ -112,3 +116,7 @@ isLayer t =
 
 abbrev pub notLayer : FlatLayer → Condition Told
 notLayer t = whole (refusal 1) (not (isLayer t))
+
+-- the refusals of a layer that is handed in, in order: 1 (GIVEN-2), and 2, a number out of coordinate range (GIVEN-3)
+abbrev pub layerTests : FlatLayer → List (Condition Told)
+layerTests t = notLayer t ∷ range (t .points) ∷ []

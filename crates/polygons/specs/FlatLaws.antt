@@ -18,6 +18,21 @@ use Rattle.mesh.specs.Refusals.{refusal}
 use Rattle.polygons.specs.Flat.{Point, mostPoints, fewestPoints, pointTotal, Each, Polygons, FlatLayer, flat, numbersOf, endsFrom, endsOf, flatOf}
 use Rattle.polygons.specs.Flat.{pointsIn, pointsBetween, contoursIn, polygonsOf, endBefore, runFits, endsRise, lastEnd, isLayer, notLayer}
 
+-- ---- what holds of each
+
+module _ {A : Type 0} (P : A → Type 0) where
+  pub each-at : (d : A) (l : List A) → ((i : ℕ) → i < length l → P (getD l i d)) → Each P l
+  each-at d [] h = tt
+  each-at d (a ∷ l) h = (h 0 (omega arith), each-at d l (λ i k. h (suc i) (omega arith)))
+
+  pub each-join : (l r : List A) → Each P l → Each P r → Each P (l ++ r)
+  each-join [] r p q = q
+  each-join (a ∷ l) r p q = (p .0, each-join l r (p .1) q)
+
+  pub each-parts : (l r : List A) → Each P (l ++ r) → Each P l × Each P r
+  each-parts [] r p = (tt, p)
+  each-parts (a ∷ l) r p = let q = each-parts l r (p .1) in ((p .0, q .0), q .1)
+
 -- ---- how long the tables are, part by part
 
 module _ {A : Type 0} where
@@ -270,7 +285,12 @@ layer-passes t = (
 
 -- ---- one contour of a layer: from the end before it to its own
 
-before-later : (from end : ℕ) (ends : List ℕ) (j : ℕ) → endBefore end ends j ≡ endBefore from (end ∷ ends) (suc j)
+pub before-next : (from : ℕ) (ends : List ℕ) (j : ℕ) → 0 < j → getD ends (j - 1) 0 ≡ endBefore from ends j
+unfolding endBefore
+before-next from ends zero h = absurd (omega arith)
+before-next from ends (suc j) h = let e : suc j - 1 ≡ j = omega arith in ap (λ (i : ℕ). getD ends i 0) e
+
+pub before-later : (from end : ℕ) (ends : List ℕ) (j : ℕ) → endBefore end ends j ≡ endBefore from (end ∷ ends) (suc j)
 unfolding endBefore
 before-later from end ends zero = refl
 before-later from end ends (suc j) = refl
@@ -297,3 +317,9 @@ end-rises from (end ∷ ends) e (suc j) h =
     let p = and-parts (leb (from + fewestPoints) end) (endsRise end ends) e in
     let r = end-rises end ends (p .1) j (omega arith) in
     (omega (arith, r .0, before-later from end ends j), r .1)
+
+-- the end before one more contour than there are is the last
+pub before-all : (from : ℕ) (ends : List ℕ) → endBefore from ends (length ends) ≡ lastEnd from ends
+unfolding endBefore lastEnd
+before-all from [] = refl
+before-all from (end ∷ ends) = sym (before-later from end ends (length ends)) ∙ before-all end ends

@@ -9,7 +9,9 @@ use lib.IntN.{ℤ}
 use Rattle.laws.specs.Least.{some}
 use Rattle.mesh.specs.Corners.{vertexCount}
 use Rattle.mesh.specs.Meshes.{Mesh, PairedMesh, OrderedMesh}
-use Rattle.mesh.specs.Operation.{Answer, gives, refuses, Finding, Condition, whole, Operation, Does}
+use Rattle.mesh.specs.Operation.{Answer, gives, refuses, Condition, whole, Operation, Does}
+-- a refusal changes nothing (START-3, STEP-10, LAYER-7, ALL-15)
+unfoldable pub use Rattle.mesh.specs.Operation.{unlessRefused}
 use Rattle.mesh.specs.Refusals.{Told, refusal, toldOf}
 use Rattle.mesh.specs.Tests.{size, orders}
 use Rattle.mesh_tables.specs.MeshTests.{contentTests}
@@ -29,11 +31,6 @@ use Rattle.sweep.specs.Sweep.{Sweep, meshOf, sweepPairing, passedAt, fre
 -- the state with so many passed
 abbrev pub at : ℕ → State
 at n = record { passed = n }
-
--- a refusal changes nothing (START-3, STEP-10, LAYER-7, ALL-15)
-unfoldable pub unlessRefused : {A : Type 0} → A → A → Finding Told → A
-unlessRefused changed before (gives _) = changed
-unlessRefused changed before (refuses r) = before
 
 -- ---- the refusals that only the sweep has
 

@@ -1,7 +1,7 @@
 -- A call through the C interface, by the outcome of the operation and what is told of it; that its outcome
 -- is the only one; and that the number returned and `out` say what the operation answers.
 use Prim.Native.Nat.{ℕ, zero, suc, _-_, _^_, _<_}
-use mathlib.Core.Path.{_≡_, refl, sym, ap, _∙_, subst}
+use mathlib.Core.Path.{_≡_, refl, sym, ap, _∙_}
 use mathlib.Core.Bool.{Bool, cond}
 use mathlib.Core.List.{List, [], _∷_}
 use native.Mathlib.Omega.{arith}
@@ -15,13 +15,14 @@ use Rattle.mesh.specs.Operation.{Answer, gives, refuses, Finding, fine, verdict
 use Rattle.mesh.specs.OperationLaws.{Every, refused-every}
 use Rattle.mesh.specs.Refusals.{Told, refusal, numberIn}
 use Rattle.out_words.specs.Words.{outAfter, Says, wordOf}
+use Rattle.out_words.specs.WordLaws.{says-as}
 use Rattle.wadroles.specs.Exports.{Exports}
 
 module _ {I G T : Type 0} {op : I → Operation Told G T} {words : G → List ℕ} {input : I} {out out′ : List ℕ} {t : T} where
   -- a function hands its operation's outcome on, and the answer is told
   pub exports-told : {E : Type 0} {tell : E → Answer Told G} {result : E} {n : ℕ} → Does op tell input result t → Says words (tell result) out n out′
       → Exports op words input out n t out′
-  exports-told {n = n} d s = record { says = subst (λ (a : Answer Told G). Says words a out n out′) (d .answers) s; leaves = d .leaves }
+  exports-told d s = record { says = says-as (d .answers) s; leaves = d .leaves }
 
   -- the only outcome: two that the contract allows for one input are equal, the number returned, every table and `out`
   pub exports-only : {n m : ℕ} {u : T} {out″ : List ℕ} → Exports op words input out n t out′ → Exports op words input out m u out″

@@ -5,7 +5,9 @@ use mathlib.Core.List.{List, [], _∷_}
 use lib.ListN.{length}
 use lib.Seq.{sets}
 use lib.IntN.{ℤ}
+use lib.Ieee.{Float}
 use Rattle.mesh.specs.Meshes.{Mesh, PairedMesh, OrderedMesh}
+use Rattle.mesh.specs.Operation.{answerOf}
 use Rattle.polygons.specs.Flat.{FlatLayer}
 use Rattle.check_mesh.specs.Check.{CheckTables, checking}
 use Rattle.cut.specs.Cut.{CutTables, cutting}
@@ -17,7 +19,9 @@ use Rattle.all_sweep.specs.AllLayers.{WorkTables, filing}
 use Rattle.file_formats.specs.PartFile.{Part}
 use Rattle.read_layer.specs.Reading.{layerReading}
 use Rattle.read_part.specs.Parts.{partReading}
-use Rattle.out_words.specs.Words.{noWords, oneWord, signedWord, cutWords, stepWords, layerWords, readLayerWords, readPartWords}
+use Rattle.preview_floats.specs.declared.Origin.{Origin}
+use Rattle.preview.specs.Preview.{previewing, CallTables, previewRunning}
+use Rattle.out_words.specs.Words.{noWords, oneWord, signedWord, cutWords, stepWords, layerWords, readLayerWords, readPartWords, previewWords, xyAfter}
 use Rattle.wadroles.specs.Exports.{Exports}
 
 -- What each function is handed, `out` before, the number returned, the tables and `out` after
@@ -62,3 +66,13 @@ ReadLayerC file i t = Exports layerReading readLayerWords (file, i, t)
 -- wadroles_read_part
 abbrev pub ReadPartC : List ℕ → Part → List ℕ → ℕ → Part → List ℕ → Type 0
 ReadPartC file t = Exports partReading readPartWords (file, t)
+
+-- wadroles_preview: the kind of the call, and its two floats
+pub record PreviewC (t : FlatLayer) (o : Origin) (number : ℕ) (xy : List Float) (out : List ℕ)
+    (returned : ℕ) (xy′ : List Float) (out′ : List ℕ) : Type 0 where
+  pub exports : Exports previewing previewWords (t, o, number) out returned tt out′
+  pub writes : xy′ ≡ xyAfter (answerOf (previewing (t, o, number))) xy
+
+-- wadroles_preview_run: how many calls were filled
+abbrev pub PreviewRunC : FlatLayer → Origin → ℕ → CallTables → List ℕ → ℕ → CallTables → List ℕ → Type 0
+PreviewRunC t o number u = Exports previewRunning oneWord (t, o, number, u)

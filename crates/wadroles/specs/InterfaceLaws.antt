@@ -4,17 +4,19 @@ use Prim.Native.Nat.{ℕ, zero, suc, _^_, _<_}
 use mathlib.Core.Path.{_≡_, refl, sym, _∙_, subst}
 use mathlib.Core.Bool.{cond}
 use mathlib.Core.List.{List, [], _∷_, _++_, map}
+use mathlib.Core.Option.{Option, none, some}
 use native.Mathlib.Omega.{arith}
 use lib.Dec.{eqb}
 use lib.ListN.{length, getD}
 use lib.Seq.{sets}
 use lib.IntN.{ℤ}
+use lib.Ieee.{Float, nan}
 use lib.Signed.{mag}
 use Rattle.laws.specs.Integers.{mag-le}
 use Rattle.mesh.specs.Meshes.{Mesh, PairedMesh, OrderedMesh}
-use Rattle.mesh.specs.Operation.{answerOf, verdict, fine}
-use Rattle.mesh.specs.OperationLaws.{Every, fine-none}
-use Rattle.mesh.specs.Refusals.{Told}
+use Rattle.mesh.specs.Operation.{Answer, gives, refuses, Finding, answerOf, verdict, fine, _then_}
+use Rattle.mesh.specs.OperationLaws.{Every, fine-none, refused-every}
+use Rattle.mesh.specs.Refusals.{Told, refusal, numberIn}
 use Rattle.check_mesh.specs.Check.{CheckTables, checking}
 use Rattle.cut.specs.Cut.{CutTables, cutting}
 use Rattle.contours.specs.Areas.{areaOf, measuring}
@@ -34,9 +36,14 @@ use Rattle.file_formats.specs.PartFile.{Part}
 use Rattle.read_layer.specs.Reading.{layersIn, layerAt, Entries, entriesOf, readingTests, layerReading}
 use Rattle.read_layer.specs.ReadingLaws.{fine-there}
 use Rattle.read_part.specs.Parts.{partReading}
-use Rattle.wadroles.specs.ExportLaws.{fourWords, saidBy, exports-said, signedFromWord, signed-back}
-use Rattle.out_words.specs.Words.{stepWords}
+use Rattle.wadroles.specs.ExportLaws.{exports-only, fourWords, saidBy, exports-said, signedFromWord, signed-back}
+use Rattle.preview_floats.specs.declared.Origin.{Origin}
+use Rattle.preview.specs.declared.PathCall.{PathCall}
+use Rattle.preview.specs.declared.PathCall.the-variants.{Move, Line, Close}
+use Rattle.preview.specs.Preview.{previewing, CallTables, previewRunning}
+use Rattle.out_words.specs.Words.{outAfter, stepWords, previewWords, xyAfter}
 use Rattle.wadroles.specs.Interface.{CheckC, CutC, ContourC, AreaC, StartC, StepC, LayerC, AllLayersC, ReadLayerC, ReadPartC}
+use Rattle.wadroles.specs.Interface.{PreviewC, PreviewRunC}
 
 -- a refusal has a number that is not 0
 abbrev Nonzero : Told → Type 0
@@ -124,3 +131,47 @@ module _ {a b c d n : ℕ} {out′ : List ℕ} where
 pub contour-only : {points : List ℤ} {ends : List ℕ} {j n m : ℕ} {out out′ out″ : List ℕ} → ContourC points ends j out n out′
     → ContourC points ends j out m out″ → (n ≡ m) × (out′ ≡ out″)
 contour-only p q = (p .returns ∙ sym (q .returns), p .writes ∙ sym (q .writes))
+
+-- ---- Preview: number, `out` and the two floats say the answer whole
+
+-- the call of a kind, with these floats
+abbrev pub callRead : ℕ → List Float → Option PathCall
+callRead zero xy = some (Move (getD xy 0 nan) (getD xy 1 nan))
+callRead (suc zero) xy = some (Line (getD xy 0 nan) (getD xy 1 nan))
+callRead (suc (suc zero)) xy = some Close
+callRead (suc (suc (suc k))) xy = none
+
+-- the answer by the number returned, `out` and the floats
+abbrev pub previewSaid : ℕ → List ℕ → List Float → Answer Told (Option PathCall)
+previewSaid zero out xy = gives (callRead (getD out 0 0) xy)
+previewSaid (suc n) out xy = refuses (refusal (suc n) (getD out 0 0))
+
+module _ {t : FlatLayer} {o : Origin} {number : ℕ} {x y : Float} {a b c d n : ℕ} {xy′ : List Float} {out′ : List ℕ} where
+  pub preview-said : PreviewC t o number (x ∷ y ∷ []) (fourWords a b c d) n xy′ out′ → previewSaid n out′ xy′ ≡ answerOf (previewing (t, o, number))
+  unfolding outAfter _then_
+  preview-said p =
+      by (verdict (previewing (t, o, number) .refusals)) refl (previewing (t, o, number) .values) (p .exports .says .returns) (p .exports .says .writes)
+      (p .writes)
+    where
+      told : (m k : ℕ) → 0 < m → previewSaid m (fourWords k b c d) (x ∷ y ∷ []) ≡ refuses (refusal m k)
+      told zero k h = absurd (omega arith)
+      told (suc m) k h = refl
+
+      by : (f : Finding Told) → verdict (previewing (t, o, number) .refusals) ≡ f → (g : Option PathCall) → n ≡ numberIn (f then gives g)
+          → out′ ≡ outAfter previewWords (f then gives g) (fourWords a b c d) → xy′ ≡ xyAfter (f then gives g) (x ∷ y ∷ [])
+          → previewSaid n out′ xy′ ≡ (f then gives g)
+      by (gives tt) e (some (Move u v)) p w z = λ i. previewSaid (p i) (w i) (z i)
+      by (gives tt) e (some (Line u v)) p w z = λ i. previewSaid (p i) (w i) (z i)
+      by (gives tt) e (some Close) p w z = λ i. previewSaid (p i) (w i) (z i)
+      by (gives tt) e none p w z = λ i. previewSaid (p i) (w i) (z i)
+      by (refuses r) e g p w z =
+          (λ i. previewSaid (p i) (w i) (z i))
+          ∙ told (r .number) (r .place) (refused-every Nonzero (previewing (t, o, number) .refusals) r (has-one, (has-one, (has-one, tt))) e)
+
+  pub preview-one : {m : ℕ} {xy″ : List Float} {out″ : List ℕ} → PreviewC t o number (x ∷ y ∷ []) (fourWords a b c d) n xy′ out′
+      → PreviewC t o number (x ∷ y ∷ []) (fourWords a b c d) m xy″ out″ → (n ≡ m) × (xy′ ≡ xy″) × (out′ ≡ out″)
+  preview-one p q = let e = exports-only (p .exports) (q .exports) in (e .0, p .writes ∙ sym (q .writes), e .2)
+
+pub run-said : {t : FlatLayer} {o : Origin} {number : ℕ} {u u′ : CallTables} {a b c d n : ℕ} {out′ : List ℕ}
+    → PreviewRunC t o number u (fourWords a b c d) n u′ out′ → saidBy (λ out. getD out 0 0) n out′ ≡ answerOf (previewRunning (t, o, number, u))
+run-said = exports-said (λ out. getD out 0 0) (λ _. refl) (has-one, (has-one, (has-one, tt)))

@@ -7,15 +7,21 @@ ghost use Rattle.sweep.specs.Sweep.{sweep};
 ghost use Rattle.all_sweep.specs.AllLayers.{work};
 ghost use Rattle.read_part.specs.Parts.{part};
 ghost use Rattle.wadroles.specs.Interface.{CheckC, CutC, ContourC, AreaC, StartC, StepC, LayerC, AllLayersC, ReadLayerC, ReadPartC};
+ghost use Rattle.wadroles.specs.Interface.{PreviewC, PreviewRunC};
+ghost use Rattle.preview_floats.specs.DrawnPoints.{originAt};
+ghost use Rattle.preview.specs.Preview.{callTables};
 use out_words::tell_all_layers;
 use out_words::tell_area;
 use out_words::tell_check;
 use out_words::tell_cut;
 use out_words::tell_layer;
+use out_words::tell_preview;
+use out_words::tell_preview_run;
 use out_words::tell_read_layer;
 use out_words::tell_read_part;
 use out_words::tell_start;
 use out_words::tell_step;
+use preview_floats::Origin;
 use sweep::State;
 
 #[no_mangle]
@@ -220,4 +226,42 @@ pub extern "C" fn wadroles_read_part(
 {
     let a = read_part::read_part(file, coords, corners, heights);
     tell_read_part(a, out)
+}
+
+#[no_mangle]
+pub extern "C" fn wadroles_preview(
+    points: &[i32],
+    ends: &[u32],
+    x: f32,
+    y: f32,
+    number: usize,
+    xy: &mut [f32; 2],
+    out: &mut [u64; 4],
+) -> u32
+    ensures outcome { λ r. ⌜ PreviewC (flat (points .entry .now) (ends .entry .now)) (originAt x y) number
+        (xy .entry .now) (out .entry .now) r (xy .exit .now) (out .exit .now) ⌝ }
+{
+    let o = Origin { x: x, y: y };
+    let a = preview::preview(points, ends, o, number);
+    tell_preview(a, xy, out)
+}
+
+#[no_mangle]
+pub extern "C" fn wadroles_preview_run(
+    points: &[i32],
+    ends: &[u32],
+    x: f32,
+    y: f32,
+    number: usize,
+    kinds: &mut [u8],
+    xy: &mut [f32],
+    out: &mut [u64; 4],
+) -> u32
+    ensures outcome { λ r. ⌜ PreviewRunC (flat (points .entry .now) (ends .entry .now)) (originAt x y) number
+        (callTables (kinds .entry .now) (xy .entry .now)) (out .entry .now) r
+        (callTables (kinds .exit .now) (xy .exit .now)) (out .exit .now) ⌝ }
+{
+    let o = Origin { x: x, y: y };
+    let a = preview::preview_run(points, ends, o, number, kinds, xy);
+    tell_preview_run(a, out)
 }

@@ -9,8 +9,9 @@ use oracle::{encode_layers, encode_part, FileLayer, Part};
 use std::hint::black_box;
 use std::ptr::read_volatile;
 use wadroles::{
-    all_layers, check, layer, read_layer, read_part, start, CheckTables, CutTables, FlatLayer,
-    OrderedMesh, PairedMesh, Sweep, WorkTables,
+    all_layers, check, layer, preview, preview_run, read_layer, read_part, start, CallTables,
+    CheckTables, CutTables, FlatLayer, GivenLayer, OrderedMesh, Origin, PairedMesh, Sweep,
+    WorkTables,
 };
 
 const HEIGHT: i32 = 7;
@@ -46,6 +47,7 @@ fn main() {
     print_depth("nothing", &mut || {});
     print_mesh_depths(&torus(12, 16, 700, 300));
     print_file_depths(&torus(12, 16, 700, 300));
+    print_preview_depths();
 }
 
 /// Tables as long as so many corners need them.
@@ -154,5 +156,23 @@ fn print_file_depths(mesh: &Mesh) {
     };
     print_depth("read_part", &mut || {
         read_part(&file, &mut tables).expect("the file is right");
+    });
+}
+
+fn print_preview_depths() {
+    let layer = GivenLayer {
+        points: &[0, 0, 700, 0, 0, 700, 5, 5, 9, 9],
+        ends: &[3, 5],
+    };
+    let origin = Origin { x: 7.0, y: -7.0 };
+    print_depth("preview", &mut || {
+        preview(layer, origin, 2).expect("the layer is right");
+    });
+    let mut tables = CallTables {
+        kinds: &mut [0; 7],
+        xy: &mut [0.0; 14],
+    };
+    print_depth("preview_run", &mut || {
+        preview_run(layer, origin, 0, &mut tables).expect("the layer is right");
     });
 }

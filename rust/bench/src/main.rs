@@ -4,8 +4,8 @@
 //! lent tables are refilled before each call, outside the time measured. Neither version is built
 //! into its caller.
 //!
-//! Arguments choose among `check`, `cut`, `area`, `layer`, `all_layers`, `read_layer` and
-//! `read_part`; without any, all are timed. For `tools/instructions`, which counts what a call takes,
+//! Arguments choose among `check`, `cut`, `area`, `layer`, `all_layers`, `read_layer`, `read_part` and
+//! `preview`; without any, all are timed. For `tools/instructions`, which counts what a call takes,
 //! `inputs` lists operations and inputs, and `once OPERATION INPUT VERSION` makes a single call.
 
 #![forbid(unsafe_code)]
@@ -18,6 +18,7 @@ mod cut;
 mod inputs;
 mod layer;
 mod owned;
+mod preview;
 mod read_layer;
 mod read_part;
 mod unproved;
@@ -28,7 +29,7 @@ use versions::VERSIONS;
 
 type Benches = fn() -> Vec<Box<dyn Bench>>;
 
-const OPERATIONS: [(&str, Benches); 7] = [
+const OPERATIONS: [(&str, Benches); 8] = [
     ("check", check::benches),
     ("cut", cut::benches),
     ("area", area::benches),
@@ -36,6 +37,7 @@ const OPERATIONS: [(&str, Benches); 7] = [
     ("all_layers", all_layers::benches),
     ("read_layer", read_layer::benches),
     ("read_part", read_part::benches),
+    ("preview", preview::benches),
 ];
 
 fn main() {

@@ -16,6 +16,7 @@ mod listing;
 mod mesh;
 mod numbers;
 mod part_file;
+mod preview;
 mod refusal;
 mod section;
 mod sweep;
@@ -29,6 +30,7 @@ pub use layer_file::{decode_layers, encode_layers, read_layer, FileLayer, LayerR
 pub use listing::listing;
 pub use numbers::{encode_plain, encode_signed};
 pub use part_file::{decode_part, encode_part, read_part, Part, PartRead};
+pub use preview::{drawn, preview, preview_run, PathCall};
 pub use refusal::Refusal;
 pub use section::section_area;
 pub use sweep::{fresh_ring, layer, start, step, Sweep};

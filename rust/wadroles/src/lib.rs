@@ -13,7 +13,8 @@
 //! doubled area. A sweep raises a plane from below: [`start()`] begins it, [`step()`] passes one
 //! vertex, and [`layer()`] rises to a height and gives the layer there. [`all_layers()`] sweeps a mesh
 //! over many heights and writes their layer file. [`read_layer()`] takes a layer out of a layer
-//! file, and [`read_part()`] a mesh and heights out of a part file.
+//! file, and [`read_part()`] a mesh and heights out of a part file. [`preview()`] and
+//! [`preview_run()`] give the calls with which a screen draws a layer.
 //!
 //! # Example
 //!
@@ -57,8 +58,9 @@
 //! # Tables and refusals
 //!
 //! What belongs together is a struct, of the name that the library's specification has for it:
-//! [`Mesh`], [`PairedMesh`] and [`OrderedMesh`] are read; [`CheckTables`], [`CutTables`],
-//! [`WorkTables`], [`FlatLayer`] and [`Part`] are lent to be written; [`Sweep`] is both.
+//! [`Mesh`], [`PairedMesh`], [`OrderedMesh`], [`GivenLayer`] and [`Origin`] are read;
+//! [`CheckTables`], [`CutTables`], [`WorkTables`], [`FlatLayer`], [`Part`] and [`CallTables`] are
+//! lent to be written; [`Sweep`] is both.
 //!
 //! The operations work on tables that the caller lends them, and allocate nothing. Each answers with
 //! its values or with a [`Refusal`]: they test all that they are handed, so no input makes them
@@ -94,7 +96,8 @@
 //! ```
 //!
 //! Lengths may be any: a table that is too short is [`Refusal::ROOM`] where it is to be filled, and
-//! [`Refusal::PAIRING`], [`Refusal::ORDER`] or [`Refusal::RING`] where it is read.
+//! [`Refusal::PAIRING`], [`Refusal::ORDER`] or [`Refusal::RING`] where it is read. The tables of
+//! [`preview_run()`] are filled as far as they go.
 //!
 //! # Linking
 //!
@@ -112,6 +115,7 @@ mod contour;
 mod cut;
 mod layer;
 mod mesh;
+mod preview;
 pub mod raw;
 mod read_layer;
 mod read_part;
@@ -128,6 +132,7 @@ pub use contour::contour;
 pub use cut::cut;
 pub use layer::layer;
 pub use mesh::{Mesh, OrderedMesh, PairedMesh};
+pub use preview::{preview, preview_run, CallTables, GivenLayer, Origin, PathCall};
 pub use read_layer::{read_layer, FlatLayer, Reading};
 pub use read_part::{read_part, Part, PartCounts};
 pub use refusal::Refusal;
@@ -142,10 +147,11 @@ pub const MAX_VERTICES: usize = 32_768;
 /// The most triangles a mesh may have.
 pub const MAX_TRIANGLES: usize = 65_536;
 
-/// The farthest a coordinate may be from zero, on either side.
+/// The farthest a coordinate may be from zero, on either side; one of an [`Origin`] too.
 pub const MAX_COORDINATE: i32 = 1_048_576;
 
-/// The most points that [`area()`] takes, and that a layer of a layer file may have.
+/// The most points that [`area()`] takes, and that a layer may have: one of a layer file and one that
+/// [`preview()`] takes.
 pub const MAX_POINTS: usize = 98_304;
 
 /// The most layers that a layer file may have, and the most heights that [`all_layers()`] takes.

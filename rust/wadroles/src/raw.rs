@@ -7,7 +7,8 @@
 //!
 //! All of them ask the same of their caller. Each table must have the length given after it, in
 //! elements, and be aligned for them; an empty one may be null. No written table may overlap
-//! another one, or be used by another thread meanwhile. `out` has 4 entries and overlaps no table.
+//! another one, or be used by another thread meanwhile. `out` has 4 entries and overlaps no table;
+//! the `xy` of [`wadroles_preview`] is a table of 2 entries.
 
 extern "C" {
     /// Tests a mesh and writes its pairing and order, as [`crate::check()`] does.
@@ -205,6 +206,45 @@ extern "C" {
         corners_len: usize,
         heights: *mut i32,
         heights_len: usize,
+        out: *mut u64,
+    ) -> u32;
+
+    /// Finds a call that draws a layer, as [`crate::preview()`] does. Success writes 0 for a move, 1
+    /// for a line, 2 for a close and 3 past the last; a move and a line write x and y into `xy`.
+    ///
+    /// # Safety
+    ///
+    /// As [above](self#safety).
+    pub fn wadroles_preview(
+        points: *const i32,
+        points_len: usize,
+        ends: *const u32,
+        ends_len: usize,
+        origin_x: f32,
+        origin_y: f32,
+        number: usize,
+        xy: *mut f32,
+        out: *mut u64,
+    ) -> u32;
+
+    /// Fills a run of calls that draw a layer, as [`crate::preview_run()`] does. Success writes how
+    /// many it filled.
+    ///
+    /// # Safety
+    ///
+    /// As [above](self#safety).
+    pub fn wadroles_preview_run(
+        points: *const i32,
+        points_len: usize,
+        ends: *const u32,
+        ends_len: usize,
+        origin_x: f32,
+        origin_y: f32,
+        number: usize,
+        kinds: *mut u8,
+        kinds_len: usize,
+        xy: *mut f32,
+        xy_len: usize,
         out: *mut u64,
     ) -> u32;
 }

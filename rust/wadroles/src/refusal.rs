@@ -35,8 +35,9 @@ pub struct Refusal {
 
 impl Refusal {
     /// A table length not a multiple of three (of two for points), or a count above its limit:
-    /// vertices, triangles, points of [`area`](crate::area()), or heights of
-    /// [`all_layers`](crate::all_layers()), default ones counted. Place 0.
+    /// vertices, triangles, points of [`area`](crate::area()) and [`preview`](crate::preview()), or
+    /// heights of [`all_layers`](crate::all_layers()), default ones counted. Or the ends of
+    /// [`preview`](crate::preview()) do not rise by two or more up to the number of points. Place 0.
     pub const SIZE: u32 = 1;
     /// A coordinate out of range. The place is its position in the table.
     pub const RANGE: u32 = 2;
@@ -76,13 +77,15 @@ impl Refusal {
     /// A walk meeting a crossing already used that is not its start. The place is that crossing. It
     /// never arises: the pairing has been tested before, and with a right one no walk does.
     pub const USED: u32 = 16;
+    /// An origin that is not whole or out of range. Place 0.
+    pub const ORIGIN: u32 = 17;
 
     /// The reason in the words of the specification.
     fn words(&self) -> &'static str {
         match self.number {
             Self::SIZE => {
-                "a table length not a multiple of three (of two for points) \
-                 or a count above its limit"
+                "a table length not a multiple of three (of two for points), \
+                 a count above its limit or ends that are not those of the points"
             }
             Self::RANGE => "a coordinate out of range",
             Self::VERTEX => "a corner naming no vertex",
@@ -107,6 +110,7 @@ impl Refusal {
             Self::OUTPUT => "output shorter than the file",
             Self::LAYER => "no layer of that number",
             Self::USED => "a walk meeting a crossing already used that is not its start",
+            Self::ORIGIN => "an origin that is not whole or out of range",
             _ => "a reason that the specification does not number",
         }
     }
@@ -141,8 +145,8 @@ mod tests {
     #[test]
     fn each_number_has_words_of_its_own() {
         let words = |number| Refusal { number, place: 0 }.words();
-        let distinct: HashSet<_> = (0..=16).map(words).collect();
-        assert_eq!(distinct.len(), 17);
-        assert_eq!(words(0), words(17));
+        let distinct: HashSet<_> = (0..=17).map(words).collect();
+        assert_eq!(distinct.len(), 18);
+        assert_eq!(words(0), words(18));
     }
 }

@@ -11,6 +11,7 @@ mod cut;
 mod layer;
 mod layer_file;
 mod numbers;
+mod preview;
 mod read_layer;
 mod read_part;
 mod tables;
@@ -23,6 +24,7 @@ pub use by_section::all_layers as all_layers_by_section;
 pub use check::check;
 pub use cut::cut;
 pub use layer::layer;
+pub use preview::{preview, preview_run};
 pub use read_layer::read_layer;
 pub use read_part::read_part;
 

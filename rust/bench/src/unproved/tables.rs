@@ -49,9 +49,14 @@ pub fn front<'a>(tables: &'a mut CutTables<'_>, corners: usize) -> CutTables<'a>
     }
 }
 
+/// A first pass without an early end, which the compiler does several numbers at a time, says whether
+/// there is a place to look for.
 pub fn test_range(numbers: &[i32]) -> Result<(), Refusal> {
-    let range = -MAX_COORDINATE..=MAX_COORDINATE;
-    refuse_first(Refusal::RANGE, numbers, |x| !range.contains(x))
+    let is_far = |x: &i32| x.unsigned_abs() > MAX_COORDINATE.unsigned_abs();
+    if numbers.iter().fold(false, |far, x| far | is_far(x)) {
+        return refuse_first(Refusal::RANGE, numbers, is_far);
+    }
+    Ok(())
 }
 
 pub fn test_values(mesh: Mesh<'_>) -> Result<(), Refusal> {

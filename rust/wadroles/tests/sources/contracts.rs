@@ -9,12 +9,13 @@
 use crate::tree;
 
 /// The crates whose top module has the operations, and the public functions that are there at least.
-const OPERATIONS: [(&str, &[&str]); 10] = [
+const OPERATIONS: [(&str, &[&str]); 11] = [
     ("check_mesh", &["check"]),
     ("contours", &["area", "contour"]),
     ("cut", &["cut"]),
     ("all_layers", &["all_layers"]),
     ("list_part", &["list"]),
+    ("preview", &["preview", "preview_run"]),
     ("read_part", &["read_part"]),
     ("read_layer", &["read_layer"]),
     ("sweep", &["start", "step"]),
@@ -32,6 +33,8 @@ const OPERATIONS: [(&str, &[&str]); 10] = [
             "wadroles_all_layers",
             "wadroles_read_layer",
             "wadroles_read_part",
+            "wadroles_preview",
+            "wadroles_preview_run",
         ],
     ),
 ];

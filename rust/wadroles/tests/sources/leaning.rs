@@ -3,12 +3,14 @@
 use crate::tree;
 use std::collections::{BTreeMap, BTreeSet};
 
-const CUTTING: [&str; 12] = [
+const CUTTING: [&str; 14] = [
     "section",
     "cut_trace",
     "cut_points",
     "cut",
     "contours",
+    "preview_floats",
+    "preview",
     "sweep",
     "sweep_layer",
     "all_active",

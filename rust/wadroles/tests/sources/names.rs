@@ -90,7 +90,7 @@ fn items<'a>(path: &str, text: &'a str) -> Vec<Item<'a>> {
 }
 
 /// The names that more than one item has, each with its places.
-fn twice<'a>(files: &'a [(String, String)]) -> BTreeMap<&'a str, Vec<String>> {
+fn twice(files: &[(String, String)]) -> BTreeMap<&str, Vec<String>> {
     let mut places: BTreeMap<&str, Vec<String>> = BTreeMap::new();
     for (path, text) in files {
         for (line, _, name) in items(path, text) {

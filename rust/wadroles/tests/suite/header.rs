@@ -24,6 +24,7 @@ fn the_header_numbers_the_refusals_alike() {
         ("OUTPUT", Refusal::OUTPUT),
         ("LAYER", Refusal::LAYER),
         ("USED", Refusal::USED),
+        ("ORIGIN", Refusal::ORIGIN),
     ] {
         let line = format!("WADROLES_{name} = {number}");
         assert!(HEADER.contains(&line), "no {line:?} in the header");
@@ -66,7 +67,9 @@ fn the_header_declares_the_same_functions() {
             "wadroles_layer",
             "wadroles_all_layers",
             "wadroles_read_layer",
-            "wadroles_read_part"
+            "wadroles_read_part",
+            "wadroles_preview",
+            "wadroles_preview_run"
         ]
     );
 }
@@ -97,10 +100,12 @@ fn in_rust(parameter: &str) -> String {
         "int32_t" => "i32",
         "uint32_t" => "u32",
         "uint64_t" => "u64",
+        "float" => "f32",
         "size_t" => "usize",
         _ => panic!("no type of the header: {parameter:?}"),
     };
-    let pointer = name.strip_prefix('*').or(name.strip_suffix("[4]"));
+    let table = name.split_once('[').map(|(name, _length)| name);
+    let pointer = name.strip_prefix('*').or(table);
     match (pointer, constant) {
         (Some(name), true) => format!("{name}: *const {number}"),
         (Some(name), false) => format!("{name}: *mut {number}"),

@@ -6,6 +6,7 @@
 //! another number of rounds.
 
 mod all_layers;
+mod archive;
 mod area;
 mod c_functions;
 mod chains;
@@ -18,6 +19,7 @@ mod header;
 mod inputs;
 mod mesh_operations;
 mod operations;
+mod preview;
 mod read_layer;
 mod read_part;
 mod sweep;

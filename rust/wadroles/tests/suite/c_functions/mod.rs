@@ -3,6 +3,7 @@
 
 mod files;
 mod meshes;
+mod previews;
 
 use crate::harness::{written, Case, Operation};
 

@@ -3,9 +3,10 @@ use crate::harness::{
     compare_version, long, Answer, Case, Lent, Operation, Rounds, Tallies, Version,
 };
 use crate::operations::{
-    AllLayers, Area, Check, Contour, Cut, Ends, Given, LayerFile, ReadLayer, ReadPart, Versions,
-    WorkTables,
+    AllLayers, Area, Check, Contour, Cut, Drawing, Ends, Given, LayerFile, Preview, PreviewRun,
+    ReadLayer, ReadPart, Versions, WorkTables,
 };
+use crate::preview::{random_number, random_origin, spoil_layer};
 use crate::sweep::{random_cut_tables, spoil, Call, Swept};
 use files::Damage as FileDamage;
 use meshes::{
@@ -108,7 +109,7 @@ impl Chain<'_> {
         Ok(given)
     }
 
-    /// Cuts at a height, takes the contours out of the layer, and measures them.
+    /// Cuts at a height, takes the contours out of the layer, measures them and previews the layer.
     fn cut(&mut self, given: Given) -> Result<(), String> {
         let (answer, case) = self.call::<Cut>(given, self.versions.cut)?;
         if let Ok((contours, points)) = answer {
@@ -120,7 +121,21 @@ impl Chain<'_> {
                 let (first, length) = part.expect("contour has no refusals");
                 self.area(&points[first..first + length])?;
             }
+            self.preview(points, ends)?;
         }
+        Ok(())
+    }
+
+    /// Previews a layer by a call and by a run, now and then one with something wrong.
+    fn preview(&mut self, points: &[i32], ends: &[u32]) -> Result<(), String> {
+        let mut drawing = Drawing::new(points, ends, [0.0; 2]);
+        if self.random.one_in(8) {
+            spoil_layer(&mut drawing, self.random);
+        }
+        drawing.origin = random_origin(self.random);
+        drawing.number = random_number(drawing.calls(), self.random);
+        let _answer = self.call::<Preview>(drawing.clone(), self.versions.preview)?;
+        let _answer = self.call::<PreviewRun>(drawing, self.versions.preview_run)?;
         Ok(())
     }
 
@@ -187,6 +202,7 @@ impl Chain<'_> {
         for i in [0, 1, self.random.below(9)] {
             if let Some(layer) = self.read_layer(file, i)? {
                 self.compare_with_cut(given, &layer)?;
+                self.preview(&layer.points, &layer.ends)?;
             }
         }
         for i in 0..2 {

@@ -3,8 +3,9 @@
 use super::chain::compare_chains;
 use crate::harness::{assert_told, Answer, Operation, Rounds};
 use crate::operations::{
-    AllLayers, Area, Check, CheckTables, Contour, Cut, CutTables, Ends, FileTables, FlatLayer,
-    Given, Layer, LayerFile, Part, ReadLayer, ReadPart, Ring, Start, Step, Versions, WorkTables,
+    AllLayers, Area, CallTables, Check, CheckTables, Contour, Cut, CutTables, Drawing, Ends,
+    FileTables, FlatLayer, Given, Layer, LayerFile, Part, Preview, PreviewRun, ReadLayer, ReadPart,
+    Ring, Start, Step, Versions, WorkTables, Xy,
 };
 
 fn last_height_left(file: &Vec<u8>, tables: &mut Part) -> Answer<(usize, usize, usize)> {
@@ -74,10 +75,24 @@ fn left_over_byte_taken(
     }
 }
 
+fn moves_told_as_lines(input: &Drawing, tables: &mut Xy) -> Answer<u64> {
+    let kind = Preview::product(input, tables)?;
+    Ok(if kind == 0 { 1 } else { kind })
+}
+
+fn last_kind_left(input: &Drawing, tables: &mut CallTables) -> Answer<usize> {
+    let before = tables.kinds.clone();
+    let filled = PreviewRun::product(input, tables)?;
+    if let Some(last) = filled.checked_sub(1) {
+        tables.kinds.table()[last] = before.view()[last];
+    }
+    Ok(filled)
+}
+
 /// The product but for one operation, and that operation.
-fn faulty() -> [(Versions, &'static str); 10] {
+fn faulty() -> [(Versions, &'static str); 12] {
     let right = Versions::default();
-    let faults: [(fn(&mut Versions), _); 10] = [
+    let faults: [(fn(&mut Versions), _); 12] = [
         (|v| v.read_part = Some(last_height_left), ReadPart::NAME),
         (|v| v.check = Some(order_from_above), Check::NAME),
         (|v| v.cut = Some(point_moved), Cut::NAME),
@@ -91,6 +106,8 @@ fn faulty() -> [(Versions, &'static str); 10] {
             |v| v.read_layer = Some(left_over_byte_taken),
             ReadLayer::NAME,
         ),
+        (|v| v.preview = Some(moves_told_as_lines), Preview::NAME),
+        (|v| v.preview_run = Some(last_kind_left), PreviewRun::NAME),
     ];
     faults.map(|(spoil, name)| {
         let mut versions = right;

@@ -1,6 +1,7 @@
-//! The C example, `examples/c/sweep.c`, as strict C99 with every warning an error.
+//! The C examples, `examples/c/sweep.c` and `examples/c/preview.c`, as strict C99 with every warning an
+//! error.
 //!
-//! It is compiled by `cc`, which rustc itself links with on this target, or by the compiler that the
+//! They are compiled by `cc`, which rustc itself links with on this target, or by the compiler that the
 //! environment variable `CC` names. Where there is none the tests fail: without it there would be no
 //! test to run.
 
@@ -28,15 +29,15 @@ layer 11 0 0 0
 layers 4, bytes 23
 ";
 
-/// The example, compiled once.
+/// The example of the sweep, compiled once.
 fn example() -> &'static Path {
     static EXAMPLE: OnceLock<PathBuf> = OnceLock::new();
-    EXAMPLE.get_or_init(compile)
+    EXAMPLE.get_or_init(|| compile("sweep"))
 }
 
-fn compile() -> PathBuf {
+fn compile(name: &str) -> PathBuf {
     let root = Path::new(ROOT);
-    let program = work_directory().join("sweep");
+    let program = work_directory().join(name);
     let compiler = env::var("CC").unwrap_or_else(|_| "cc".to_owned());
     let mut command = Command::new(&compiler);
     command
@@ -50,7 +51,7 @@ fn compile() -> PathBuf {
         ])
         .arg("-I")
         .arg(root.join("include"))
-        .arg(root.join("examples").join("c").join("sweep.c"))
+        .arg(root.join(format!("examples/c/{name}.c")))
         .arg(env!("WADROLES_ARCHIVE"))
         .arg("-o")
         .arg(&program);
@@ -183,6 +184,24 @@ fn line(layer: &FileLayer) -> String {
         .map(|c| oracle::area(c.as_flattened()));
     let doubled: i64 = areas.map(Result::unwrap).sum();
     format!("layer {height} {contours} {points} {doubled}\n")
+}
+
+#[test]
+fn the_preview_of_part_p() {
+    let program = compile("preview");
+    let drawn = |origin: &[&str]| Run::of(Command::new(&program).args(origin));
+    let at_zero = "move 5 0\nline 0 5\nline 0 0\nclose\ncalls 4\n";
+    assert_eq!(drawn(&[]), Run::content(at_zero));
+    let moved = "move 105 -20\nline 100 -15\nline 100 -20\nclose\ncalls 4\n";
+    assert_eq!(drawn(&["100", "-20"]), Run::content(moved));
+    for origin in [["0.5", "0"], ["0", "nan"], ["-1048577", "0"]] {
+        let refused = Run {
+            status: 1,
+            output: String::new(),
+            errors: "preview: refused 17 0\n".to_owned(),
+        };
+        assert_eq!(drawn(&origin), refused, "{origin:?}");
+    }
 }
 
 #[test]

@@ -32,7 +32,7 @@ pub fn pointer_mut<T>(table: &mut [T]) -> *mut T {
 }
 
 /// Calls a C function with tables to read, tables lent to be written, numbers, and words of output. A
-/// table goes as its pointer and its length.
+/// table goes as its pointer and its length, one of a known length as its pointer alone.
 macro_rules! call_c {
     ($function:ident($($arguments:tt)*), $out:expr) => {
         $crate::harness::call_c!(@ $function [$out] [] $($arguments)*)
@@ -45,6 +45,11 @@ macro_rules! call_c {
     (@ $function:ident $out:tt [$($done:expr,)*] lend $table:expr, $($rest:tt)*) => {
         $crate::harness::call_c!(@ $function $out [
             $($done,)* $crate::harness::pointer_mut($table.table()), $table.length(),
+        ] $($rest)*)
+    };
+    (@ $function:ident $out:tt [$($done:expr,)*] known $table:expr, $($rest:tt)*) => {
+        $crate::harness::call_c!(@ $function $out [
+            $($done,)* $crate::harness::pointer_mut($table.table()),
         ] $($rest)*)
     };
     (@ $function:ident $out:tt [$($done:expr,)*] number $number:expr, $($rest:tt)*) => {

@@ -3,7 +3,7 @@ use std::fmt::{self, Debug, Display};
 
 /// A table lent from the middle of a longer one. All of it is filled with junk, so that a stray
 /// write shows even past the ends of the lent part.
-#[derive(Clone, PartialEq, Eq)]
+#[derive(Clone)]
 pub struct Lent<T> {
     entries: Vec<T>,
 }
@@ -11,12 +11,20 @@ pub struct Lent<T> {
 const MARGIN: usize = 3;
 
 /// An entry of a table.
-pub trait Entry: Copy + Debug + Display + PartialEq {
+pub trait Entry: Copy + Debug + Display {
     /// Any value, by 64 random bits.
     fn of_word(word: u64) -> Self;
 
     /// Another value.
     fn other(self) -> Self;
+
+    /// Its bits, by which entries are compared: a float may differ from itself, and 0 equals −0.
+    fn bits(self) -> u32;
+
+    /// As a difference tells it.
+    fn told(self) -> String {
+        self.to_string()
+    }
 }
 
 impl Entry for u8 {
@@ -26,6 +34,10 @@ impl Entry for u8 {
 
     fn other(self) -> Self {
         self ^ 1
+    }
+
+    fn bits(self) -> u32 {
+        self.into()
     }
 }
 
@@ -37,6 +49,10 @@ impl Entry for u32 {
     fn other(self) -> Self {
         self ^ 1
     }
+
+    fn bits(self) -> u32 {
+        self
+    }
 }
 
 impl Entry for i32 {
@@ -46,6 +62,28 @@ impl Entry for i32 {
 
     fn other(self) -> Self {
         self ^ 1
+    }
+
+    fn bits(self) -> u32 {
+        self as u32
+    }
+}
+
+impl Entry for f32 {
+    fn of_word(word: u64) -> Self {
+        f32::from_bits(word as u32)
+    }
+
+    fn other(self) -> Self {
+        f32::from_bits(self.to_bits() ^ 1)
+    }
+
+    fn bits(self) -> u32 {
+        self.to_bits()
+    }
+
+    fn told(self) -> String {
+        format!("{self} ({:08X})", self.to_bits())
     }
 }
 
@@ -84,12 +122,19 @@ impl<T: Entry> Lent<T> {
     /// The first entry that is not as expected.
     pub fn difference(&self, expected: &Lent<T>) -> Option<String> {
         let mut entries = self.entries.iter().zip(&expected.entries);
-        let at = entries.position(|(entry, expected)| entry != expected)?;
+        let at = entries.position(|(entry, expected)| entry.bits() != expected.bits())?;
         let (position, length) = (at as i64 - MARGIN as i64, self.length());
         Some(format!(
             "entry {position} of {length} is {}, not {}",
-            self.entries[at], expected.entries[at]
+            self.entries[at].told(),
+            expected.entries[at].told()
         ))
+    }
+}
+
+impl<T: Entry> PartialEq for Lent<T> {
+    fn eq(&self, other: &Self) -> bool {
+        self.length() == other.length() && self.difference(other).is_none()
     }
 }
 
@@ -118,4 +163,19 @@ fn writes_are_seen_wherever_they_are() {
         assert!(difference.starts_with(&format!("entry {position} of 4 is ")));
     }
     assert_eq!(before.difference(&before), None);
+}
+
+#[test]
+fn floats_are_compared_by_their_bits() {
+    let mut floats: Lent<f32> = Lent::new(2, &mut Random::new(1));
+    floats.table().copy_from_slice(&[f32::NAN, 0.0]);
+    assert_eq!(floats.difference(&floats), None);
+    let mut zero = floats.clone();
+    zero.table()[1] = -0.0;
+    let told = "entry 1 of 2 is -0 (80000000), not 0 (00000000)";
+    assert_eq!(zero.difference(&floats).as_deref(), Some(told));
+    let mut other = floats.clone();
+    other.table()[0] = floats.view()[0].other();
+    let told = other.difference(&floats).unwrap();
+    assert!(told.starts_with("entry 0 of 2 is NaN (7FC00001)"), "{told}");
 }

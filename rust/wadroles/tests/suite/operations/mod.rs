@@ -6,6 +6,7 @@ mod check;
 mod contour;
 mod cut;
 mod given;
+mod preview;
 mod read_layer;
 mod read_part;
 mod sweep;
@@ -16,6 +17,7 @@ pub use check::{Check, CheckTables};
 pub use contour::{Contour, Ends};
 pub use cut::{Cut, CutTables};
 pub use given::Given;
+pub use preview::{CallTables, Drawing, Preview, PreviewRun, Xy};
 pub use read_layer::{FlatLayer, LayerFile, ReadLayer};
 pub use read_part::{Part, ReadPart};
 pub use sweep::{Layer, Ring, Start, Step, WorkTables};
@@ -35,4 +37,6 @@ pub struct Versions {
     pub layer: Version<Layer>,
     pub all_layers: Version<AllLayers>,
     pub read_layer: Version<ReadLayer>,
+    pub preview: Version<Preview>,
+    pub preview_run: Version<PreviewRun>,
 }

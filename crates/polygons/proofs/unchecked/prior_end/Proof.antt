@@ -2,16 +2,15 @@
 use mathlib.Core.Path.{sym, ap, _∙_}
 use native.Mathlib.Omega.{arith}
 use denote.Ref.{now}
 use Rattle.polygons.specs.Flat.{endBefore}
-use Rattle.contours.specs.Contours.{priorEnd}
-use Rattle.contours.specs.ContourLaws.{prior-later}
+use Rattle.polygons.specs.FlatLaws.{before-next}
 use borrow.Author.Needs.{needs}
-use Rattle.contours.proofs.unchecked.prior_end.Statement.{statement}
-use Rattle.contours.proofs.unchecked.prior_end.Tie as tie
+use Rattle.polygons.proofs.unchecked.prior_end.Statement.{statement}
+use Rattle.polygons.proofs.unchecked.prior_end.Tie as tie
 
 returns : tie.Need-returns
 unfolding endBefore
-returns c = let e = c .if1 .taken in ap (priorEnd (now (c .before .before .args .ends))) (sym e)
+returns c = let e = c .if1 .taken in ap (endBefore 0 (now (c .before .before .args .ends))) (sym e)
 
 sub-i : tie.Need-sub-i
 sub-i c = search needs
@@ -26,7 +25,7 @@ wide-requires : tie.Need-wide-requires
 wide-requires c κs = search needs
 
 returns-2 : tie.Need-returns-2
-returns-2 c = c .wide .ensures ∙ prior-later _ _ (omega arith)
+returns-2 c = c .wide .ensures ∙ before-next 0 _ _ (omega arith)
 
 pub prior-end-spec : {M : Type 1} → statement M
 prior-end-spec =
