@@ -5,14 +5,14 @@ use mathlib.Core.Bool.{true}
 use mathlib.Core.List.{List, [], _∷_, _++_, map, flatten}
 use native.Mathlib.Omega.{arith}
 use lib.ListN.{length, getD, take, drop, replicate, length-drop, length-map, length-replicate}
-use lib.Seq.{drop-drop, drop-at, take-at, ext-getD, getD-drop}
+use lib.Seq.{drop-drop, drop-at, ext-getD, getD-drop}
 use lib.IntN.{ℤ}
 use lib.Dec.{eqb}
 use borrow.Author.Tests.{eq-eqb}
 use Rattle.laws.specs.Booleans.{or-left, or-right}
 use Rattle.laws.specs.Count.{count as tally}
 use Rattle.laws.specs.Tables.{overwrite}
-use Rattle.laws.specs.TableLaws.{length-overwrite, overwrite-at}
+use Rattle.laws.specs.TableLaws.{length-overwrite, overwrite-at, overwrite-front}
 use Rattle.mesh.specs.Corners.{triangleCount}
 use Rattle.mesh.specs.Meshes.{Mesh, PairedMesh}
 use Rattle.section.specs.Section.{below, Right}
@@ -232,10 +232,8 @@ module _ (m : PairedMesh) (right : Right m) (h : ℤ) where
     module _ (points : List ℤ) {points′ : List ℤ} (points-long : 2 * length (m .mesh .corners) ≤ length points)
         (ep : points′ ≡ overwrite (pointsOf (m .mesh) h (take k names′)) points) where
       points-are : points′ ≡ overwrite (pointsOf (m .mesh) h (namesOf rings)) points
-      unfolding overwrite
       points-are =
-          ep ∙ ap (λ (l : List ℕ). overwrite (pointsOf (m .mesh) h l) points)
-          (ap (take k) names-are ∙ take-at (namesOf rings) (drop (length (namesOf rings)) names) k (sym k-is))
+          ep ∙ ap (λ (l : List ℕ). overwrite (pointsOf (m .mesh) h l) points) (ap (take k) names-are ∙ overwrite-front (namesOf rings) names (sym k-is))
 
       pub followed-holds : HoldsLayer m h points′ ends′ j
       followed-holds = written-holds points ends points-are ends-are (t .j-is ∙ ap (λ (rs : List (List ℕ)). length rs) same-rings)

@@ -4,9 +4,9 @@ use mathlib.Core.Path.{_≡_, refl, sym, ap, _∙_}
 use mathlib.Core.List.{List, [], _∷_, map, flatten}
 use native.Mathlib.Omega.{arith}
 use lib.ListN.{length, getD, take, drop, length-map}
-use lib.Seq.{take-at, drop-at}
 use lib.IntN.{ℤ, pos}
 use Rattle.laws.specs.Tables.{overwrite}
+use Rattle.laws.specs.TableLaws.{overwrite-front, overwrite-rest}
 use Rattle.mesh.specs.Meshes.{PairedMesh}
 use Rattle.mesh.specs.Operation.{gives, fine, verdict, after}
 use Rattle.mesh.specs.OperationLaws.{then-fine, given-verdict, left-given}
@@ -29,17 +29,6 @@ use Rattle.all_sweep.specs.CutLayerLaws.{drawn-points, drawn-ends, drawn-total}
 use Rattle.all_sweep.specs.LayersLaws.{all-layers-tested, all-layers-cut, all-layers-reads-back}
 use Rattle.demand_three.specs.FileLaws.{file-claim}
 use Rattle.composed.specs.ReadBack.{ReadsCut, ReadBack}
-
--- ---- tables with the same front
-
-module _ {A : Type 0} (vs table : List A) {n : ℕ} (e : length vs ≡ n) where
-  front-is : take n (overwrite vs table) ≡ vs
-  unfolding overwrite
-  front-is = take-at vs (drop (length vs) table) n e
-
-  rest-is : drop n (overwrite vs table) ≡ drop n table
-  unfolding overwrite
-  rest-is = drop-at vs (drop (length vs) table) n e ∙ ap (λ (k : ℕ). drop k table) e
 
 -- ---- one layer
 
@@ -66,8 +55,8 @@ layer-left {m} {h} {t} {t′} {cut} {j} {k} c e =
     record {
       count = count;
       total = total;
-      points = ap (take (2 * k)) points ∙ front-is _ (t .points) (length-points cs ∙ ap (λ (n : ℕ). 2 * n) total);
-      ends = ap (take j) ends ∙ front-is _ (t .ends) (length-ends 0 cs ∙ count);
+      points = ap (take (2 * k)) points ∙ overwrite-front _ (t .points) (length-points cs ∙ ap (λ (n : ℕ). 2 * n) total);
+      ends = ap (take j) ends ∙ overwrite-front _ (t .ends) (length-ends 0 cs ∙ count);
     }
 
 -- ---- Read layer
@@ -85,10 +74,10 @@ module _ {m : PairedMesh} {h : ℤ} {cut : CutTables} {j k : ℕ} (left : LayerL
       let ends = ap (λ (t : FlatLayer). t .ends) filled in
       record {
         says = says;
-        points = ap (take (2 * k)) points ∙ front-is _ (u .points) many ∙ sym (left .points);
-        ends = ap (take j) ends ∙ front-is _ (u .ends) some ∙ sym (left .ends);
-        points-stay = ap (drop (2 * k)) points ∙ rest-is _ (u .points) many;
-        ends-stay = ap (drop j) ends ∙ rest-is _ (u .ends) some;
+        points = ap (take (2 * k)) points ∙ overwrite-front _ (u .points) many ∙ sym (left .points);
+        ends = ap (take j) ends ∙ overwrite-front _ (u .ends) some ∙ sym (left .ends);
+        points-stay = ap (drop (2 * k)) points ∙ overwrite-rest _ (u .points) many;
+        ends-stay = ap (drop j) ends ∙ overwrite-rest _ (u .ends) some;
       }
 
 -- from a file that holds these layers, with room for layer i, it is read

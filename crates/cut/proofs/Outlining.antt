@@ -3,11 +3,10 @@ use Prim.Native.Nat.{ℕ, _*_, _<_, _≤_}
 use mathlib.Core.Path.{_≡_, refl, sym, ap, _∙_, subst}
 use mathlib.Core.List.{List, [], _∷_}
 use native.Mathlib.Omega.{arith}
-use lib.ListN.{length, getD, take, drop, replicate}
-use lib.Seq.{take-at}
+use lib.ListN.{length, getD, take, replicate}
 use lib.IntN.{ℤ, pos}
 use Rattle.laws.specs.Tables.{overwrite}
-use Rattle.laws.specs.TableLaws.{length-overwrite, overwrite-at}
+use Rattle.laws.specs.TableLaws.{length-overwrite, overwrite-at, overwrite-front}
 use Rattle.mesh.specs.Meshes.{Mesh}
 use Rattle.mesh.specs.Operation.{gives, fine, verdict, after}
 use Rattle.mesh.specs.OperationLaws.{does-give}
@@ -84,7 +83,7 @@ module _ (m : Mesh) (h : ℤ) (tables : CutTables) (o : Outlined m h (tables .ma
           second e = cc
 
       front : take k names₁ ≡ namesOf rs
-      front = ap (take k) names-is ∙ (unfold overwrite in (take-at (namesOf rs) (drop (length (namesOf rs)) (tables .names)) k (sym (counts .1))))
+      front = ap (take k) names-is ∙ overwrite-front (namesOf rs) (tables .names) (sym (counts .1))
 
       -- what the points ask, of the height as the code holds it
       pub points-asked : ((k ≤ length names₁) × (2 * k ≤ length (tables .points))) × ((i : ℕ) → i < k → Climbs m h′ (getD names₁ i 0))

@@ -7,10 +7,10 @@ use mathlib.Core.List.{List, [], _∷_, _++_, map, flatten}
 use native.Mathlib.Omega.{arith}
 use borrow.Author.Tests.{not-false, leb-true}
 use lib.ListN.{length, take, drop, length-map}
-use lib.Seq.{take-at, drop-at}
 use lib.IntN.{ℤ}
 use Rattle.laws.specs.Booleans.{clash, and-parts}
 use Rattle.laws.specs.Tables.{overwrite}
+use Rattle.laws.specs.TableLaws.{overwrite-front, overwrite-rest}
 use Rattle.mesh.specs.Meshes.{PairedMesh, OrderedMesh}
 use Rattle.mesh.specs.Operation.{Answer, gives, refuses, isRefusal, after}
 use Rattle.mesh.specs.OperationLaws.{None, more, done as none-left, fine-nowhere, verdict-one, none-fine, fine-none, join-fine}
@@ -145,15 +145,6 @@ file-passed {m} {heights} {w} {output = output} f e =
     let later = map usedAt (climbed m (w .ring) hs) ++ (shortOutput (length output) (sweptFile m (w .ring) hs) ∷ []) in
     passed-parts m heights w (fine-none tests (join-fine tests later (given-verdict f e .0)))
 
-module _ (bytes output : List ℕ) where
-  front : take (length bytes) (overwrite bytes output) ≡ bytes
-  unfolding overwrite
-  front = take-at bytes (drop (length bytes) output) (length bytes) refl
-
-  behind : drop (length bytes) (overwrite bytes output) ≡ drop (length bytes) output
-  unfolding overwrite
-  behind = drop-at bytes (drop (length bytes) output) (length bytes) refl
-
 pub file-claim : FileClaim
 file-claim m heights w w′ output output′ answer n f e =
     let hs = heightsTaken (m .paired .mesh .coords) heights in
@@ -166,8 +157,8 @@ file-claim m heights w w′ output output′ answer n f e =
     record {
       cut = layer-of-cut (m .paired) (linked-none m (p .0));
       size = size;
-      bytes = (λ i. take (size i) (written i)) ∙ front bytes output;
-      past = (λ i. drop (size i) (written i)) ∙ behind bytes output ∙ ap (λ (k : ℕ). drop k output) (sym size);
+      bytes = (λ i. take (size i) (written i)) ∙ overwrite-front bytes output refl;
+      past = (λ i. drop (size i) (written i)) ∙ overwrite-rest bytes output refl ∙ ap (λ (k : ℕ). drop k output) (sym size);
       start = start;
       ascent = climb-claim m (none-fine (rightTests m) (p .0)) (w .cut) (p .1) (w .ring) (start .0) 0 _ (start .2) (start .1) hs (t .rises);
     }

@@ -4,11 +4,11 @@ use mathlib.Core.Path.{_≡_, refl, sym, ap, _∙_, subst}
 use mathlib.Core.List.{List, [], _∷_, _++_, flatMap, flatten, append-assoc}
 use native.Mathlib.Omega.{arith}
 use lib.ListN.{length, take, drop, length-append}
-use lib.Seq.{sets, take-at}
+use lib.Seq.{sets}
 use lib.IntN.{ℤ, natAbs, _-ℤ_}
 use Rattle.laws.specs.Integers.{abs-sub}
 use Rattle.laws.specs.Tables.{overwrite}
-use Rattle.laws.specs.TableLaws.{overwrite-none, overwrite-more}
+use Rattle.laws.specs.TableLaws.{overwrite-none, overwrite-more, overwrite-front}
 use Rattle.mesh.specs.Corners.{largest}
 use Rattle.polygons.specs.FlatLaws.{length-numbers, contours-in}
 pub use Rattle.polygons.specs.FlatLaws.{length-ends, length-flatten, flatten-map, ends-map}
@@ -145,8 +145,7 @@ ends-within n k (c ∷ cs) h =
 -- the numbers of all contours in front of a table of points, and their ends in front of a table of ends
 module _ (cs : List (List Point)) (points : List ℤ) (ends : List ℕ) where
   front-ends : take (length cs) (overwrite (endsOf cs) ends) ≡ endsOf cs
-  unfolding overwrite
-  front-ends = take-at (endsOf cs) (drop (length (endsOf cs)) ends) (length cs) (length-ends 0 cs)
+  front-ends = overwrite-front (endsOf cs) ends (length-ends 0 cs)
 
   -- they hold these contours
   pub layer-held : (h : ℤ)

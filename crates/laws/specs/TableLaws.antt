@@ -6,8 +6,8 @@ use mathlib.Core.Logic.{_⊎_, ⊎-elim}
 use native.Mathlib.Omega.{arith}
 use native.Mathlib.Numerals.{add-one}
 use native.Mathlib.Nat.{not-suc-le-zero, le-of-suc-le-suc, add-zero}
-use lib.ListN.{length, getD, set, drop, replicate, length-append, length-drop, List·getD-append}
-use lib.Seq.{sets, getD-append-add, getD-drop, drop-cons, append-snoc, set-at, ext-getD, drop-at}
+use lib.ListN.{length, getD, set, take, drop, replicate, length-append, length-drop, List·getD-append}
+use lib.Seq.{sets, getD-append-add, getD-drop, drop-cons, append-snoc, set-at, ext-getD, take-at, drop-at}
 use Rattle.laws.specs.Booleans.{split-lt}
 use Rattle.laws.specs.Tables.{tabulate, overwrite, refill}
 
@@ -42,6 +42,15 @@ module _ {A : Type 0} where
   pub length-overwrite : (vs t : List A) → length vs ≤ length t → length (overwrite vs t) ≡ length t
   unfolding overwrite
   length-overwrite vs t h = simp (length-append, length-drop) (omega arith)
+
+  module _ (vs t : List A) {n : ℕ} (e : length vs ≡ n) where
+    pub overwrite-front : take n (overwrite vs t) ≡ vs
+    unfolding overwrite
+    overwrite-front = take-at vs (drop (length vs) t) n e
+
+    pub overwrite-rest : drop n (overwrite vs t) ≡ drop n t
+    unfolding overwrite
+    overwrite-rest = drop-at vs (drop (length vs) t) n e ∙ ap (λ (k : ℕ). drop k t) e
 
   pub overwrite-at : (vs t : List A) (i : ℕ) (d : A) → i < length vs → getD (overwrite vs t) i d ≡ getD vs i d
   unfolding overwrite

@@ -5,12 +5,10 @@ use mathlib.Core.Bool.{Bool, true, false, _||_}
 use mathlib.Core.List.{List, [], _∷_, _++_}
 use native.Mathlib.Omega.{arith}
 use lib.Dec.{ltb}
-use lib.ListN.{length, take, drop, length-take}
-use lib.Seq.{take-at}
+use lib.ListN.{length, take, length-take}
 use borrow.Author.Tests.{lt-ltb, le-ltb, ltb-false, not-false}
 use Rattle.laws.specs.Booleans.{or-left, or-right, or-parts}
-use Rattle.laws.specs.Tables.{overwrite}
-use Rattle.laws.specs.TableLaws.{length-tabulate, getD-tabulate}
+use Rattle.laws.specs.TableLaws.{length-tabulate, getD-tabulate, overwrite-front}
 use Rattle.mesh.specs.Corners.{vertexCount, triangleCount}
 use Rattle.mesh.specs.Meshes.{paired}
 use Rattle.mesh.specs.Operation.{gives, refuses, Finding, fine, test, verdict}
@@ -115,10 +113,7 @@ module _ (p : Part) where
     length-pairing = length-tabulate (length (p .corners)) (partnerOf (p .corners))
 
     front : take (length (p .corners)) pairing′ ≡ pairingOf (p .corners)
-    unfolding overwrite
-    front =
-        ap (take (length (p .corners))) (t .pairs nothing)
-        ∙ take-at (pairingOf (p .corners)) (drop (length (pairingOf (p .corners))) pairing) (length (p .corners)) length-pairing
+    front = ap (take (length (p .corners))) (t .pairs nothing) ∙ overwrite-front (pairingOf (p .corners)) pairing length-pairing
 
     -- it can be listed
     pub record ListablePart : Type 0 where

@@ -6,11 +6,11 @@ use mathlib.Core.List.{List, [], _∷_}
 use mathlib.Core.Logic.{⊎-elim}
 use native.Mathlib.Omega.{arith}
 use lib.ListN.{length, take, drop, length-append}
-use lib.Seq.{take-at}
 use lib.IntN.{ℤ}
 use borrow.Author.Tests.{lt-ltb, le-ltb, eq-eqb, ne-eqb}
 use Rattle.laws.specs.Booleans.{clash, is-true, split-lt}
 use Rattle.laws.specs.Tables.{overwrite}
+use Rattle.laws.specs.TableLaws.{overwrite-front}
 use Rattle.mesh.specs.Operation.{gives, refuses, fine, test, _then_, verdict, after}
 use Rattle.mesh.specs.OperationLaws.{apart, same-refusal, same-values, whole-refused, whole-fine, then-refused, verdict-one, verdict-stop, verdict-next}
 use Rattle.mesh.specs.OperationLaws.{join-next, refused-verdict}
@@ -66,7 +66,7 @@ no-room p rules f = is-true (beyond p) (λ e. clash (room e) f)
 front : {A : Type 0} (vs t : List A) {t′ : List A} {n : ℕ} → t′ ≡ overwrite vs t → n ≡ length vs → (n ≤ length t′) × (take n t′ ≡ vs)
 unfolding overwrite
 front vs t {t′} {n} e f =
-    (omega (arith, ap length e, length-append vs (drop (length vs) t)), ap (take n) e ∙ take-at vs (drop (length vs) t) n (sym f))
+    (omega (arith, ap length e, length-append vs (drop (length vs) t)), ap (take n) e ∙ overwrite-front vs t (sym f))
 
 module _ {input : List ℕ} {t t′ : Part} {result : ReadPartAnswer} (k : ReadsPart input t result t′) (bytes : Bytes input)
     (short : length input ≤ mostInput) where

@@ -7,8 +7,8 @@ use mathlib.Core.Logic.{_↔_}
 use native.Mathlib.Omega.{arith}
 use borrow.Author.Tests.{le-ltb}
 use lib.ListN.{length, take, drop, length-append}
-use lib.Seq.{take-at}
 use Rattle.laws.specs.Tables.{overwrite}
+use Rattle.laws.specs.TableLaws.{overwrite-front}
 use Rattle.mesh.specs.Operation.{gives, refuses, after}
 use Rattle.mesh.specs.OperationLaws.{First, None, more, done, first-refused, none-fine, then-refused, then-fine, Recovers, given-verdict, left-given}
 use Rattle.mesh.specs.OperationLaws.{refused-exactly, given-exactly, only-outcome}
@@ -66,5 +66,5 @@ module _ {input output : List ℕ} {result : ListAnswer} {output′ : List ℕ} 
       let is : output′ ≡ overwrite (listed input) output = left-given k e in
       record {
         within = omega (arith, ap length is, length-append (listed input) (drop (length (listed input)) output));
-        text = ap (take n) is ∙ take-at (listed input) (drop (length (listed input)) output) n (sym size);
+        text = ap (take n) is ∙ overwrite-front (listed input) output (sym size);
       }
