@@ -59,7 +59,7 @@ extern "C" {
 /* The version. Until 1.0 a change of behaviour or of a file raises the minor
  * number. */
 #define WADROLES_VERSION_MAJOR 0
-#define WADROLES_VERSION_MINOR 2
+#define WADROLES_VERSION_MINOR 3
 #define WADROLES_VERSION_PATCH 0
 
 /* The most vertices and triangles a mesh may have. */
@@ -175,13 +175,18 @@ uint32_t wadroles_check(const int32_t *coords, size_t coords_len,
  *   names   one entry per point: the crossing
  *   points  two entries per point: x and y of the place where the crossing's
  *           edge meets the height, each rounded to the nearest whole number,
- *           halves to the larger
+ *           halves away from zero
  *   ends    one entry per contour: the number of points up to its end
  *
  * A contour starts at its least corner, and contours stand by first corner.
  * Each has at least two points; equal neighbouring points are kept. Later
  * entries of the three tables stay. The fourth, marks, is a work table: it is
  * zero in its first corners_len entries, and later ones stay.
+ *
+ * The mesh with x (or y) of every vertex negated has, at each height, the same
+ * names and ends, and the same points with x (or y) negated. It is inside out
+ * as it stands; if you turn its triangles round as well, the rings run
+ * backwards.
  *
  * On success out[0] is the number of contours and out[1] the number of points.
  *

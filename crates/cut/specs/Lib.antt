@@ -5,4 +5,6 @@ pub mod Solid
 pub mod SolidLaws
 pub mod OutlineLaws
 pub mod CutLaws
+pub mod Mirrors
+pub mod MirrorLaws
 pub mod Worked

@@ -4,8 +4,9 @@ use mathlib.Core.Path.{_≡_, refl}
 use mathlib.Core.List.{List, [], _∷_, flatten}
 use lib.Dec.{ltb}
 use lib.ListN.{replicate}
-use lib.IntN.{ℤ, pos}
+use lib.IntN.{ℤ, pos, negsuc}
 use Rattle.laws.specs.Least.{least, some}
+use Rattle.laws.specs.Tables.{tabulate}
 use Rattle.mesh.specs.Meshes.{PairedMesh, paired}
 use Rattle.mesh.specs.Operation.{gives, test, _then_, verdict, answerOf}
 use Rattle.mesh.specs.Tests.{sizesFit, outOfRange, namesNone, namesTwice, reverse, pairedAt}
@@ -13,6 +14,7 @@ use Rattle.section.specs.Section.{VertexSet, below, rising, risingIn, successor
 use Rattle.section.specs.Contours.{member, walk, contours, traceAt, traceTo, trace, endsFrom, endsOf}
 use Rattle.cut_points.specs.Points.{numerator, denominator, rounded, exactOver, exactUnder, pointAt, numbersOf, pointsOf}
 use Rattle.cut.specs.Cut.{CutTables, lent, cutRoomFor, metAt, section, cutting}
+use Rattle.cut.specs.Mirrors.{mirroredRow, mirroredMesh}
 
 -- part P, and its pairing
 abbrev coords : List ℤ
@@ -61,6 +63,15 @@ points-5 = refl
 ends-5 : endsOf {A = ℕ} ((4 ∷ 10 ∷ 6 ∷ []) ∷ []) ≡ 3 ∷ []
 unfolding endsFrom
 ends-5 = refl
+
+-- and of the mirror images of P: (−5,0), (0,5), (0,0) by x, and (5,0), (0,−5), (0,0) by y
+mirrored-x : pointsOf (mirroredMesh 0 p .mesh) (pos 5) (4 ∷ 10 ∷ 6 ∷ []) ≡ negsuc 4 ∷ pos 0 ∷ pos 0 ∷ pos 5 ∷ pos 0 ∷ pos 0 ∷ []
+unfolding mirroredRow tabulate numbersOf pointAt exactOver exactUnder numerator denominator rounded
+mirrored-x = refl
+
+mirrored-y : pointsOf (mirroredMesh 1 p .mesh) (pos 5) (4 ∷ 10 ∷ 6 ∷ []) ≡ pos 5 ∷ pos 0 ∷ pos 0 ∷ negsuc 4 ∷ pos 0 ∷ pos 0 ∷ []
+unfolding mirroredRow tabulate numbersOf pointAt exactOver exactUnder numerator denominator rounded
+mirrored-y = refl
 
 -- height 10: three times (0,0) (WORKED-8)
 at-10 : section p (pos 10) ≡ contours ((4 ∷ 10 ∷ 6 ∷ []) ∷ [])

@@ -1,37 +1,53 @@
--- Laws of points: a point is within half a unit of the exact crossing
--- (RESULT-3) and in coordinate range; the points of a list of names.
+-- Laws of points: a point is within half a unit of the exact crossing (RESULT-3)
+-- and in coordinate range; the negated crossing's point; the points of a list of names.
 use Prim.Native.Nat.{ℕ, zero, suc, _+_, _*_, _/_, _%_, _<_, _≤_}
-use mathlib.Core.Path.{_≡_, sym, ap, _∙_, subst}
+use mathlib.Core.Path.{_≡_, refl, sym, ap, _∙_, subst}
 use mathlib.Core.List.{List, [], _∷_, _++_, map, map-append}
 use mathlib.Core.Bool.{Bool, true, false, not}
-use native.Mathlib.Nat.{mul-le-mul-right, lt-of-mul-lt-mul-right}
+use native.Mathlib.Nat.{mul-le-mul-right, lt-of-mul-lt-mul-right, div-add-mod', mod-lt, div-eq-of-lt}
 use native.Mathlib.Omega.{arith}
 use lib.Dec.{T}
 use lib.ListN.{length, getD, length-map}
-use lib.IntN.{ℤ, pos, negsuc, natAbs, _+ℤ_, _-ℤ_, _*ℤ_}
+use lib.IntN.{ℤ, pos, negsuc, negℤ, negℤ-negℤ, natAbs, _+ℤ_, _-ℤ_, _*ℤ_}
 use lib.Signed.{_≤ℤ_, _<ℤ_, ltZ, ltZ-yes, ltZ-no}
-use Rattle.laws.specs.Integers.{one-zero, abs-is, abs-add, abs-sub, abs-mul, sum, diff, prod, le-in, lt-in, le-out, lt-out}
-use Rattle.laws.specs.Floor.{floor-is}
-use Rattle.laws.specs.Ring.{x, _⊕_, _⊖_, _⊗_, ring}
+use Rattle.laws.specs.Integers.{one-zero, abs-is, abs-neg, abs-add, abs-sub, abs-mul, diff, le-in, lt-in, le-out, lt-out}
+use Rattle.laws.specs.Ring.{x, _⊕_, _⊖_, _⊗_, ⊝, ring}
 use Rattle.mesh.specs.Corners.{largest, vertexCount, nextCorner, startOf, endOf, coordOf, zOf}
 use Rattle.mesh.specs.Meshes.{Mesh}
 use Rattle.mesh.specs.Tests.{WholeTriangles}
 use Rattle.mesh.specs.TestLaws.{next-below}
 use Rattle.polygons.specs.Flat.{Point}
 use Rattle.polygons.specs.FlatLaws.{noPoint, length-numbers, numbers-append, number-x, number-y, map-at}
-use Rattle.cut_points.specs.Points.{numerator, denominator, rounded, exactOver, exactUnder, pointAt, pointOf, numbersOf, pointsOf}
+use Rattle.cut_points.specs.Points.{numerator, denominator, nearest, rounded, exactOver, exactUnder, pointAt, pointOf, numbersOf, pointsOf}
 use Rattle.cut_points.specs.Climbs.{Fraction, CrossedEdge, Climbs}
 
 -- ---- rounding
 
+nearest-zero : (d : ℕ) → nearest 0 d ≡ 0
+nearest-zero zero = refl
+nearest-zero (suc d) = div-eq-of-lt (omega arith)
+
+-- an exact value negated has its point negated (POINT-4)
+pub rounded-neg : (n d : ℤ) → rounded (negℤ n) d ≡ negℤ (rounded n d)
+unfolding rounded
+rounded-neg (pos zero) d = let e = nearest-zero (natAbs d) in ap pos e ∙ ap (λ (k : ℕ). negℤ (pos k)) (sym e)
+rounded-neg (pos (suc n)) d = refl
+rounded-neg (negsuc n) d = sym (negℤ-negℤ (pos (nearest (suc n) (natAbs d))))
+
 -- at most half a unit from n / d
+near-size : (n d : ℕ) → 0 < d → 2 * natAbs (pos (d * nearest n d) -ℤ pos n) ≤ d
+near-size n d h =
+    let q = nearest n d in
+    let e = pos (d * q) -ℤ pos n in
+    omega (arith, div-add-mod' (2 * n + d) (2 * d), mod-lt (2 * n + d) {m = 2 * d} (omega arith), abs-is e, one-zero e, diff (pos (d * q)) (pos n))
+
 pub rounded-near : (n d : ℤ) → pos 0 <ℤ d → 2 * natAbs (d *ℤ rounded n d -ℤ n) ≤ natAbs d
 unfolding rounded
-rounded-near n (pos d) h =
-    let q = rounded n (pos d) in
-    let f = floor-is (pos 2 *ℤ n +ℤ pos d) (2 * d) (omega (arith, lt-in h)) in
-    let e = pos d *ℤ q -ℤ n in
-    omega (arith, abs-is e, one-zero e, f .low, f .high, diff (pos d *ℤ q) n, prod (pos d) q, sum (pos 2 *ℤ n) (pos d), prod (pos 2) n)
+rounded-near (pos n) (pos d) h = near-size n d (omega (arith, lt-in h))
+rounded-near (negsuc n) (pos d) h =
+    let q = pos (nearest (suc n) d) in
+    let e = ring (pos d ∷ q ∷ pos (suc n) ∷ []) (x 0 ⊗ ⊝ (x 1) ⊖ ⊝ (x 2)) (⊝ (x 0 ⊗ x 1 ⊖ x 2)) tt in
+    subst (λ (k : ℕ). 2 * k ≤ d) (sym (ap natAbs e ∙ abs-neg (pos d *ℤ q -ℤ pos (suc n)))) (near-size (suc n) d (omega (arith, lt-in h)))
 rounded-near n (negsuc d) h = absurd (h .lt)
 
 -- in every range from −k to k that n / d is in
@@ -182,7 +198,7 @@ module _ (m : Mesh) (h : ℤ) where
     pub points-y : getD (pointsOf m h names) (2 * i + 1) (pos 0) ≡ pointAt m h 1 (getD names i 0)
     points-y = number-y (map (pointOf m h) names) i ∙ ap (λ (p : Point). p .y) (map-at (pointOf m h) names i 0 noPoint l)
 
-    points-at : (axis : ℕ) → axis ≤ 1 → getD (pointsOf m h names) (2 * i + axis) (pos 0) ≡ pointAt m h axis (getD names i 0)
+    pub points-at : (axis : ℕ) → axis ≤ 1 → getD (pointsOf m h names) (2 * i + axis) (pos 0) ≡ pointAt m h axis (getD names i 0)
     points-at zero k = let e : 2 * i + 0 ≡ 2 * i = omega arith in ap (λ (j : ℕ). getD (pointsOf m h names) j (pos 0)) e ∙ points-x
     points-at (suc zero) k = points-y
     points-at (suc (suc axis)) k = absurd (omega arith)

@@ -1,8 +1,7 @@
 -- Points (POINT-1 to POINT-3): where an edge meets the height h, exactly and as a point.
-use Prim.Native.Nat.{ℕ}
+use Prim.Native.Nat.{ℕ, suc, _+_, _*_, _/_}
 use mathlib.Core.List.{List, map}
-use lib.IntN.{ℤ, pos, natAbs, _+ℤ_, _-ℤ_, _*ℤ_}
-use lib.Signed.{shrZ}
+use lib.IntN.{ℤ, pos, negsuc, negℤ, natAbs, _+ℤ_, _-ℤ_, _*ℤ_}
 use Rattle.mesh.specs.Corners.{startOf, endOf, coordOf, zOf}
 use Rattle.mesh.specs.Meshes.{Mesh}
 use Rattle.polygons.specs.Flat.{Point}
@@ -17,13 +16,15 @@ numerator u0 u1 z0 z1 h = u0 *ℤ (z1 -ℤ z0) +ℤ (u1 -ℤ u0) *ℤ (h -ℤ z0
 unfoldable pub denominator : ℤ → ℤ → ℤ
 denominator z0 z1 = z1 -ℤ z0
 
--- n / d rounded down, also below zero (WRONG-9), for d above 0
-abbrev pub floored : ℤ → ℤ → ℤ
-floored n d = shrZ n (natAbs d)
+-- n / d rounded to the nearest whole number, halves up, which is away from zero, for d above 0
+abbrev pub nearest : ℕ → ℕ → ℕ
+nearest n d = (2 * n + d) / (2 * d)
 
--- n / d rounded to the nearest whole number, halves to the larger (POINT-2), for d above 0
+-- n / d rounded to the nearest whole number, halves away from zero (POINT-2), for d above 0:
+-- its size is rounded and its sign put back, so that nothing below zero is cut off toward zero (WRONG-9)
 unfoldable pub rounded : ℤ → ℤ → ℤ
-rounded n d = floored (pos 2 *ℤ n +ℤ d) (pos 2 *ℤ d)
+rounded (pos n) d = pos (nearest n (natAbs d))
+rounded (negsuc n) d = negℤ (pos (nearest (suc n) (natAbs d)))
 
 -- the exact x (axis 0) or y (axis 1) on the edge of corner c is exactOver / exactUnder (POINT-1)
 unfoldable pub exactOver : Mesh → ℤ → ℕ → ℕ → ℤ

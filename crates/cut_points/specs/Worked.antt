@@ -8,14 +8,14 @@ use Rattle.cut_points.specs.Points.{numerator, denominator, rounded, exa
 use Rattle.cut_points.specs.Normals.{normalX, normalY}
 
 -- edge (0,0,0) to (1,0,2) at 1: x is 1 (WORKED-11)
-half-up : rounded (numerator (pos 0) (pos 1) (pos 0) (pos 2) (pos 1)) (denominator (pos 0) (pos 2)) ≡ pos 1
+half : rounded (numerator (pos 0) (pos 1) (pos 0) (pos 2) (pos 1)) (denominator (pos 0) (pos 2)) ≡ pos 1
 unfolding rounded numerator denominator
-half-up = refl
+half = refl
 
--- to (−1,0,2): x is 0 (WORKED-12)
-minus-half-up : rounded (numerator (pos 0) (negsuc 0) (pos 0) (pos 2) (pos 1)) (denominator (pos 0) (pos 2)) ≡ pos 0
+-- to (−1,0,2): x is −1 (WORKED-12)
+minus-half : rounded (numerator (pos 0) (negsuc 0) (pos 0) (pos 2) (pos 1)) (denominator (pos 0) (pos 2)) ≡ negsuc 0
 unfolding rounded numerator denominator
-minus-half-up = refl
+minus-half = refl
 
 -- part P
 abbrev coords : List ℤ

@@ -11,15 +11,15 @@ use mesh::limits::LARGEST_COORDINATE_64;
 use mesh::numbers::wide;
 use mesh::unchecked::next_corner;
 
-// n / d to the nearest whole number, halves to the larger (POINT-2). 2^20
-// divisors more make the dividend positive, so that `/` rounds down.
+// n / d to the nearest whole number, halves away from zero (POINT-2). 2^20 divisors more make
+// the dividend positive, so that `/` rounds down; one less takes a half below zero down as well.
 fn rounded(n: i64, d: i64) -> i64
     requires { ⌜ Fraction n d ⌝ }
     ensures value { λ r. ⌜ r ≡ rounded n d ⌝ }
 {
     let m = 2 * d;
-    let s = 2 * n + d;
-    let t = s + LARGEST_COORDINATE_64 * m;
+    let half = if n < 0 { d - 1 } else { d };
+    let t = 2 * n + half + LARGEST_COORDINATE_64 * m;
     t / m - LARGEST_COORDINATE_64
 }
 

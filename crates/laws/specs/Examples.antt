@@ -4,14 +4,13 @@ use mathlib.Core.List.{[], _∷_}
 use Prim.Native.Nat.{_+_}
 use native.Mathlib.Omega.{arith}
 use lib.Dec.{ltb}
-use lib.IntN.{ℤ, pos, negsuc, _+ℤ_, _-ℤ_, _*ℤ_}
-use lib.Signed.{_≤ℤ_, shrZ}
+use lib.IntN.{ℤ, pos, _+ℤ_, _-ℤ_, _*ℤ_}
+use lib.Signed.{_≤ℤ_}
 use Rattle.laws.specs.Least.{least}
 use Rattle.laws.specs.Count.{count}
 use Rattle.laws.specs.Tables.{tabulate, overwrite}
 use Rattle.laws.specs.Ring.{x, #, _⊕_, _⊖_, _⊗_, ring}
 use Rattle.laws.specs.Linear.{le-by}
-use Rattle.laws.specs.Floor.{floor-shift}
 
 -- the least number above 2, and none above 9 below 5
 least-found : least 5 (λ i. ltb 2 i) ≡ 3
@@ -36,13 +35,6 @@ squares a b = ring (a ∷ b ∷ []) ((x 0 ⊕ x 1) ⊗ (x 0 ⊖ x 1)) (x 0 ⊗ x
 -- the shoelace sum of two points does not change when both are moved along the line through them
 shear : (a b c d : ℤ) → (a +ℤ c) *ℤ d -ℤ c *ℤ (b +ℤ d) ≡ a *ℤ d -ℤ c *ℤ b
 shear a b c d = ring (a ∷ b ∷ c ∷ d ∷ []) ((x 0 ⊕ x 2) ⊗ x 3 ⊖ x 2 ⊗ (x 1 ⊕ x 3)) (x 0 ⊗ x 3 ⊖ x 2 ⊗ x 1) tt
-
--- floor division goes down for negative numbers
-floor-down : shrZ (negsuc 0) 2 ≡ negsuc 0
-floor-down = refl
-
-shifted : (z : ℤ) → shrZ (z +ℤ pos 5 *ℤ pos 3) 3 ≡ shrZ z 3 +ℤ pos 5
-shifted z = floor-shift z 3 (pos 5) (omega arith)
 
 one-less : (a : ℤ) → (a -ℤ pos 1) ≤ℤ a
 one-less a = le-by (a ∷ []) (x 0 ⊖ # (pos 1)) (x 0) (omega arith)

@@ -10,7 +10,6 @@ pub mod CountLaws
 pub mod Integers
 pub mod Ring
 pub mod Linear
-pub mod Floor
 pub mod Machine
 pub mod SignLaws
 pub mod Examples

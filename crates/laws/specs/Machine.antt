@@ -3,20 +3,20 @@
 -- One combinator for each operation makes the `Rd` of its result (`mul r s tt`), and another answers the need that the result fits (`mul-ok r s tt`).
 -- The `tt` is the bound's comparison with the width, which computes. A proof mirrors the code:  `dx = sub x1 x0 tt`.
 -- The combinators are `abbrev`, so that the bits compute to the term that a need shows. Assumes nothing.
-use mathlib.Core.Path.{_≡_, refl, sym, ap, _∙_, subst}
+use mathlib.Core.Path.{_≡_, sym, ap, _∙_, subst}
 use mathlib.Core.Bool.{Bool, true, false, not}
-use Prim.Native.Nat.{ℕ, zero, suc, _+_, _*_, _<_, _≤_, _^_}
-use native.Mathlib.Nat.{mul-le-mul, le-trans, le-refl, lt-of-le-of-lt, div-le-self}
+use Prim.Native.Nat.{ℕ, zero, suc, _+_, _*_, _/_, _<_, _≤_, _^_}
+use native.Mathlib.Nat.{mul-le-mul, le-trans, le-refl, le-of-eq, lt-of-le-of-lt, div-le-self}
 use native.Mathlib.Omega.{arith}
 use lib.Pow.{pow-pos}
 use mir.Facts.{sfits-widen}
 use lib.Dec.{T, leb, ltb, ltb→lt}
 use lib.IntN.{ℤ, pos, negsuc, natAbs, _+ℤ_, _-ℤ_, _*ℤ_}
-use lib.Signed.{_≤ℤ_, _<ℤ_, mag, leZ, ltZ, leZ-yes, ltZ-yes, ltZ-no, quotZ, shrZ, <ℤ-irrefl, natAbs-le, nonNeg, yes-nonNeg, pos-natAbs}
+use lib.Signed.{_≤ℤ_, _<ℤ_, mag, leZ, ltZ, leZ-yes, ltZ-yes, ltZ-no, quotZ, <ℤ-irrefl, natAbs-le, nonNeg, yes-nonNeg, pos-natAbs}
 use mir.Syntax.{Width}
 use mir.Val.{SFits, Fits, toZ, ofZ, hbits, bits}
 use mir.ValLaws.{toZ-ofZ, toZ-pos}
-use Rattle.laws.specs.Integers.{abs-add, abs-sub, abs-mul, mag-le, lt-not-le, eqZ, eqZ-refl, eqZ-false}
+use Rattle.laws.specs.Integers.{abs-neg, abs-add, abs-sub, abs-mul, mag-le, lt-not-le, eqZ, eqZ-refl, eqZ-false}
 
 pub record Rd (w : Width) (z : ℤ) (B : ℕ) : Type 0 where
   pub n : ℕ
@@ -126,32 +126,26 @@ module _ {w : Width} {x y : ℤ} {B C : ℕ} (r : Rd w x B) (s : Rd w y C) where
 abbrev pub fit : {w : Width} {z : ℤ} → SFits w z → Rd w z (2 ^ hbits w)
 fit {w} {z} f = arg f (natAbs-le z (f .sfits))
 
--- division of numbers that are not negative rounds down
-pub quot-is : (x y : ℤ) → pos 0 ≤ℤ x → pos 0 <ℤ y → quotZ x y ≡ shrZ x (natAbs y)
-quot-is (pos a) (pos b) h k = refl
-quot-is (pos a) (negsuc b) h k = absurd (k .lt)
-quot-is (negsuc a) y h k = absurd (h .le)
-
-pub shr-abs : (x : ℤ) (k : ℕ) → pos 0 ≤ℤ x → natAbs (shrZ x k) ≤ natAbs x
-shr-abs (pos a) k h = div-le-self a k
-shr-abs (negsuc a) k h = absurd (h .le)
+-- a quotient, rounded toward zero, is no larger than the dividend
+pub quot-abs : (x y : ℤ) → natAbs (quotZ x y) ≤ natAbs x
+quot-abs (pos a) (pos b) = div-le-self a b
+quot-abs (pos a) (negsuc b) = le-trans (le-of-eq (abs-neg (pos (a / suc b)))) (div-le-self a (suc b))
+quot-abs (negsuc a) (pos b) = le-trans (le-of-eq (abs-neg (pos (suc a / b)))) (div-le-self (suc a) b)
+quot-abs (negsuc a) (negsuc b) = div-le-self (suc a) (suc b)
 
 pub bits-pos : (w : Width) (n : ℕ) (y : ℤ) → pos 0 <ℤ y → toZ w n ≡ y → 0 < n
 bits-pos w zero y k e = absurd (<ℤ-irrefl (subst (λ (z : ℤ). pos 0 <ℤ z) (sym e ∙ toZ-pos w 0 (pow-pos (hbits w))) k))
 bits-pos w (suc n) y k e = omega arith
 
-module _ {w : Width} {x y : ℤ} {B C : ℕ} (r : Rd w x B) (s : Rd w y C) (h : pos 0 ≤ℤ x) (k : pos 0 <ℤ y) where
-  pub div-is : quotZ (toZ w (r .n)) (toZ w (s .n)) ≡ shrZ x (natAbs y)
-  div-is = (λ i. quotZ (r .is i) (s .is i)) ∙ quot-is x y h k
-
-  pub div-le : natAbs (shrZ x (natAbs y)) ≤ B
-  div-le = le-trans (shr-abs x (natAbs y) h) (r .le)
+module _ {w : Width} {x y : ℤ} {B C : ℕ} (r : Rd w x B) (s : Rd w y C) (k : pos 0 <ℤ y) where
+  pub div-le : natAbs (quotZ x y) ≤ B
+  div-le = le-trans (quot-abs x y) (r .le)
 
   pub div-ok : T (ltb B (2 ^ hbits w)) → (0 < s .n) × SFits w (quotZ (toZ w (r .n)) (toZ w (s .n)))
-  div-ok t = (bits-pos w (s .n) y k (s .is), ok div-is div-le t)
+  div-ok t = (bits-pos w (s .n) y k (s .is), ok (λ i. quotZ (r .is i) (s .is i)) div-le t)
 
-  abbrev pub div : T (ltb B (2 ^ hbits w)) → Rd w (shrZ x (natAbs y)) B
-  div t = put div-is div-le t
+  abbrev pub div : T (ltb B (2 ^ hbits w)) → Rd w (quotZ x y) B
+  div t = put (λ i. quotZ (r .is i) (s .is i)) div-le t
 
 -- a cast of a number that is not negative to an unsigned width
 pub unsigned-ok : {w w′ : Width} {z : ℤ} {B : ℕ} (r : Rd w z B) → pos 0 ≤ℤ z → T (ltb B (2 ^ bits w′))

@@ -106,7 +106,7 @@ results =
     ∷ layered noContour
     ∷ bytes file
     ∷ number (pos 1)
-    ∷ number (pos 0)
+    ∷ number (negsuc 0)
     ∷ refused 6 1
     ∷ refused 13 0
     ∷ []
@@ -173,13 +173,13 @@ unfolding filedAs verdict _then_ test some least overwrite tabulate sizesFit cut
     rounded encodeAll groups encodeNumber coordinateFormat pointFormat contourFormat contourList heightAbove layerFormat layerFile
 file-P = refl
 
-half-up : edgeAs (pos 0 ∷ pos 0 ∷ pos 0 ∷ pos 1 ∷ pos 0 ∷ pos 2 ∷ []) (pos 1) ≡ number (pos 1)
+half : edgeAs (pos 0 ∷ pos 0 ∷ pos 0 ∷ pos 1 ∷ pos 0 ∷ pos 2 ∷ []) (pos 1) ≡ number (pos 1)
 unfolding edgeAs pointAt exactOver exactUnder numerator denominator rounded
-half-up = refl
+half = refl
 
-minus-half-up : edgeAs (pos 0 ∷ pos 0 ∷ pos 0 ∷ negsuc 0 ∷ pos 0 ∷ pos 2 ∷ []) (pos 1) ≡ number (pos 0)
+minus-half : edgeAs (pos 0 ∷ pos 0 ∷ pos 0 ∷ negsuc 0 ∷ pos 0 ∷ pos 2 ∷ []) (pos 1) ≡ number (negsuc 0)
 unfolding edgeAs pointAt exactOver exactUnder numerator denominator rounded
-minus-half-up = refl
+minus-half = refl
 
 too-long : readFileAs (0x80 ∷ 0x00 ∷ []) ≡ refused 13 0
 unfolding readFileAs verdict _then_ test some least brokenAt heldOr readLayerRoomFor layersOf layerFile layerFormat heightAbove contourList contourFormat
@@ -205,8 +205,8 @@ worked = λ i.
     ∷ from-ready (λ m. cutAs m (pos 0)) at-0 i
     ∷ from-ready (λ m. cutAs m (pos 11)) at-11 i
     ∷ from-ready (λ m. filedAs m heights 23) file-P i
-    ∷ half-up i
-    ∷ minus-half-up i
+    ∷ half i
+    ∷ minus-half i
     ∷ P-opened i
     ∷ too-long i
     ∷ []

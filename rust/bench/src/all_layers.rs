@@ -1,5 +1,5 @@
 use crate::comparison::{Bench, Comparison, Figure, Kind, Row};
-use crate::inputs::{heights, largest_cone, largest_torus, point_count, tori};
+use crate::inputs::{cone_point_count, heights, largest_cone, largest_torus, point_count, tori};
 use crate::owned::{Ordered, Work, JUNK};
 use crate::unproved::{self, AllLayers};
 use crate::versions::{Subject, Version};
@@ -9,7 +9,6 @@ use std::hint::black_box;
 const HEIGHTS: i32 = 1000;
 const MORE_HEIGHTS: i32 = 4096;
 const CONE_HEIGHTS: i32 = 100;
-const CONE_POINTS: usize = 32_766;
 const SINGLE_HEIGHTS: i32 = 20;
 const RUNS: usize = 11;
 
@@ -109,10 +108,8 @@ fn torus_by_points() -> Swept {
 
 fn cone_by_points() -> Swept {
     let swept = Swept::new(largest_cone(), CONE_HEIGHTS, unproved::all_layers);
-    let layers = swept.calls.concat();
-    let mut points = layers.iter().map(|&h| point_count(&swept.input.mesh, &[h]));
-    assert!(points.all(|count| count == CONE_POINTS));
-    swept.with_size(layers.len() * CONE_POINTS)
+    let points = cone_point_count(&swept.input.mesh, &swept.calls[0]);
+    swept.with_size(points)
 }
 
 /// The layer file of the largest torus at so many heights.

@@ -4,6 +4,9 @@ use crate::comparison::Kind;
 use meshes::shapes::{bipyramid, torus};
 use meshes::{Mesh, Random};
 
+/// The points of each layer of the largest double cone.
+const CONE_POINTS: usize = 32_766;
+
 /// Meshes of 16,384, 32,768 and 65,536 triangles, or nearly so.
 pub fn kinds<S: 'static>(subject: fn(Mesh) -> S) -> Vec<Kind<S>> {
     let cones = [8_192, 16_383, 32_766].map(double_cone);
@@ -58,6 +61,13 @@ pub fn point_count(mesh: &Mesh, heights: &[i32]) -> usize {
     mesh.edges()
         .map(|(from, to)| up_to(to).saturating_sub(up_to(from)))
         .sum()
+}
+
+/// The same of the largest double cone, whose every layer has as many.
+pub fn cone_point_count(cone: &Mesh, heights: &[i32]) -> usize {
+    let mut points = heights.iter().map(|&h| point_count(cone, &[h]));
+    assert!(points.all(|count| count == CONE_POINTS));
+    heights.len() * CONE_POINTS
 }
 
 fn shuffled(mut mesh: Mesh) -> Mesh {

@@ -2,6 +2,7 @@
 
 use crate::area::cross;
 use crate::mesh::{edge, reverse, Edge};
+use std::cmp::Ordering;
 use std::collections::{BTreeMap, BTreeSet};
 
 /// The corners of a ring, in the sequence of its crossings, from the least.
@@ -68,15 +69,18 @@ impl Plane<'_> {
     }
 }
 
-/// The whole number nearest to a fraction, at a half the larger of the two. The denominator must
-/// be above zero.
+/// The whole number nearest to a fraction: of the two round it the nearer one, and at equal
+/// distance the one further from zero. The denominator must be above zero.
 fn nearest((numerator, denominator): (i128, i128)) -> i128 {
     let below = numerator.div_euclid(denominator);
-    let rest = numerator.rem_euclid(denominator);
-    if 2 * rest < denominator {
-        below
-    } else {
-        below + 1
+    let above = below + 1;
+    let down = numerator - below * denominator;
+    let up = above * denominator - numerator;
+    match down.cmp(&up) {
+        Ordering::Less => below,
+        Ordering::Greater => above,
+        Ordering::Equal if below.abs() > above.abs() => below,
+        Ordering::Equal => above,
     }
 }
 
@@ -134,22 +138,32 @@ mod tests {
     }
 
     #[test]
-    fn halves_go_to_the_larger_number() {
+    fn halves_go_away_from_zero() {
         for (numerator, expected) in [
-            (-7, -3),
+            (-7, -4),
             (-6, -3),
-            (-5, -2),
-            (-3, -1),
-            (-1, 0),
+            (-5, -3),
+            (-3, -2),
+            (-1, -1),
             (0, 0),
             (1, 1),
             (2, 1),
             (3, 2),
+            (5, 3),
+            (7, 4),
         ] {
             assert_eq!(nearest((numerator, 2)), expected, "{numerator}/2");
         }
-        let thirds = [-4, -2, -1, 1, 2, 4].map(|numerator| nearest((numerator, 3)));
-        assert_eq!(thirds, [-1, -1, 0, 0, 1, 1]);
+        let sixths = [-9, -3, 3, 9].map(|numerator| nearest((numerator, 6)));
+        assert_eq!(sixths, [-2, -1, 1, 2]);
+    }
+
+    #[test]
+    fn other_fractions_go_to_the_nearest() {
+        let thirds = [-5, -4, -2, -1, 1, 2, 4, 5].map(|numerator| nearest((numerator, 3)));
+        assert_eq!(thirds, [-2, -1, -1, 0, 0, 1, 1, 2]);
+        let fifths = [-8, -7, -3, -2, 2, 3, 7, 8].map(|numerator| nearest((numerator, 5)));
+        assert_eq!(fifths, [-2, -1, -1, 0, 0, 1, 1, 2]);
     }
 
     #[test]

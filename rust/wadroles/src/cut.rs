@@ -7,9 +7,13 @@ use crate::{Counts, CutTables, PairedMesh, Refusal};
 /// The contours of the layer are closed, with the solid on the left seen from above. A contour
 /// names the corners whose edges lead up through the height, from a vertex with z < `h` to one with
 /// z ≥ `h`; each point is where the edge meets the height, rounded to the nearest whole number,
-/// halves to the larger. A contour starts at its least corner, and contours stand by first corner.
+/// halves away from zero. A contour starts at its least corner, and contours stand by first corner.
 /// Equal neighbouring points are kept. [`contour`](crate::contour()) gives the points of one of
 /// them.
+///
+/// The mesh with x (or y) of every vertex negated has, at each height, the same names and ends, and
+/// the same points with x (or y) negated. It is inside out as it stands; if you turn its triangles
+/// round as well, the rings run backwards.
 ///
 /// The pairing may come from anyone; [`check`](crate::check()) makes one. It is tested, and its
 /// entries beyond one per corner are ignored.

@@ -117,8 +117,11 @@ pub(super) fn write_point(mesh: Mesh<'_>, h: i32, corner: usize, point: &mut [i3
     let [low, high] = [corner, next(corner)].map(|c| &coords[3 * corners[c] as usize..][..3]);
     let (part, rise) = (i64::from(h - low[2]), i64::from(high[2] - low[2]));
     for axis in 0..2 {
-        let doubled = 2 * i64::from(high[axis] - low[axis]) * part;
-        point[axis] = low[axis] + (doubled + rise).div_euclid(2 * rise) as i32;
+        let offset = i64::from(high[axis] - low[axis]) * part;
+        let is_below = i64::from(low[axis]) * rise + offset < 0;
+        // A half goes up, and below zero, where the dividend is one less, down.
+        let dividend = 2 * offset + rise - i64::from(is_below);
+        point[axis] = low[axis] + dividend.div_euclid(2 * rise) as i32;
     }
 }
 

@@ -1,10 +1,12 @@
 -- `rounded` meets its contract.
-use mathlib.Core.Path.{_∙_}
-use lib.IntN.{pos, _+ℤ_, _*ℤ_}
+use mathlib.Core.Path.{_≡_, ap, _∙_}
+use mathlib.Core.Logic.{⊎-elim}
+use lib.IntN.{pos, _*ℤ_}
+use lib.Signed.{quotZ}
 use mir.Syntax.{w64}
-use Rattle.laws.specs.Machine.{Rd, arg, lit, add, add-ok, sub, sub-ok, mul, mul-ok, div, div-ok}
-use Rattle.cut_points.specs.Points.{floored}
-use Rattle.cut_points.proofs.Rounding.{raised, dividend-small, raised-above, divisor-above, rounded-is}
+use mir.Val.{toZ}
+use Rattle.laws.specs.Machine.{Rd, arg, lit, add, add-ok, sub, sub-ok, mul, mul-ok, div, div-ok, lt-true, lt-false}
+use Rattle.cut_points.proofs.Rounding.{halfFor, raised, half-small, half-less, half-kept, dividend-small, divisor-above, rounded-is}
 use Rattle.cut_points.proofs.unchecked_points.rounded.Statement.{statement}
 use Rattle.cut_points.proofs.unchecked_points.rounded.Tie as tie
 
@@ -19,38 +21,51 @@ module _ (c : tie.Start) where
   abbrev m : Rd w64 (pos 2 *ℤ c .args .d) 4194304
   m = mul (lit (pos 2) tt) d tt
 
-  abbrev s : Rd w64 (pos 2 *ℤ c .args .n +ℤ c .args .d) 4398048608256
-  s = add (mul (lit (pos 2) tt) n tt) d tt
-
-  abbrev t : Rd w64 (raised (c .args .n) (c .args .d)) 8796095119360
-  t = add s (mul (lit (pos 1048576) tt) m tt) tt
-
-  abbrev q : Rd w64 (floored (raised (c .args .n) (c .args .d)) (pos 2 *ℤ c .args .d)) 8796095119360
-  q = div t m (raised-above _ _ (c .pre)) (divisor-above _ _ (c .pre)) tt
-
 mul-m : tie.Need-mul-m
 mul-m c = mul-ok (lit (pos 2) tt) (d c) tt
 
-mul-s : tie.Need-mul-s
-mul-s c = mul-ok (lit (pos 2) tt) (n c) tt
+sub-half : tie.Need-sub-half
+sub-half c = sub-ok (d (c .before)) (lit (pos 1) tt) tt
 
-add-s : tie.Need-add-s
-add-s c = add-ok (mul (lit (pos 2) tt) (n c) tt) (d c) tt
+module _ (c : tie.Joined1) where
+  -- the number that the two arms set
+  half-is : toZ w64 (c .if1 .half) ≡ halfFor (c .before .args .n) (c .before .args .d)
+  half-is =
+      let at = c .before in
+      ⊎-elim
+      (λ w. ap (toZ w64) (w .1) ∙ sub (d at) (lit (pos 1) tt) tt .is ∙ half-less _ _ (lt-true (n at) (lit (pos 0) tt) (w .0 .taken)))
+      (λ w. ap (toZ w64) (w .1) ∙ d at .is ∙ half-kept _ _ (lt-false (n at) (lit (pos 0) tt) (w .0 .left)))
+      (c .if1 .came)
+
+  abbrev half : Rd w64 (halfFor (c .before .args .n) (c .before .args .d)) 2097153
+  half = record { n = c .if1 .half; is = half-is; le = half-small (c .before .args .n) (c .before .args .d) (c .before .pre .small) }
+
+  abbrev t : Rd w64 (raised (c .before .args .n) (c .before .args .d)) 8796095119361
+  t = add (add (mul (lit (pos 2) tt) (n (c .before)) tt) half tt) (mul (lit (pos 1048576) tt) (m (c .before)) tt) tt
+
+  abbrev q : Rd w64 (quotZ (raised (c .before .args .n) (c .before .args .d)) (pos 2 *ℤ c .before .args .d)) 8796095119361
+  q = div t (m (c .before)) (divisor-above _ _ (c .before .pre)) tt
 
 mul-t : tie.Need-mul-t
-mul-t c = mul-ok (lit (pos 1048576) tt) (m c) tt
+mul-t c = mul-ok (lit (pos 2) tt) (n (c .before)) tt
 
 add-t : tie.Need-add-t
-add-t c = add-ok (s c) (mul (lit (pos 1048576) tt) (m c) tt) tt
+add-t c = add-ok (mul (lit (pos 2) tt) (n (c .before)) tt) (half c) tt
+
+mul-t-2 : tie.Need-mul-t-2
+mul-t-2 c = mul-ok (lit (pos 1048576) tt) (m (c .before)) tt
+
+add-t-2 : tie.Need-add-t-2
+add-t-2 c = add-ok (add (mul (lit (pos 2) tt) (n (c .before)) tt) (half c) tt) (mul (lit (pos 1048576) tt) (m (c .before)) tt) tt
 
 div-result : tie.Need-div-result
-div-result c = div-ok (t c) (m c) (raised-above _ _ (c .pre)) (divisor-above _ _ (c .pre)) tt
+div-result c = div-ok (t c) (m (c .before)) (divisor-above _ _ (c .before .pre)) tt
 
 sub-result : tie.Need-sub-result
 sub-result c = sub-ok (q c) (lit (pos 1048576) tt) tt
 
 returns : tie.Need-returns
-returns c = sub (q c) (lit (pos 1048576) tt) tt .is ∙ rounded-is _ _ (c .pre)
+returns c = sub (q c) (lit (pos 1048576) tt) tt .is ∙ rounded-is _ _ (c .before .pre)
 
 pub rounded-spec : {M : Type 1} → statement M
-rounded-spec = tie.close (tie.spec mul-m mul-s add-s mul-t add-t div-result sub-result returns)
+rounded-spec = tie.close (tie.spec mul-m sub-half mul-t add-t mul-t-2 add-t-2 div-result sub-result returns)

@@ -12,7 +12,8 @@ fn areas(mesh: Mesh, height: i32) -> Vec<i64> {
     product_layer(Given::new(mesh).at(height)).areas
 }
 
-fn inside_out(mut mesh: Mesh) -> Mesh {
+/// The mesh with every triangle turned round.
+pub fn inside_out(mut mesh: Mesh) -> Mesh {
     (0..mesh.triangle_count()).for_each(|triangle| mesh.flip_triangle(triangle));
     mesh
 }

@@ -87,7 +87,8 @@ fn marks_unwritten(given: &Given, tables: &mut CutTables) -> Answer {
     Ok(answer)
 }
 
-/// Writes the points anew, by x0 and the distance times 2, over twice the rise.
+/// Writes the points anew, of which `round` is told where the edge starts, the offset from there
+/// times the rise, and the rise.
 fn rounded(given: &Given, tables: &mut CutTables, round: fn(i64, i64, i64) -> i64) -> Answer {
     let (contours, points) = oracle(given, tables)?;
     for i in 0..points {
@@ -97,30 +98,46 @@ fn rounded(given: &Given, tables: &mut CutTables, round: fn(i64, i64, i64) -> i6
         let rise = i64::from(high[2] - low[2]);
         let part = i64::from(given.height - low[2]);
         for axis in 0..2 {
-            let distance = i64::from(high[axis] - low[axis]) * part;
-            let point = round(low[axis].into(), 2 * distance, 2 * rise);
+            let offset = i64::from(high[axis] - low[axis]) * part;
+            let point = round(low[axis].into(), offset, rise);
             tables.points.table()[2 * i + axis] = point as i32;
         }
     }
     Ok((contours, points))
 }
 
-fn rounded_toward_zero(given: &Given, tables: &mut CutTables) -> Answer {
-    rounded(given, tables, |x, distance, rise| {
-        x + (distance + rise / 2) / rise
-    })
-}
-
-fn rounded_halves_away_from_zero(given: &Given, tables: &mut CutTables) -> Answer {
-    rounded(given, tables, |x, distance, rise| {
-        let exact = x * rise + distance;
-        exact.signum() * ((exact.abs() + rise / 2) / rise)
-    })
-}
-
 fn rounded_down(given: &Given, tables: &mut CutTables) -> Answer {
-    rounded(given, tables, |x, distance, rise| {
-        x + distance.div_euclid(rise)
+    rounded(given, tables, |x, offset, rise| x + offset.div_euclid(rise))
+}
+
+fn rounded_toward_zero(given: &Given, tables: &mut CutTables) -> Answer {
+    rounded(given, tables, |x, offset, rise| (x * rise + offset) / rise)
+}
+
+fn rounded_away_from_zero(given: &Given, tables: &mut CutTables) -> Answer {
+    rounded(given, tables, |x, offset, rise| {
+        let exact = x * rise + offset;
+        (exact + exact.signum() * (rise - 1)) / rise
+    })
+}
+
+fn rounded_halves_to_the_larger(given: &Given, tables: &mut CutTables) -> Answer {
+    rounded(given, tables, |x, offset, rise| {
+        x + (2 * offset + rise).div_euclid(2 * rise)
+    })
+}
+
+fn rounded_halves_toward_zero(given: &Given, tables: &mut CutTables) -> Answer {
+    rounded(given, tables, |x, offset, rise| {
+        let exact = x * rise + offset;
+        (2 * exact + exact.signum() * (rise - 1)) / (2 * rise)
+    })
+}
+
+/// The sign that counts is the offset's, and not that of the sum.
+fn rounded_halves_by_the_offset(given: &Given, tables: &mut CutTables) -> Answer {
+    rounded(given, tables, |x, offset, rise| {
+        x + (2 * offset + offset.signum() * rise) / (2 * rise)
     })
 }
 
@@ -142,7 +159,7 @@ fn always_empty(given: &Given, tables: &mut CutTables) -> Answer {
 
 #[test]
 fn faults_are_noticed() {
-    let faults: [Fault<Cut>; 12] = [
+    let faults: [Fault<Cut>; 15] = [
         ("contour reversed", contour_reversed, "names entry"),
         ("start elsewhere", start_elsewhere, "names entry"),
         ("on the plane", vertex_on_the_plane_passed, "answer Ok("),
@@ -150,9 +167,12 @@ fn faults_are_noticed() {
         ("contours joined", last_two_contours_joined, "answer Ok("),
         ("marks left set", marks_left_set, "marks entry"),
         ("marks unwritten", marks_unwritten, "marks entry"),
-        ("toward zero", rounded_toward_zero, "points entry"),
-        ("halves away", rounded_halves_away_from_zero, "points entry"),
         ("rounded down", rounded_down, "points entry"),
+        ("toward zero", rounded_toward_zero, "points entry"),
+        ("away from zero", rounded_away_from_zero, "points entry"),
+        ("halves up", rounded_halves_to_the_larger, "points entry"),
+        ("halves to zero", rounded_halves_toward_zero, "points entry"),
+        ("by offset", rounded_halves_by_the_offset, "points entry"),
         ("entry beyond", entry_beyond_overwritten, "ends entry"),
         ("always empty", always_empty, "answer Ok((0, 0)), not"),
     ];

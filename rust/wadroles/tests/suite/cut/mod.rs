@@ -4,6 +4,7 @@ mod every_small;
 mod faults;
 mod layer;
 mod limits;
+mod moved;
 mod promises;
 mod random;
 mod worked;

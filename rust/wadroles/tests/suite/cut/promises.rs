@@ -8,21 +8,38 @@ use crate::operations::Given;
 use meshes::{random_height, Mesh, Random};
 
 /// A random mesh with a right pairing, and a height that crosses it as a rule.
-fn random_given(random: &mut Random) -> Given {
-    let given = Given::paired(random_mesh(random), random);
+pub fn random_given(random: &mut Random) -> Given {
+    at_some_height(random_mesh(random), random)
+}
+
+/// The mesh with a right pairing, at a height that crosses it as a rule. At times its coordinates
+/// are made so small that many points lie at a half.
+pub fn at_some_height(mut mesh: Mesh, random: &mut Random) -> Given {
+    if random.one_in(3) {
+        mesh.coords.fill_with(|| random.within(-3..=3));
+    }
+    let given = Given::paired(mesh, random);
     let height = random_height(&given.mesh, random);
     given.at(height)
 }
 
-/// Asks a question of random layers, and requires that enough of them have a contour.
-fn of_every_layer(name: &str, question: fn(&Given, &Layer)) {
-    let share = Rounds::one_in(25, format!("layers, {name}")).share(|random| {
-        let given = random_given(random);
+/// Asks a question of random layers, and requires that enough of them have a contour, and enough a
+/// point at a half.
+pub fn of_layers(name: &str, given: fn(&mut Random) -> Given, question: fn(&Given, &Layer)) {
+    let rounds = Rounds::one_in(25, format!("layers, {name}"));
+    let [contours, halves] = rounds.shares(|random| {
+        let given = given(random);
         let layer = product_layer(given.clone());
         question(&given, &layer);
-        layer.contours() > 0
+        let has_half = coordinates(&given, &layer).any(|c| c.is_half());
+        [layer.contours() > 0, has_half]
     });
-    assert!(share > 0.3, "too few layers have a contour");
+    assert!(contours > 0.3, "too few layers have a contour: {contours}");
+    assert!(halves > 0.1, "too few layers have a half: {halves}");
+}
+
+fn of_every_layer(name: &str, question: fn(&Given, &Layer)) {
+    of_layers(name, random_given, question);
 }
 
 fn is_rising(given: &Given, corner: usize) -> bool {
@@ -40,6 +57,42 @@ fn edge(mesh: &Mesh, corner: usize) -> ([i128; 3], [i128; 3]) {
 fn triangle(mesh: &Mesh, corner: usize) -> [[i128; 3]; 3] {
     let first = corner / 3 * 3;
     [0, 1, 2].map(|k| mesh.point(mesh.corners[first + k]).map(i128::from))
+}
+
+/// Where an edge meets the height, times its rise.
+fn exact(low: [i128; 3], high: [i128; 3], axis: usize, height: i32) -> i128 {
+    low[axis] * (high[2] - low[2]) + (high[axis] - low[axis]) * (i128::from(height) - low[2])
+}
+
+/// x or y of a point, and its exact value, which is `exact` over `rise`.
+pub struct Coordinate {
+    pub rounded: i128,
+    pub exact: i128,
+    pub rise: i128,
+}
+
+impl Coordinate {
+    /// Whether the exact value lies half way between two whole numbers.
+    pub fn is_half(&self) -> bool {
+        self.exact % self.rise != 0 && 2 * self.exact % self.rise == 0
+    }
+}
+
+/// x and y of each point of a layer.
+pub fn coordinates<'a>(
+    given: &'a Given,
+    layer: &'a Layer,
+) -> impl Iterator<Item = Coordinate> + 'a {
+    let names = layer.names.iter().flatten();
+    let points = layer.points.iter().flatten();
+    names.zip(points).flat_map(move |(&name, point)| {
+        let (low, high) = edge(&given.mesh, name as usize);
+        [0, 1].map(|axis| Coordinate {
+            rounded: point[axis].into(),
+            exact: exact(low, high, axis, given.height),
+            rise: high[2] - low[2],
+        })
+    })
 }
 
 /// Each name with its follower; the last is followed by the first.
@@ -92,24 +145,14 @@ fn contours_have_two_points_at_least() {
 }
 
 #[test]
-fn points_are_the_nearest_and_the_larger_at_a_half() {
+fn points_are_the_nearest_and_at_a_half_further_from_zero() {
     of_every_layer("nearest points", |given, layer| {
-        let points = layer.points.iter().flatten();
-        for (&name, point) in layer.names.iter().flatten().zip(points) {
-            let (low, high) = edge(&given.mesh, name as usize);
-            let rise = high[2] - low[2];
-            for (axis, &rounded) in point.iter().enumerate() {
-                let exact = exact(low, high, axis, given.height);
-                let off = 2 * (i128::from(rounded) * rise - exact);
-                assert!(-rise < off && off <= rise);
-            }
+        for c in coordinates(given, layer) {
+            let off = (c.rounded * c.rise - c.exact).abs();
+            assert!(2 * off <= c.rise);
+            assert!(2 * off < c.rise || (c.rounded * c.rise).abs() > c.exact.abs());
         }
     });
-}
-
-/// Where an edge meets the height, times its rise.
-fn exact(low: [i128; 3], high: [i128; 3], axis: usize, height: i32) -> i128 {
-    low[axis] * (high[2] - low[2]) + (high[axis] - low[axis]) * (i128::from(height) - low[2])
 }
 
 #[test]
@@ -140,32 +183,4 @@ fn exact_way(given: &Given, from: usize, to: usize) -> [i128; 2] {
         exact(next_low, next_high, axis, given.height) * (high[2] - low[2])
             - exact(low, high, axis, given.height) * (next_high[2] - next_low[2])
     })
-}
-
-#[test]
-fn moving_the_mesh_moves_the_layer() {
-    let share = Rounds::one_in(25, "layers, moved").share(|random| {
-        let mut given = random_given(random);
-        let limit = 400_000;
-        given.height %= limit;
-        given.mesh.coords.iter_mut().for_each(|x| *x %= limit);
-        let before = product_layer(given.clone());
-
-        let distances = [(); 3].map(|()| random.within(-limit..=limit));
-        given.mesh.move_by(distances);
-        given.height += distances[2];
-        let after = product_layer(given);
-
-        let points = before.points.iter().map(|contour| {
-            let moved = contour
-                .iter()
-                .map(|[x, y]| [x + distances[0], y + distances[1]]);
-            moved.collect::<Vec<_>>()
-        });
-        assert!(points.eq(after.points));
-        assert_eq!(before.names, after.names);
-        assert_eq!(before.ends, after.ends);
-        before.contours() > 0
-    });
-    assert!(share > 0.3, "too few layers have a contour");
 }

@@ -107,10 +107,10 @@ fn unused_vertices_change_nothing() {
 }
 
 #[test]
-fn halves_go_to_the_larger_number() {
+fn halves_go_away_from_zero() {
     // The edges lead to (−1, 0, 2), (1, 0, 2) and (0, 1, 2).
     let mesh = like_part_p([[0, 0, 0], [-1, 0, 2], [1, 0, 2], [0, 1, 2]]);
-    let expected = one_contour(&[0, 6, 3], &[[1, 0], [0, 1], [0, 0]], 1);
+    let expected = one_contour(&[0, 6, 3], &[[1, 0], [0, 1], [-1, 0]], 2);
     assert_eq!(cut(mesh, 1), expected);
 }
 
@@ -125,23 +125,43 @@ fn point_on_edge(from: [i32; 3], to: [i32; 3], height: i32) -> [i32; 2] {
 fn points_are_rounded_to_the_nearest_on_either_side_of_zero() {
     // The edge leads to (x, y, z), and is met at a height.
     for (to, height, point) in [
-        ([3, -3, 2], 1, [2, -1]),
-        ([5, -5, 2], 1, [3, -2]),
-        ([7, -7, 2], 1, [4, -3]),
+        ([3, -3, 2], 1, [2, -2]),
+        ([5, -5, 2], 1, [3, -3]),
+        ([7, -7, 2], 1, [4, -4]),
         ([1, -1, 3], 1, [0, 0]),
         ([1, -1, 3], 2, [1, -1]),
         ([2, -2, 3], 1, [1, -1]),
         ([5, -5, 3], 1, [2, -2]),
         ([5, -5, 3], 2, [3, -3]),
         ([1, -1, 4], 1, [0, 0]),
-        ([1, -1, 4], 2, [1, 0]),
+        ([1, -1, 4], 2, [1, -1]),
         ([1, -1, 4], 3, [1, -1]),
-        ([6, -6, 4], 1, [2, -1]),
-        ([6, -6, 4], 3, [5, -4]),
+        ([6, -6, 4], 1, [2, -2]),
+        ([6, -6, 4], 3, [5, -5]),
         ([9, -9, 4], 4, [9, -9]),
     ] {
         let met = point_on_edge([0, 0, 0], to, height);
         assert_eq!(met, point, "to {to:?} at {height}");
+    }
+}
+
+#[test]
+fn halves_go_by_the_sign_of_the_value_whatever_way_the_edge_leads() {
+    // x and y where the edge starts and where it ends; it is met half way.
+    for (from, to, point) in [
+        ([1, -1], [2, -2], [2, -2]),
+        ([2, -2], [1, -1], [2, -2]),
+        ([-1, 1], [2, -2], [1, -1]),
+        ([1, -1], [-2, 2], [-1, 1]),
+        ([0, 0], [-1, 1], [-1, 1]),
+        ([-1, 1], [0, 0], [-1, 1]),
+        ([-7, 7], [8, -8], [1, -1]),
+        ([-8, 8], [7, -7], [-1, 1]),
+        ([-4, 4], [-9, 9], [-7, 7]),
+        ([-9, 9], [-4, 4], [-7, 7]),
+    ] {
+        let met = point_on_edge([from[0], from[1], -3], [to[0], to[1], 3], 0);
+        assert_eq!(met, point, "from {from:?} to {to:?}");
     }
 }
 
@@ -155,7 +175,7 @@ fn points_of_the_longest_edges_are_exact() {
     // Of a rise of 2M the edge goes 2M − 1 to the side, so at h it is (h + M) / 2M short of h.
     let met = |height| point_on_edge([-M, M, -M], [M - 1, 1 - M, M], height);
     assert_eq!(met(-1), [-1, 1]);
-    assert_eq!(met(0), [0, 1]);
+    assert_eq!(met(0), [-1, 1]);
     assert_eq!(met(1), [0, 0]);
     assert_eq!(met(M), [M - 1, 1 - M]);
 }

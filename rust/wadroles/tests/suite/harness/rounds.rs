@@ -61,13 +61,20 @@ impl Rounds {
     /// Runs a test in each round, which panics where it fails. It says whether its round met what the
     /// test is about; this gives the share of the rounds that did.
     pub fn share(&self, test: impl Fn(&mut Random) -> bool) -> f64 {
-        let mut met = 0;
+        let [share] = self.shares(|random| [test(random)]);
+        share
+    }
+
+    /// The same for a test that is about several things.
+    pub fn shares<const N: usize>(&self, test: impl Fn(&mut Random) -> [bool; N]) -> [f64; N] {
+        let mut met = [0; N];
         let never_fails = self.each(|random| {
-            met += u64::from(test(random));
+            let here = met.iter_mut().zip(test(random));
+            here.for_each(|(count, is_met)| *count += u64::from(is_met));
             Ok(())
         });
         never_fails.expect("it panics");
-        met as f64 / self.count as f64
+        met.map(|count| count as f64 / self.count as f64)
     }
 
     /// Compares a version of an operation with the oracle on a random case per round, until they
@@ -166,6 +173,13 @@ fn a_failure_names_seed_and_round() {
         }
     });
     assert_eq!(failure, Err("seed 42, round 2: a difference".to_owned()));
+}
+
+#[test]
+fn shares_are_of_all_rounds() {
+    let rounds = Rounds::fixed(1, 40);
+    assert_eq!(rounds.shares(|_| [true, false]), [1.0, 0.0]);
+    assert!((0.1..0.9).contains(&rounds.share(|random| random.one_in(2))));
 }
 
 #[test]
