@@ -4,6 +4,7 @@ pub mod ContourLaws
 pub mod Areas
 pub mod Runs
 pub mod AreaLaws
+pub mod TrapezoidLaws
 pub mod PolygonLaws
 pub mod ContourAreaLaws
 pub mod Worked

@@ -38,6 +38,11 @@ no-points : answerOf (measuring []) ≡ gives (pos 0)
 unfolding verdict _then_ test some least runFits areaOf sumOf
 no-points = refl
 
+-- one point
+one-point : answerOf (measuring (pos 3 ∷ negsuc 3 ∷ [])) ≡ gives (pos 0)
+unfolding verdict _then_ test some least runFits outOfRange areaOf sumOf crossOf nextPoint
+one-point = refl
+
 -- the other way round
 turned-round : areaOf (pos 0 ∷ pos 0 ∷ pos 0 ∷ pos 5 ∷ pos 5 ∷ pos 0 ∷ []) ≡ negsuc 24
 unfolding areaOf sumOf crossOf nextPoint

@@ -40,13 +40,14 @@ struct Table {
     rows: Vec<Row>,
 }
 
-/// An input, and the times of both versions on it.
+/// An input, and the library's time on it.
 #[derive(Clone)]
 struct Row {
     input: String,
     size: f64,
     library: f64,
-    unproved: f64,
+    /// The ratio to the unproved version's time as it is printed: the times are rounded.
+    ratio: f64,
 }
 
 /// The rows of one input in several sizes.
@@ -83,16 +84,13 @@ impl Row {
         let (input, figures) = line.split_at_checked(NAME_WIDTH)?;
         let mut figures = figures.split_whitespace().map(|figure| figure.parse().ok());
         let mut next = || figures.next().flatten();
+        let [size, library, _unproved, ratio] = [next()?, next()?, next()?, next()?];
         Some(Row {
             input: input.trim_end().to_owned(),
-            size: next()?,
-            library: next()?,
-            unproved: next()?,
+            size,
+            library,
+            ratio,
         })
-    }
-
-    fn ratio(&self) -> f64 {
-        self.library / self.unproved
     }
 }
 
@@ -121,7 +119,7 @@ impl Table {
         println!("|---|---|---|---|");
         for row in &self.rows {
             let (input, size) = (&row.input, grouped(row.size));
-            let (time, ratio) = (figure(row.library), row.ratio());
+            let (time, ratio) = (figure(row.library), row.ratio);
             println!("| {input} | {size} | {time} | {ratio:.2} |");
         }
     }
@@ -156,7 +154,7 @@ fn print_series(series: &[Series]) {
         let ratios: Vec<_> = one
             .rows
             .iter()
-            .map(|row| format!("{:.2}", row.ratio()))
+            .map(|row| format!("{:.2}", row.ratio))
             .collect();
         // What a heading has in parentheses would make the lines of the document too long.
         let operation = one.heading.split(" (").next().unwrap_or_default();
@@ -282,7 +280,7 @@ fn plot(series: &[Series]) -> String {
             let middle = y - LINE / 2.0 + 1.0;
             let dots = one.rows.iter().zip([2.5, 4.0, 5.5]);
             svg += &dots
-                .map(|(row, size)| dot(ratios.place(row.ratio()), middle, size))
+                .map(|(row, size)| dot(ratios.place(row.ratio), middle, size))
                 .collect::<String>();
             svg += &dot(growth.place(one.growth_by_size()), middle, 5.5);
         }

@@ -61,19 +61,20 @@ mod tests {
     }
 
     #[test]
-    fn trapezoids_under_the_sides_have_the_same_sum() {
+    fn the_triangles_at_the_first_point_have_the_same_sum() {
         for round in 0..1000 {
             let mut random = Random::of_round(1, round);
             let points: Vec<i32> = (0..2 * random.below(20))
                 .map(|_| random.within(COORDINATES))
                 .collect();
-            let count = points.len() / 2;
-            let at = |i: usize| [0, 1].map(|axis| i128::from(points[2 * (i % count) + axis]));
-            let trapezoids = (0..count).map(|i| {
-                let ([x, y], [next_x, next_y]) = (at(i), at(i + 1));
-                (x + next_x) * (next_y - y)
+            let from_first = |i: usize| {
+                [0, 1].map(|axis| i128::from(points[2 * i + axis]) - i128::from(points[axis]))
+            };
+            let triangles = (2..points.len() / 2).map(|i| {
+                let ([x, y], [next_x, next_y]) = (from_first(i - 1), from_first(i));
+                x * next_y - next_x * y
             });
-            assert_eq!(area(&points).map(i128::from), Ok(trapezoids.sum()));
+            assert_eq!(area(&points).map(i128::from), Ok(triangles.sum()));
         }
     }
 }

@@ -122,6 +122,10 @@ fn the_extreme_values_are_exact() {
     let mut points = round(square);
     points[196_604..].copy_from_slice(&[1 - M, -M, M, 1 - M]);
     assert_area(&points, Ok(doubled - 4 * i64::from(M) + 1));
+
+    // To and fro along the top: the largest terms, of both signs.
+    assert_area(&[M, M, -M, M].repeat(98_304 / 2), Ok(0));
+    assert_area(&[-M, M, M, M].repeat(98_304 / 2), Ok(0));
 }
 
 /// A number in range, or anything.
