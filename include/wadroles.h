@@ -59,8 +59,8 @@ extern "C" {
 /* The version. Until 1.0 a change of behaviour or of a file raises the minor
  * number. */
 #define WADROLES_VERSION_MAJOR 0
-#define WADROLES_VERSION_MINOR 3
-#define WADROLES_VERSION_PATCH 1
+#define WADROLES_VERSION_MINOR 4
+#define WADROLES_VERSION_PATCH 0
 
 /* The most vertices and triangles a mesh may have. */
 #define WADROLES_MAX_VERTICES 32768
@@ -71,11 +71,11 @@ extern "C" {
 #define WADROLES_MAX_COORDINATE 1048576
 
 /* The most points that wadroles_area takes, and that a layer has: one of a file
- * and one that wadroles_preview takes. */
+ * and one that wadroles_preview and wadroles_clean take. */
 #define WADROLES_MAX_POINTS 98304
 
 /* The most layers that a layer file has, and heights that wadroles_all_layers
- * takes. */
+ * and wadroles_all_layers_clean take. */
 #define WADROLES_MAX_LAYERS 4096
 
 /* An entry of a ring table whose corner is no crossing. */
@@ -121,7 +121,9 @@ enum wadroles_refusal {
      * so. */
     WADROLES_USED = 16,
     /* An origin that is not whole or out of range. */
-    WADROLES_ORIGIN = 17
+    WADROLES_ORIGIN = 17,
+    /* A contour of a file that is not clean. */
+    WADROLES_UNCLEAN = 18
 };
 
 /*
@@ -632,6 +634,152 @@ uint32_t wadroles_preview_run(const int32_t *points, size_t points_len,
                               uint8_t *kinds, size_t kinds_len,
                               float *xy, size_t xy_len,
                               uint64_t out[4]);
+
+/*
+ * Cleans a layer, contour by contour, in their order:
+ *
+ *   - every point equal to the one before it is dropped, and the first is kept
+ *   - then the points at the end that equal the first are dropped
+ *   - a contour left with fewer than three different points is dropped whole;
+ *     they are counted over all of it, so A B A B has two
+ *
+ * A contour that this leaves as it is, is clean. A cleaned layer is clean, and
+ * the sum of the areas of its contours is that of the layer. Points are not
+ * moved, and starts and the order of the contours are kept.
+ *
+ * Points and ends are those that wadroles_cut, wadroles_layer and
+ * wadroles_read_layer write; give twice the number of points as points_len and
+ * the number of contours as ends_len, so that old entries are not taken for the
+ * layer's.
+ *
+ * Writes the cleaned layer into the first entries of two lent tables:
+ *
+ *   clean_points  two entries per point: x and y
+ *   clean_ends    one entry per contour: the number of points up to its end
+ *
+ * Later entries of both tables stay.
+ *
+ * On success out[0] is the number of contours left and out[1] the number of
+ * points left.
+ *
+ * The tests, in this sequence; the first that fails is the refusal:
+ *
+ *   WADROLES_SIZE      points_len is odd, there are more than
+ *                      WADROLES_MAX_POINTS points, an end is not above the one
+ *                      before it (0 for the first) by two or more, or the last
+ *                      end (0 if there is none) is not the number of points;
+ *                      place 0
+ *   WADROLES_RANGE     a number is out of the range of coordinates; place its
+ *                      position in points
+ *   WADROLES_ROOM      clean_points_len is less than points_len, or
+ *                      clean_ends_len less than ends_len, however little is
+ *                      left; place 0
+ *
+ * After a refusal both tables are as before.
+ */
+uint32_t wadroles_clean(const int32_t *points, size_t points_len,
+                        const uint32_t *ends, size_t ends_len,
+                        int32_t *clean_points, size_t clean_points_len,
+                        uint32_t *clean_ends, size_t clean_ends_len,
+                        uint64_t out[4]);
+
+/*
+ * Writes the layer file of a mesh at rising heights in the clean profile: for
+ * each height what wadroles_clean leaves of the layer that wadroles_cut gives
+ * there. A layer whose contours are all dropped stays in the file, with no
+ * contour. wadroles_read_layer and wadroles_read_layer_clean read the file.
+ *
+ *   heights  at most WADROLES_MAX_LAYERS, strictly rising. With heights_len 0
+ *            the heights are the lowest z + 50 and every 100 after it, those
+ *            that are not above the highest z; without vertices there are none
+ *   output   the file, from its first byte on; later bytes stay. With n layers
+ *            and k points in all it has at most 2 + 8 n + 8 k + k / 2 bytes; a
+ *            layer has at most one point for each triangle, and it is never
+ *            longer than the file of wadroles_all_layers
+ *
+ * names, points, ends, marks and ring are work tables: what they hold before
+ * does not matter. On success they are zero, in the first corners_len entries,
+ * of points in the first 2 corners_len; later entries stay.
+ *
+ * On success out[0] is the length of the file.
+ *
+ * The tests, in this sequence; the first that fails is the refusal:
+ *
+ *   WADROLES_SIZE      coords_len or corners_len is not a multiple of three, or
+ *                      there are more vertices, triangles or heights (default
+ *                      ones counted) than allowed; place 0
+ *   WADROLES_ROOM      names_len, ends_len, marks_len or ring_len is less than
+ *                      corners_len, or points_len less than twice corners_len;
+ *                      place 0
+ *   WADROLES_RANGE     a coordinate is out of range; place its position in
+ *                      coords
+ *   WADROLES_VERTEX    a corner names no vertex; place the corner
+ *   WADROLES_TRIANGLE  a triangle names a vertex twice; place its first corner
+ *   WADROLES_PAIRING   a corner's entry in pairing is missing (the table is too
+ *                      short), is no corner, is a corner without the reverse
+ *                      edge, or is not paired back; place the corner
+ *   WADROLES_ORDER     an entry of order is missing (the table is too short) or
+ *                      is not the vertex that stands there by z and then by
+ *                      vertex number; place its position
+ *   WADROLES_HEIGHT    a height is not above the one before it; place its
+ *                      position in heights
+ *   WADROLES_USED      a walk meets a crossing already used that is not its
+ *                      start; place that crossing
+ *   WADROLES_OUTPUT    output_len is less than the length of the file; place 0
+ *
+ * After WADROLES_USED and WADROLES_OUTPUT the work tables are zero as on
+ * success; after the other refusals they are as before. After every refusal
+ * output is as before.
+ */
+uint32_t wadroles_all_layers_clean(const int32_t *coords, size_t coords_len,
+                                   const uint32_t *corners, size_t corners_len,
+                                   const uint32_t *pairing, size_t pairing_len,
+                                   const uint32_t *order, size_t order_len,
+                                   const int32_t *heights, size_t heights_len,
+                                   uint32_t *names, size_t names_len,
+                                   int32_t *points, size_t points_len,
+                                   uint32_t *ends, size_t ends_len,
+                                   uint32_t *marks, size_t marks_len,
+                                   uint32_t *ring, size_t ring_len,
+                                   uint8_t *output, size_t output_len,
+                                   uint64_t out[4]);
+
+/*
+ * Reads layer i (from 0) of a layer file in the clean profile: the file is that
+ * of wadroles_read_layer, and each contour of each layer is clean, as
+ * wadroles_clean has it.
+ *
+ * Writes the layer into the first entries of two lent tables:
+ *
+ *   points  two entries per point: x and y
+ *   ends    one entry per contour: the number of points up to its end
+ *
+ * Later entries of both tables stay.
+ *
+ * On success out[0] is the number of layers in the file, out[1] the height of
+ * the layer, as two's complement, out[2] the number of its contours and out[3]
+ * the number of its points.
+ *
+ * The tests, in this sequence; the first that fails is the refusal:
+ *
+ *   WADROLES_FILE      a value of the file, whichever layer it belongs to, is
+ *                      missing, cut short, longer than it need be, over 32 bits
+ *                      or breaks a rule of the file; or bytes are left over
+ *                      after the last value; place as wadroles_read_layer's
+ *   WADROLES_UNCLEAN   a contour, whichever layer it belongs to, is not clean:
+ *                      cleaning would alter it or drop it; place the first byte
+ *                      of the point count of the first such contour
+ *   WADROLES_LAYER     the file has no layer i; place 0
+ *   WADROLES_ROOM      points_len is less than twice the layer's points, or
+ *                      ends_len less than its contours; place 0
+ *
+ * After a refusal both tables are as before.
+ */
+uint32_t wadroles_read_layer_clean(const uint8_t *file, size_t file_len,
+                                   size_t i,
+                                   int32_t *points, size_t points_len,
+                                   uint32_t *ends, size_t ends_len,
+                                   uint64_t out[4]);
 
 #ifdef __cplusplus
 }

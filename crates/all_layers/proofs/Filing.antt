@@ -20,6 +20,7 @@ use Rattle.mesh.specs.Refusals.{Told, refusal, numbered, toldOf}
 use Rattle.mesh.specs.Tests.{size, orders}
 use Rattle.mesh.specs.declared.Refusal.{Refusal}
 use Rattle.mesh_tables.specs.MeshTests.{contentTests, openingTests}
+use Rattle.cleaning.specs.declared.Profile.{Profile}
 use Rattle.cut.specs.Cut.{Lengths, lengthsOf, cutRoomFor}
 use Rattle.sweep.specs.Operations.{unlessRefused}
 use Rattle.file_formats.specs.LayerFile.{mostLayers}
@@ -142,7 +143,7 @@ works-zeroed a z =
 
 -- ---- All layers
 
-module _ (m : OrderedMesh) (heights : List ℤ) (w : WorkTables) (output : List ℕ) {f : Finding Told}
+module _ (p : Profile) (m : OrderedMesh) (heights : List ℤ) (w : WorkTables) (output : List ℕ) {f : Finding Told}
     (is : f ≡ verdict (layersTests m heights (lengthsOf (w .cut)) (length (w .ring)))) where
   abbrev tests : List (Condition Told)
   tests = layersTests m heights (lengthsOf (w .cut)) (length (w .ring))
@@ -154,7 +155,7 @@ module _ (m : OrderedMesh) (heights : List ℤ) (w : WorkTables) (output : List 
   sixteens = map usedAt (climbed m (w .ring) hs)
 
   abbrev fourteen : List (Condition Told)
-  fourteen = shortOutput (length output) (sweptFile m (w .ring) hs) ∷ []
+  fourteen = shortOutput (length output) (sweptFile p m (w .ring) hs) ∷ []
 
   -- a test refuses
   other : {r : Told} → f ≡ refuses r → numbered (16 ∷ 14 ∷ []) r ≡ false
@@ -162,7 +163,7 @@ module _ (m : OrderedMesh) (heights : List ℤ) (w : WorkTables) (output : List 
       let no : (i : ℕ) → false ≡ false = λ i. refl in
       refused-every (λ q. numbered (16 ∷ 14 ∷ []) q ≡ false) tests r (no, (no, (no, (no, (no, (no, (no, (no, (no, tt))))))))) (sym is ∙ e)
 
-  pub files-refused : {r : Refusal} → f ≡ refuses (toldOf r) → Files m heights w output (Refused r) w output
+  pub files-refused : {r : Refusal} → f ≡ refuses (toldOf r) → Files p m heights w output (Refused r) w output
   unfolding unlessRefused
   files-refused {r} e =
       let n = length (m .paired .mesh .corners) in
@@ -173,8 +174,8 @@ module _ (m : OrderedMesh) (heights : List ℤ) (w : WorkTables) (output : List 
     pub files-tested : FileTested m heights w
     files-tested = file-tested m heights w (sym is ∙ e)
 
-    same-file : sweptFile m (w .ring) hs ≡ cutFile (m .paired) hs
-    same-file = let t = files-tested in swept-is-cut m (w .ring) (t .right) (t .ranked) (t .ring-long) hs (t .rises)
+    same-file : sweptFile p m (w .ring) hs ≡ cutFile p (m .paired) hs
+    same-file = let t = files-tested in swept-is-cut m (w .ring) (t .right) (t .ranked) (t .ring-long) p hs (t .rises)
 
     -- only 14 is left
     last : verdict fourteen ≡ verdict (tests ++ (sixteens ++ fourteen))
@@ -184,14 +185,14 @@ module _ (m : OrderedMesh) (heights : List ℤ) (w : WorkTables) (output : List 
         (join-next sixteens fourteen (sym (used-never m (w .ring) (t .right) (t .ranked) (t .ring-long) hs (t .rises))) refl refl)
 
     pub files-put : {result : AllLayersAnswer} {output′ : List ℕ} {w₁ w′ : WorkTables}
-        → PutsFile (cutFile (m .paired) (heightsTaken (m .paired .mesh .coords) heights)) output result output′
-        → Works (length (m .paired .mesh .corners)) w w₁ → Zeroed (length (m .paired .mesh .corners)) w₁ w′ → Files m heights w output result w′ output′
-    files-put {result} {output′} p s z =
+        → PutsFile (cutFile p (m .paired) (heightsTaken (m .paired .mesh .coords) heights)) output result output′
+        → Works (length (m .paired .mesh .corners)) w w₁ → Zeroed (length (m .paired .mesh .corners)) w₁ w′ → Files p m heights w output result w′ output′
+    files-put {result} {output′} put s z =
         let n = length (m .paired .mesh .corners) in
-        let file = sweptFile m (w .ring) hs in
-        let q : PutsFile file output result output′ = subst (λ (l : List ℕ). PutsFile l output result output′) (sym same-file) p in
+        let file = sweptFile p m (w .ring) hs in
+        let q : PutsFile file output result output′ = subst (λ (l : List ℕ). PutsFile l output result output′) (sym same-file) put in
         let zeros = works-zeroed s z .is ∙ work-either n w (ltb (length output) (length file)) in
         record {
           answers = q .answers ∙ ap (λ (v : Finding Told). v then gives (length file)) last;
-          leaves = (λ i. (zeros i, q .leaves i)) ∙ ap (filing (m, heights, w, output) .leaves) last;
+          leaves = (λ i. (zeros i, q .leaves i)) ∙ ap (filing (p, m, heights, w, output) .leaves) last;
         }

@@ -12,6 +12,7 @@ use all_heights::few_heights;
 use all_heights::heights_test;
 use all_heights::taken_count;
 use all_sweep::AllLayersAnswer;
+use cleaning::Profile;
 use cut::cut_room_for;
 use mesh::Verdict;
 use mesh_tables::MeshTest;
@@ -67,8 +68,9 @@ fn layers_test(
     heights_test(heights)
 }
 
-// All layers: writes the layer file of the heights given, or of the default ones (ALL-1 to ALL-15).
+// All layers: writes the layer file of the heights given, or of the default ones (ALL-1 to ALL-15), with its layers in the profile (ALLCLEAN-1).
 pub fn all_layers(
+    profile: Profile,
     coords: &[i32],
     corners: &[u32],
     pairing: &[u32],
@@ -81,7 +83,7 @@ pub fn all_layers(
     ring: &mut [u32],
     output: &mut [u8],
 ) -> AllLayersAnswer
-    ensures outcome { λ r. ⌜ Files
+    ensures outcome { λ r. ⌜ Files profile
         (ordered (coords .entry .now) (corners .entry .now) (pairing .entry .now) (order .entry .now))
         (heights .entry .now)
         (work (names .entry .now) (points .entry .now) (ends .entry .now) (marks .entry .now) (ring .entry .now))
@@ -107,6 +109,7 @@ pub fn all_layers(
     let low = base_z(coords, heights);
     let count = taken_count(coords, heights);
     let f = put_file(
+        profile,
         coords,
         corners,
         pairing,

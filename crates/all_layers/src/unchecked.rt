@@ -10,12 +10,14 @@ ghost use Rattle.all_sweep.specs.Works.{Works, Zeroed, PutsFile, takenHeights, 
 ghost use Rattle.all_sweep.specs.Sweeps.{LayersTested};
 use all_output::unchecked::put_layers;
 use all_sweep::AllLayersAnswer;
+use cleaning::Profile;
 use cut::unchecked::clear_points;
 use file_formats::MOST_LAYERS;
 use mesh::unchecked::fill;
 
-// Writes the layer file, unless the output is shorter.
+// Writes the layer file in the profile, unless the output is shorter.
 pub fn put_file(
+    profile: Profile,
     coords: &[i32],
     corners: &[u32],
     pairing: &[u32],
@@ -31,7 +33,7 @@ pub fn put_file(
 ) -> AllLayersAnswer
     requires { ⌜ LayersTested (paired (now coords) (now corners) (now pairing)) (takenHeights low (now heights) count)
         (work (now names) (now points) (now ends) (now marks) (now ring)) ⌝ }
-    ensures outcome { λ r. ⌜ PutsFile (takenFile
+    ensures outcome { λ r. ⌜ PutsFile (takenFile profile
         (paired (coords .entry .now) (corners .entry .now) (pairing .entry .now))
         (takenHeights low (heights .entry .now) count)) (output .entry .now) r (output .exit .now) ⌝ }
     ensures work { λ _. ⌜ Works (length (corners .entry .now))
@@ -40,6 +42,7 @@ pub fn put_file(
 {
     let mut heads = [0u32; MOST_LAYERS];
     put_layers(
+        profile,
         coords,
         corners,
         pairing,

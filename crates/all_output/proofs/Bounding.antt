@@ -8,6 +8,7 @@ use lib.ListN.{length, take}
 use lib.IntN.{ℤ}
 use Rattle.laws.specs.Count.{count as tally}
 use Rattle.mesh.specs.Meshes.{PairedMesh}
+use Rattle.cleaning.specs.declared.Profile.{Profile}
 use Rattle.section.specs.Section.{Right}
 use Rattle.file_formats.specs.Numbers.{encodeNumber, zigzag, Word}
 use Rattle.file_formats.specs.NumberLaws.{word-bytes, number-bytes, word-sent}
@@ -15,9 +16,8 @@ use Rattle.all_heights.specs.Heights.{heightsTaken}
 use Rattle.file_write.specs.Written.{layerBytes, totalOf}
 use Rattle.all_active.specs.Lists.{activeAt}
 use Rattle.all_active.specs.Totals.{sumTo, CrossingTotal}
-use Rattle.all_sweep.specs.AllLayers.{cutLayer}
 use Rattle.all_sweep.specs.Works.{TakenHeights, takenHeights, takenAt, ListedHeights, takenFile}
-use Rattle.all_sweep.specs.CutLayerLaws.{layer-bound}
+use Rattle.all_sweep.specs.CutLayerLaws.{cutIn, layer-bound}
 use Rattle.all_sweep.specs.PassLaws.{total-next, total-all}
 use Rattle.all_output.specs.Bounds.{longestFile}
 
@@ -55,18 +55,18 @@ bounding-end {heights} {count = count} {crossings} {k} el b l =
     ∙ (λ x. length (encodeNumber count) + 10 * crossings
     + sumTo (e x) (λ j. length (encodeNumber (zigzag (takenAt (takenHeights (el x) heights count) j))) + 3))
 
--- ---- not less than the file
+-- ---- not less than the file, in either profile
 
-module _ (m : PairedMesh) (right : Right m) {t : TakenHeights} (listed : ListedHeights (m .mesh .coords) t) where
+module _ (p : Profile) (m : PairedMesh) (right : Right m) {t : TakenHeights} (listed : ListedHeights (m .mesh .coords) t) where
   layers-bound : (k : ℕ) → k ≤ t .count
-      → totalOf (λ l. length (layerBytes l)) (map (cutLayer m) (take k (heightsTaken (m .mesh .coords) (t .heights))))
+      → totalOf (λ l. length (layerBytes l)) (map (cutIn p m) (take k (heightsTaken (m .mesh .coords) (t .heights))))
       ≤ sumTo k (λ i. length (encodeNumber (zigzag (takenAt t i))) + 3)
       + 10 * sumTo k (λ i. tally (length (m .mesh .corners)) (activeAt (m .mesh .coords) (m .mesh .corners) (takenAt t i)))
   unfolding sumTo totalOf
   layers-bound zero l = omega arith
-  layers-bound (suc k) l = omega (arith, total-next m listed {k = k} l, layer-bound m right (takenAt t k), layers-bound k (omega arith))
+  layers-bound (suc k) l = omega (arith, total-next p m listed {k = k} l, layer-bound m right (takenAt t k) p, layers-bound k (omega arith))
 
   pub file-bound : {crossings bound : ℕ} → CrossingTotal (m .mesh .coords) (m .mesh .corners) (takenAt t) (t .count) crossings → bound ≡ longestFile t crossings
-      → length (takenFile m t) ≤ bound
+      → length (takenFile p m t) ≤ bound
   unfolding longestFile
-  file-bound c e = omega (arith, e, total-all m listed {k = t .count} (omega arith), layers-bound (t .count) (omega arith), c .most)
+  file-bound c e = omega (arith, e, total-all p m listed {k = t .count} (omega arith), layers-bound (t .count) (omega arith), c .most)

@@ -1,4 +1,4 @@
-// The file of a mesh and heights that the tests have passed, put into the output, or the output found too short.
+// The file of a mesh and heights that the tests have passed, in a profile, put into the output, or the output found too short.
 ghost use mathlib.Core.Path.{_≡_};
 ghost use Prim.Native.Nat.{_*_, _≤_};
 ghost use mathlib.Core.Bool.{false};
@@ -18,6 +18,7 @@ use all_sweep::AllLayersAnswer;
 use all_sweep::unchecked_sweep::begin;
 use all_sweep::unchecked_sweep::layers_length;
 use all_sweep::unchecked_sweep::write_layers;
+use cleaning::Profile;
 use file_formats::numbers::number_length;
 use file_formats::numbers::unsigned_of;
 use mesh::Refusal;
@@ -46,6 +47,7 @@ fn longest(low: i32, heights: &[i32], count: usize, crossings: usize) -> usize
 
 // Whether the file, which is no longer than bound, is longer than room: it is measured where the bound is. Else the sweep is begun.
 fn is_short(
+    profile: Profile,
     coords: &[i32],
     corners: &[u32],
     pairing: &[u32],
@@ -67,10 +69,10 @@ fn is_short(
         ∗ ⌜ Sweeping (mesh (now coords) (now corners)) (takenHeights low (now heights) count) 0
         (cornerLists (now ring) (now heads) (now marks) (length (now corners))) ⌝
         ∗ ⌜ length
-        (takenFile (paired (now coords) (now corners) (now pairing)) (takenHeights low (now heights) count))
+        (takenFile profile (paired (now coords) (now corners) (now pairing)) (takenHeights low (now heights) count))
         ≤ bound ⌝ }
     ensures value { λ r. ⌜ r ≡ ltb room
-        (length (takenFile (paired (coords .entry .now) (corners .entry .now) (pairing .entry .now))
+        (length (takenFile profile (paired (coords .entry .now) (corners .entry .now) (pairing .entry .now))
         (takenHeights low (heights .entry .now) count))) ⌝ }
     ensures work { λ _. ⌜ Works (length (corners .entry .now))
         (work (names .entry .now) (points .entry .now) (ends .entry .now) (marks .entry .now) (ring .entry .now))
@@ -83,6 +85,7 @@ fn is_short(
         return false;
     }
     let n = layers_length(
+        profile,
         coords,
         corners,
         pairing,
@@ -105,6 +108,7 @@ fn is_short(
 
 // Writes the layer file, unless the output is shorter: that is known before the first byte is written. The heights have their lists in heads.
 pub fn put_layers(
+    profile: Profile,
     coords: &[i32],
     corners: &[u32],
     pairing: &[u32],
@@ -122,7 +126,7 @@ pub fn put_layers(
     requires { ⌜ LayersTested (paired (now coords) (now corners) (now pairing)) (takenHeights low (now heights) count)
         (work (now names) (now points) (now ends) (now marks) (now ring)) ⌝
         ∗ ⌜ count ≤ length (now heads) ⌝ }
-    ensures outcome { λ r. ⌜ PutsFile (takenFile
+    ensures outcome { λ r. ⌜ PutsFile (takenFile profile
         (paired (coords .entry .now) (corners .entry .now) (pairing .entry .now))
         (takenHeights low (heights .entry .now) count)) (output .entry .now) r (output .exit .now) ⌝ }
     ensures work { λ _. ⌜ Works (length (corners .entry .now))
@@ -132,6 +136,7 @@ pub fn put_layers(
     let crossings = begin(coords, corners, low, heights, count, marks, ring, heads);
     let bound = longest(low, heights, count, crossings);
     let short = is_short(
+        profile,
         coords,
         corners,
         pairing,
@@ -151,6 +156,7 @@ pub fn put_layers(
         return AllLayersAnswer::Refused(Refusal::Output(0));
     }
     let n = write_layers(
+        profile,
         coords,
         corners,
         pairing,

@@ -1,5 +1,5 @@
--- All layers (ALL-1 to ALL-15): a start, Layer up the heights taken, and the layer file of what
--- that gives; its refusals in order, what it answers, and what it leaves in the lent tables.
+-- All layers (ALL-1 to ALL-15, ALLCLEAN-1): a start, Layer up the heights taken, and the layer file of what that gives, as it is
+-- or cleaned; its refusals in order, what it answers, and what it leaves in the lent tables.
 use Prim.Native.Nat.{ℕ, _*_}
 use mathlib.Core.Bool.{Bool, not, _&&_}
 use mathlib.Core.List.{List, [], _∷_, _++_, map}
@@ -12,8 +12,9 @@ use Rattle.mesh.specs.Operation.{Answer, gives, refuses, Finding, Condition, wh
 use Rattle.mesh.specs.Refusals.{Told, refusal, numbered, toldOf}
 use Rattle.mesh.specs.Tests.{size, orders}
 use Rattle.mesh_tables.specs.MeshTests.{contentTests}
+use Rattle.cleaning.specs.declared.Profile.{Profile}
 use Rattle.cut_points.specs.Points.{pointOf}
-use Rattle.file_formats.specs.LayerFile.{Layer, layerFile}
+use Rattle.file_formats.specs.LayerFile.{Layer, layerIn, layerFile}
 use Rattle.cut.specs.Cut.{CutTables, lent, Lengths, lengthsOf, cutRoomFor, used, section, contoursOf}
 use Rattle.sweep.specs.Sweep.{Sweep, sweep, meshOf, freshRing}
 use Rattle.sweep.specs.Operations.{unlessRefused, risenPassed, risenTable, risenSection}
@@ -43,17 +44,17 @@ climb s (h ∷ hs) = (s, h) ∷ climb (risen s h) hs
 abbrev pub climbed : OrderedMesh → List ℕ → List ℤ → List (Sweep × ℤ)
 climbed m ring hs = climb (sweep m (freshRing (m .paired .mesh .corners) ring) 0) hs
 
--- the layer file of what that gives (ALL-2)
-abbrev pub sweptFile : OrderedMesh → List ℕ → List ℤ → List ℕ
-sweptFile m ring hs = layerFile .encode (map sweptLayer (climbed m ring hs))
+-- the layer file of what that gives (ALL-2), each layer in the profile (ALLCLEAN-1)
+abbrev pub sweptFile : Profile → OrderedMesh → List ℕ → List ℤ → List ℕ
+sweptFile p m ring hs = layerFile .encode (map (λ s. layerIn p (sweptLayer s)) (climbed m ring hs))
 
--- what Cut gives at h, and the layer file of Cut at these heights:
--- `swept-is-cut` (ClimbLaws) says that it is the same file (RUN-8)
+-- what Cut gives at h, and the layer file of Cut at these heights, each layer in the profile:
+-- `swept-is-cut` (ClimbLaws) says that it is the same file (RUN-8, ALLCLEAN-3)
 unfoldable pub cutLayer : PairedMesh → ℤ → Layer
 cutLayer m h = drawn (m .mesh) h (contoursOf (section m h))
 
-abbrev pub cutFile : PairedMesh → List ℤ → List ℕ
-cutFile m hs = layerFile .encode (map (cutLayer m) hs)
+abbrev pub cutFile : Profile → PairedMesh → List ℤ → List ℕ
+cutFile p m hs = layerFile .encode (map (λ h. layerIn p (cutLayer m h)) hs)
 
 -- ---- the lent work tables: those of Cut and the ring table (ALL-6)
 
@@ -105,10 +106,10 @@ shortOutput output file = whole (refusal 14) (ltb output (length file))
 -- ---- All layers as a whole
 
 -- it gives the length of the file (ALL-3); output past the file stays (ALL-14), and on refusal all of it (ALL-15)
-abbrev pub filing : OrderedMesh × List ℤ × WorkTables × List ℕ → Operation Told ℕ (WorkTables × List ℕ)
-filing = λ (m, heights, w, output).
+abbrev pub filing : Profile × OrderedMesh × List ℤ × WorkTables × List ℕ → Operation Told ℕ (WorkTables × List ℕ)
+filing = λ (p, m, heights, w, output).
     let hs = heightsTaken (m .paired .mesh .coords) heights in
-    let file = sweptFile m (w .ring) hs in
+    let file = sweptFile p m (w .ring) hs in
     record {
       refusals = layersTests m heights (lengthsOf (w .cut)) (length (w .ring))
           ++ (map usedAt (climbed m (w .ring) hs) ++ (shortOutput (length output) file ∷ []));
@@ -121,5 +122,5 @@ abbrev pub tellAllLayers : AllLayersAnswer → Answer Told ℕ
 tellAllLayers (Length n) = gives n
 tellAllLayers (Refused r) = refuses (toldOf r)
 
-abbrev pub Files : OrderedMesh → List ℤ → WorkTables → List ℕ → AllLayersAnswer → WorkTables → List ℕ → Type 0
-Files m heights w output result w′ output′ = Does filing tellAllLayers (m, heights, w, output) result (w′, output′)
+abbrev pub Files : Profile → OrderedMesh → List ℤ → WorkTables → List ℕ → AllLayersAnswer → WorkTables → List ℕ → Type 0
+Files p m heights w output result w′ output′ = Does filing tellAllLayers (p, m, heights, w, output) result (w′, output′)

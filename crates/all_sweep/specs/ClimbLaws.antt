@@ -1,5 +1,5 @@
 -- Swept is cut: up strictly rising heights, from a start, Layer gives at each height what Cut gives there, so that All layers' file is the layer file of Cut
--- at each height, and 16 is met at none.
+-- at each height, in either profile, and 16 is met at none.
 use Prim.Native.Nat.{ℕ, suc, _≤_, _<_}
 use mathlib.Core.Path.{_≡_, refl, sym, ap, _∙_, subst}
 use mathlib.Core.Bool.{true}
@@ -19,7 +19,8 @@ use Rattle.mesh.specs.RankLaws.{lower-sum, sum-lower}
 use Rattle.section.specs.Section.{below, rising, noCorner, ringEntry, Right}
 use Rattle.section.specs.Contours.{Traced, member}
 use Rattle.section.specs.LayerLaws.{trace-layer}
-use Rattle.file_formats.specs.LayerFile.{layerFile}
+use Rattle.cleaning.specs.declared.Profile.{Profile}
+use Rattle.file_formats.specs.LayerFile.{Layer, layerIn, layerFile}
 use Rattle.cut.specs.Cut.{metAt, contoursOf}
 use Rattle.sweep.specs.Sweep.{Sweep, sweep, meshOf, passedAt, RingAt, freshRing, mayRise, countBelow}
 use Rattle.sweep.specs.SweepLaws.{may-rise, count-few}
@@ -75,11 +76,13 @@ ready-on : (s : Sweep) (h : ℤ) (hs : List ℤ) → RiseTested s h → RisingHe
 ready-on s h [] r up = tt
 ready-on s h (g ∷ hs) r up = risen-tested s h g r (up 0 (omega arith))
 
-layers-up : (s : Sweep) (hs : List ℤ) → LayerReady s hs → RisingHeights hs → map sweptLayer (climb s hs) ≡ map (cutLayer (s .ordered .paired)) hs
+-- whatever is made of each layer
+layers-up : (f : Layer → Layer) (s : Sweep) (hs : List ℤ) → LayerReady s hs → RisingHeights hs
+    → map (λ c. f (sweptLayer c)) (climb s hs) ≡ map (λ h. f (cutLayer (s .ordered .paired) h)) hs
 unfolding climb
-layers-up s [] r up = refl
-layers-up s (h ∷ hs) r up =
-    λ i. swept-layer s h r i ∷ layers-up (risen s h) hs (ready-on s h hs r up) (λ k l. up (suc k) (omega arith)) i
+layers-up f s [] r up = refl
+layers-up f s (h ∷ hs) r up =
+    λ i. f (swept-layer s h r i) ∷ layers-up f (risen s h) hs (ready-on s h hs r up) (λ k l. up (suc k) (omega arith)) i
 
 used-up : (s : Sweep) (hs : List ℤ) → LayerReady s hs → RisingHeights hs → verdict (map usedAt (climb s hs)) ≡ fine
 unfolding climb verdict
@@ -116,12 +119,13 @@ module _ (m : OrderedMesh) (ring : List ℕ) (right : Right (m .paired)) (ranked
   begun-ready [] = tt
   begun-ready (h ∷ hs) = begun-tested h
 
-  -- the layers, and so the file, are those of Cut at each height
-  pub swept-layers : (hs : List ℤ) → RisingHeights hs → map sweptLayer (climbed m ring hs) ≡ map (cutLayer (m .paired)) hs
-  swept-layers hs up = layers-up begun hs (begun-ready hs) up
+  -- the layers, and so the file, are those of Cut at each height, in either profile
+  pub swept-layers : (p : Profile) (hs : List ℤ) → RisingHeights hs
+      → map (λ s. layerIn p (sweptLayer s)) (climbed m ring hs) ≡ map (λ h. layerIn p (cutLayer (m .paired) h)) hs
+  swept-layers p hs up = layers-up (layerIn p) begun hs (begun-ready hs) up
 
-  pub swept-is-cut : (hs : List ℤ) → RisingHeights hs → sweptFile m ring hs ≡ cutFile (m .paired) hs
-  swept-is-cut hs up = ap (layerFile .encode) (swept-layers hs up)
+  pub swept-is-cut : (p : Profile) (hs : List ℤ) → RisingHeights hs → sweptFile p m ring hs ≡ cutFile p (m .paired) hs
+  swept-is-cut p hs up = ap (layerFile .encode) (swept-layers p hs up)
 
   -- 16 is met at none
   pub used-never : (hs : List ℤ) → RisingHeights hs → verdict (map usedAt (climbed m ring hs)) ≡ fine

@@ -1,4 +1,5 @@
--- The layer of Cut at a height: it is what the contours of a list of crossings are, its tables hold it, and it keeps the rules of the layer file.
+-- The layer of Cut at a height: it is what the contours of a list of crossings are, its tables hold it, and also when they are brought into a profile, and
+-- in either profile it keeps the rules of the layer file.
 use Prim.Native.Nat.{ℕ, suc, _+_, _-_, _*_, _≤_, _<_}
 use mathlib.Core.Path.{_≡_, refl, sym, ap, _∙_, subst}
 use mathlib.Core.Bool.{true}
@@ -15,6 +16,11 @@ use Rattle.laws.specs.Tables.{overwrite}
 use Rattle.laws.specs.TableLaws.{length-overwrite, overwrite-at, overwrite-front}
 use Rattle.mesh.specs.Corners.{triangleCount}
 use Rattle.mesh.specs.Meshes.{Mesh, PairedMesh}
+use Rattle.polygons.specs.Flat.{flat, polygonsOf}
+use Rattle.polygons.specs.FlatLaws.{length-points}
+use Rattle.cleaning.specs.Cleaning.{cleaned}
+use Rattle.cleaning.specs.declared.Profile.{Profile}
+use Rattle.cleaning.specs.declared.Profile.the-variants.{Full, Clean}
 use Rattle.section.specs.Section.{below, Right}
 use Rattle.section.specs.Contours.{Traced, contours, member, namesOf}
 use Rattle.section.specs.Layers as layers
@@ -28,17 +34,24 @@ use Rattle.cut.specs.CutLaws.{one-each}
 use Rattle.cut.specs.SolidLaws.{crossing-climbs}
 use Rattle.file_formats.specs.Formats.{Each}
 use Rattle.file_formats.specs.Numbers.{encodeNumber, zigzag, Word}
-use Rattle.file_formats.specs.LayerFile.{mostPoints, Point, Layer}
+use Rattle.file_formats.specs.LayerFile.{mostPoints, Point, Layer, layerIn}
 use Rattle.file_formats.specs.LayerRules.{PointRules, ContourRules, pointTotal, LayerRules}
+use Rattle.file_formats.specs.LayerRuleLaws.{few-contours}
+use Rattle.file_formats.specs.ProfileLaws.{profiled-total, profiled-count, profiled-rules, layer-in-rules}
 use Rattle.file_write.specs.Written.{layerOf, numbersOf, endsOf, layerBytes}
 use Rattle.file_write.specs.LayerTables.{LayerTables}
 use Rattle.file_write.specs.WrittenLaws.{layer-held, tables-held, length-flatten, flatten-map, ends-map, length-ends, layer-short}
+use Rattle.clean_layers.specs.Layers.{holding, LeftIn}
 use Rattle.all_active.specs.Lists.{activeAt}
 use Rattle.all_active.specs.Levels.{KeptFrom}
 use Rattle.all_active.specs.TotalLaws.{distinct-tally}
 use Rattle.all_contours.specs.Rounds.{Followed}
 use Rattle.all_sweep.specs.AllLayers.{drawn, cutLayer}
 use Rattle.all_sweep.specs.Works.{Spent, HoldsLayer}
+
+-- what Cut gives at h, in a profile
+abbrev pub cutIn : Profile → PairedMesh → ℤ → Layer
+cutIn p m h = layerIn p (cutLayer m h)
 
 -- ---- tables of which only the first entries may be other
 
@@ -114,6 +127,14 @@ module _ (m : Mesh) (h : ℤ) where
     contours-rule rs (λ i l. two (suc i) (omega arith)) (λ x e. all x (member-join x r (namesOf rs) ∙ or-right (member x r) (member x (namesOf rs)) e)),
   )
 
+-- ---- a layer brought into a profile
+
+-- tables of points and ends, and those that they become: these hold the layer of height h in the profile, of r contours
+pub record Brought (p : Profile) (m : PairedMesh) (h : ℤ) (points : List ℤ) (ends : List ℕ) (points′ : List ℤ) (ends′ : List ℕ) (r : ℕ) : Type 0 where
+  pub holds-it : HoldsLayer p m h points′ ends′ r
+  pub points-spent : 2 * length (m .mesh .corners) ≤ length points → Spent (2 * length (m .mesh .corners)) points points′
+  pub ends-spent : length (m .mesh .corners) ≤ length ends → Spent (length (m .mesh .corners)) ends ends′
+
 -- ---- the layer of a right mesh
 
 module _ (m : PairedMesh) (right : Right m) (h : ℤ) where
@@ -155,17 +176,28 @@ module _ (m : PairedMesh) (right : Right m) (h : ℤ) where
       contours-rule (m .mesh) h rings rings-two
       (λ x e. let t = climbs x e in (point-in (m .mesh) h x t 0 (omega arith), point-in (m .mesh) h x t 1 (omega arith)))
 
-  pub layer-rules : Word h → LayerRules (cutLayer m h)
-  layer-rules fits = subst LayerRules (sym layer-is) (record { height-fits = fits; few = rings-small; each = rings-rules })
+  -- in either profile
+  pub layer-rules : (p : Profile) → Word h → LayerRules (cutIn p m h)
+  layer-rules p fits =
+      layer-in-rules p (cutLayer m h) (subst LayerRules (sym layer-is) (record { height-fits = fits; few = rings-small; each = rings-rules }))
+
+  -- no more points and no more contours than corners
+  layer-few : pointTotal (cutLayer m h .contours) ≤ length (m .mesh .corners)
+  layer-few = omega (arith, ap (λ (l : Layer). pointTotal (l .contours)) layer-is, drawn-total (m .mesh) h rings, rings-few)
+
+  layer-count : length (cutLayer m h .contours) ≤ length (m .mesh .corners)
+  layer-count =
+      omega (arith, ap (λ (l : Layer). length (l .contours)) layer-is, few-contours shapes rings-rules, drawn-total (m .mesh) h rings, rings-few)
 
   -- a crossing takes ten bytes at most
-  pub layer-bound : length (layerBytes (cutLayer m h))
+  pub layer-bound : (p : Profile) → length (layerBytes (cutIn p m h))
       ≤ length (encodeNumber (zigzag h)) + 3 + 10 * tally (length (m .mesh .corners)) (activeAt (m .mesh .coords) (m .mesh .corners) h)
-  layer-bound =
+  layer-bound p =
       let n = distinct-tally (activeAt (m .mesh .coords) (m .mesh .corners) h) (length (m .mesh .corners)) (namesOf rings) (rings-layer .once)
       (λ i l. let x = rings-layer .only (getD (namesOf rings) i 0) (at-member (namesOf rings) i l) in (x .below, x .upward)) in
-      let b = layer-short (drawn (m .mesh) h rings) rings-small rings-rules in
-      omega (arith, ap (λ (l : Layer). length (layerBytes l)) layer-is, b, n, drawn-total (m .mesh) h rings)
+      let few = profiled-total p shapes in
+      let b = layer-short (layerIn p (drawn (m .mesh) h rings)) (omega (arith, few, rings-small)) (profiled-rules p shapes rings-rules) in
+      omega (arith, ap (λ (l : Layer). length (layerBytes (layerIn p l))) layer-is, b, n, few, drawn-total (m .mesh) h rings)
 
   -- ---- tables that hold it
 
@@ -177,7 +209,7 @@ module _ (m : PairedMesh) (right : Right m) (h : ℤ) where
     written-ends : ends′ ≡ overwrite (endsOf shapes) ends
     written-ends = ee ∙ ap (λ (l : List ℕ). overwrite l ends) (drawn-ends (m .mesh) h rings)
 
-    written-holds : {j : ℕ} → j ≡ length rings → HoldsLayer m h points′ ends′ j
+    written-holds : {j : ℕ} → j ≡ length rings → HoldsLayer Full m h points′ ends′ j
     written-holds {j} e =
         let n : j ≡ length shapes = e ∙ sym (length-map rings (map (pointOf (m .mesh) h))) in
         record {
@@ -235,10 +267,48 @@ module _ (m : PairedMesh) (right : Right m) (h : ℤ) where
       points-are =
           ep ∙ ap (λ (l : List ℕ). overwrite (pointsOf (m .mesh) h l) points) (ap (take k) names-are ∙ overwrite-front (namesOf rings) names (sym k-is))
 
-      pub followed-holds : HoldsLayer m h points′ ends′ j
+      pub followed-holds : HoldsLayer Full m h points′ ends′ j
       followed-holds = written-holds points ends points-are ends-are (t .j-is ∙ ap (λ (rs : List (List ℕ)). length rs) same-rings)
 
       pub points-spent : Spent (2 * length (m .mesh .corners)) points points′
       points-spent =
           subst (Spent (2 * length (m .mesh .corners)) points) (sym points-are)
           (spent-front _ _ _ (omega (arith, k-few, k-is, length-pointsOf (m .mesh) h (namesOf rings))) points-long)
+
+  -- ---- tables that hold it as it was cut, brought into a profile
+
+  module _ {points : List ℤ} {ends : List ℕ} {j : ℕ} (holds : HoldsLayer Full m h points ends j) where
+    -- its contours, as the tables hold them
+    abbrev held : List (List Point)
+    held = polygonsOf (flat points (take j ends))
+
+    held-is : held ≡ cutLayer m h .contours
+    unfolding layerOf
+    held-is = ap (λ (l : Layer). l .contours) (holds .is)
+
+    -- cleaned it is the layer that was cut, cleaned
+    clean-holds : HoldsLayer Clean m h (holding (cleaned held) (flat points ends) .points) (holding (cleaned held) (flat points ends) .ends)
+        (length (cleaned held))
+    unfolding layerOf
+    clean-holds =
+        record { is = layer-held (cleaned held) points ends h ∙ ap (layerIn Clean) (holds .is); tables = tables-held (cleaned held) points ends }
+
+    clean-points : 2 * length (m .mesh .corners) ≤ length points
+        → Spent (2 * length (m .mesh .corners)) points (holding (cleaned held) (flat points ends) .points)
+    clean-points =
+        spent-front _ _ _
+        (omega (arith, length-points (cleaned held), profiled-total Clean held, ap pointTotal held-is, layer-few))
+
+    clean-ends : length (m .mesh .corners) ≤ length ends → Spent (length (m .mesh .corners)) ends (holding (cleaned held) (flat points ends) .ends)
+    clean-ends =
+        spent-front _ _ _
+        (omega (arith, length-ends 0 (cleaned held), profiled-count Clean held, ap (λ (cs : List (List Point)). length cs) held-is, layer-count))
+
+    pub brought : (p : Profile) {points′ : List ℤ} {ends′ : List ℕ} {r : ℕ} → LeftIn p (flat points ends) j r (flat points′ ends′)
+        → Brought p m h points ends points′ ends′ r
+    brought Full left =
+        subst (λ (A : Type 0). A) (λ i. Brought Full m h points ends (sym (left .1) i .points) (sym (left .1) i .ends) (sym (left .0) i))
+        (record { holds-it = holds; points-spent = λ long. spent-none _ points; ends-spent = λ long. spent-none _ ends })
+    brought Clean left =
+        subst (λ (A : Type 0). A) (λ i. Brought Clean m h points ends (sym (left .1) i .points) (sym (left .1) i .ends) (sym (left .0) i))
+        (record { holds-it = clean-holds; points-spent = clean-points; ends-spent = clean-ends })

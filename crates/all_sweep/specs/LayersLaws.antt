@@ -18,6 +18,9 @@ use Rattle.mesh.specs.Operation.{gives, refuses, fine, Condition, verdict}
 use Rattle.mesh.specs.OperationLaws.{First, None, more, fine-none, join-fine, Recovers, given-verdict, refused-exactly, given-exactly, left-given, only-outcome}
 use Rattle.mesh.specs.Refusals.{Told}
 use Rattle.mesh.specs.RefusalLaws.{refusalOf, refusal-once}
+use Rattle.cleaning.specs.CleaningLaws.{cleaned-twice}
+use Rattle.cleaning.specs.declared.Profile.{Profile}
+use Rattle.cleaning.specs.declared.Profile.the-variants.{Full, Clean}
 use Rattle.section.specs.Section.{Right}
 use Rattle.section.specs.RightLaws.{right-of}
 use Rattle.cut.specs.Cut.{lengthsOf}
@@ -25,10 +28,10 @@ use Rattle.cut.specs.Outlines.{Long}
 use Rattle.cut.specs.OutlineLaws.{room-long}
 use Rattle.file_formats.specs.Formats.{Each, holds}
 use Rattle.file_formats.specs.Numbers.{Word}
-use Rattle.file_formats.specs.LayerFile.{mostLayers, lowest, layersOf}
+use Rattle.file_formats.specs.LayerFile.{layerIn, mostLayers, lowest, layersOfIn}
 use Rattle.file_formats.specs.LayerRules as rules
 use Rattle.file_formats.specs.LayerRules.{LayerRules}
-use Rattle.file_formats.specs.RoundTripLaws.{layers-read-back}
+use Rattle.file_formats.specs.CleanFileLaws.{read-back-in}
 use Rattle.sweep.specs.Operations.{unlessRefused}
 use Rattle.sweep.specs.Places.{InOrder}
 use Rattle.all_heights.specs.Heights.{heightsTaken}
@@ -39,16 +42,16 @@ use Rattle.all_sweep.specs.declared.AllLayersAnswer.the-variants.{Length
 use Rattle.all_sweep.specs.AllLayers.{cutLayer, cutFile, sweptFile, climbed, WorkTables, workRoomFor, layersTests, usedAt, shortOutput, filing}
 use Rattle.all_sweep.specs.AllLayers.{tellAllLayers, Files}
 use Rattle.all_sweep.specs.ClimbLaws.{swept-is-cut}
-use Rattle.all_sweep.specs.CutLayerLaws.{layer-rules}
+use Rattle.all_sweep.specs.CutLayerLaws.{cutIn, layer-rules}
 
 -- ---- the layers keep the rules of the layer file
 
-module _ (m : PairedMesh) (right : Right m) where
-  each-rules : (hs : List ℤ) → Words hs → Each LayerRules (map (cutLayer m) hs)
+module _ (p : Profile) (m : PairedMesh) (right : Right m) where
+  each-rules : (hs : List ℤ) → Words hs → Each LayerRules (map (cutIn p m) hs)
   each-rules [] w = tt
-  each-rules (h ∷ hs) w = (layer-rules m right h (w 0 (omega arith)), each-rules hs (λ i l. w (suc i) (omega arith)))
+  each-rules (h ∷ hs) w = (layer-rules m right h p (w 0 (omega arith)), each-rules hs (λ i l. w (suc i) (omega arith)))
 
-  rise-rules : (low : ℤ) (hs : List ℤ) → (0 < length hs → low <ℤ getD hs 0 (pos 0)) → RisingHeights hs → rules.RisingLayers low (map (cutLayer m) hs)
+  rise-rules : (low : ℤ) (hs : List ℤ) → (0 < length hs → low <ℤ getD hs 0 (pos 0)) → RisingHeights hs → rules.RisingLayers low (map (cutIn p m) hs)
   unfolding cutLayer
   rise-rules low [] a r = tt
   rise-rules low (h ∷ hs) a r = (a (omega arith), rise-rules h hs (λ l. r 0 (omega arith)) (λ i l. r (suc i) (omega arith)))
@@ -87,6 +90,16 @@ module _ (m : OrderedMesh) (heights : List ℤ) (w : WorkTables) where
             rises = nowhere-rising (heightsTaken (m .paired .mesh .coords) heights) a;
           }
 
+-- ---- a profile leaves layers that are in it
+
+cut-stays : (p : Profile) (m : PairedMesh) (h : ℤ) → layerIn p (cutIn p m h) ≡ cutIn p m h
+cut-stays Full m h = refl
+cut-stays Clean m h = λ i. record { height = cutLayer m h .height; contours = cleaned-twice (cutLayer m h .contours) i }
+
+cuts-stay : (p : Profile) (m : PairedMesh) (hs : List ℤ) → map (layerIn p) (map (cutIn p m) hs) ≡ map (cutIn p m) hs
+cuts-stay p m [] = refl
+cuts-stay p m (h ∷ hs) = λ i. cut-stays p m h i ∷ cuts-stay p m hs i
+
 -- ---- All layers
 
 pub all-layers-recovers : Recovers tellAllLayers
@@ -95,17 +108,17 @@ all-layers-recovers = record {
   once = elim [ Length n ↦ refl | Refused r ↦ ap Refused (refusal-once r) ];
 }
 
-module _ {m : OrderedMesh} {heights : List ℤ} {w w′ : WorkTables} {output output′ : List ℕ} {result : AllLayersAnswer}
-    (f : Files m heights w output result w′ output′) where
+module _ {p : Profile} {m : OrderedMesh} {heights : List ℤ} {w w′ : WorkTables} {output output′ : List ℕ} {result : AllLayersAnswer}
+    (f : Files p m heights w output result w′ output′) where
   -- refused exactly if a listed condition holds, the first that fits, at the least place; the length of the file exactly if none does; and one outcome only
-  pub all-layers-refused : (r : Told) → (tellAllLayers result ≡ refuses r) ↔ First (filing (m, heights, w, output) .refusals) r
+  pub all-layers-refused : (r : Told) → (tellAllLayers result ≡ refuses r) ↔ First (filing (p, m, heights, w, output) .refusals) r
   all-layers-refused = refused-exactly f
 
-  pub all-layers-given : (tellAllLayers result ≡ gives (length (sweptFile m (w .ring) (heightsTaken (m .paired .mesh .coords) heights))))
-      ↔ None (filing (m, heights, w, output) .refusals)
+  pub all-layers-given : (tellAllLayers result ≡ gives (length (sweptFile p m (w .ring) (heightsTaken (m .paired .mesh .coords) heights))))
+      ↔ None (filing (p, m, heights, w, output) .refusals)
   all-layers-given = given-exactly f
 
-  pub all-layers-only : {other : AllLayersAnswer} {u′ : WorkTables} {o′ : List ℕ} → Files m heights w output other u′ o′
+  pub all-layers-only : {other : AllLayersAnswer} {u′ : WorkTables} {o′ : List ℕ} → Files p m heights w output other u′ o′
       → (result ≡ other) × (w′ ≡ u′) × (output′ ≡ o′)
   all-layers-only g =
       let q = only-outcome all-layers-recovers f g in
@@ -117,32 +130,33 @@ module _ {m : OrderedMesh} {heights : List ℤ} {w w′ : WorkTables} {output ou
     all-layers-tested =
         let hs = heightsTaken (m .paired .mesh .coords) heights in
         file-tested m heights w (join-fine (layersTests m heights (lengthsOf (w .cut)) (length (w .ring)))
-        (map usedAt (climbed m (w .ring) hs) ++ (shortOutput (length output) (sweptFile m (w .ring) hs) ∷ [])) (given-verdict f e .0))
+        (map usedAt (climbed m (w .ring) hs) ++ (shortOutput (length output) (sweptFile p m (w .ring) hs) ∷ [])) (given-verdict f e .0))
 
     -- its file is that of Cut at each height
-    pub all-layers-cut : sweptFile m (w .ring) (heightsTaken (m .paired .mesh .coords) heights)
-        ≡ cutFile (m .paired) (heightsTaken (m .paired .mesh .coords) heights)
-    all-layers-cut = let t = all-layers-tested in swept-is-cut m (w .ring) (t .right) (t .ranked) (t .ring-long) _ (t .rises)
+    pub all-layers-cut : sweptFile p m (w .ring) (heightsTaken (m .paired .mesh .coords) heights)
+        ≡ cutFile p (m .paired) (heightsTaken (m .paired .mesh .coords) heights)
+    all-layers-cut = let t = all-layers-tested in swept-is-cut m (w .ring) (t .right) (t .ranked) (t .ring-long) p _ (t .rises)
 
-    pub all-layers-length : n ≡ length (cutFile (m .paired) (heightsTaken (m .paired .mesh .coords) heights))
+    pub all-layers-length : n ≡ length (cutFile p (m .paired) (heightsTaken (m .paired .mesh .coords) heights))
     all-layers-length = given-verdict f e .1 ∙ ap length all-layers-cut
 
-    pub all-layers-output : output′ ≡ overwrite (cutFile (m .paired) (heightsTaken (m .paired .mesh .coords) heights)) output
+    pub all-layers-output : output′ ≡ overwrite (cutFile p (m .paired) (heightsTaken (m .paired .mesh .coords) heights)) output
     unfolding unlessRefused
     all-layers-output = ap (λ (t : WorkTables × List ℕ). t .1) (left-given f e) ∙ ap (λ (file : List ℕ). overwrite file output) all-layers-cut
 
     -- the file of tables of 32-bit numbers is read back as the layers that it was written from
     pub all-layers-reads-back : Words (m .paired .mesh .coords) → Words heights
-        → layersOf (sweptFile m (w .ring) (heightsTaken (m .paired .mesh .coords) heights))
-        ≡ holds (map (cutLayer (m .paired)) (heightsTaken (m .paired .mesh .coords) heights))
+        → layersOfIn p (sweptFile p m (w .ring) (heightsTaken (m .paired .mesh .coords) heights))
+        ≡ holds (map (cutIn p (m .paired)) (heightsTaken (m .paired .mesh .coords) heights))
     all-layers-reads-back c k =
         let hs = heightsTaken (m .paired .mesh .coords) heights in
         let t = all-layers-tested in
         let words = taken-fit (m .paired .mesh .coords) c heights k in
-        ap layersOf all-layers-cut
-        ∙ layers-read-back (map (cutLayer (m .paired)) hs)
+        ap (layersOfIn p) all-layers-cut
+        ∙ read-back-in p (map (cutIn p (m .paired)) hs)
         (record {
-          few = omega (arith, t .few, length-map hs (cutLayer (m .paired)));
-          rises = rise-rules (m .paired) (t .right) lowest hs (λ l. above-lowest _ (words 0 l)) (t .rises);
-          each = each-rules (m .paired) (t .right) hs words;
+          few = omega (arith, t .few, length-map hs (cutIn p (m .paired)));
+          rises = rise-rules p (m .paired) (t .right) lowest hs (λ l. above-lowest _ (words 0 l)) (t .rises);
+          each = each-rules p (m .paired) (t .right) hs words;
         })
+        (cuts-stay p (m .paired) hs)

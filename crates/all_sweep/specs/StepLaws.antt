@@ -10,10 +10,15 @@ use mir.Val.{toZ, ofZ}
 use Rattle.laws.specs.Machine.{same}
 use Rattle.laws.specs.Tables.{overwrite}
 use Rattle.mesh.specs.Meshes.{Mesh, PairedMesh}
+use Rattle.polygons.specs.Flat.{flat}
+use Rattle.cleaning.specs.declared.Profile.{Profile}
+use Rattle.cleaning.specs.declared.Profile.the-variants.{Full}
 use Rattle.section.specs.Section.{Right}
 use Rattle.cut_points.specs.Climbs.{Climbs}
 use Rattle.cut_points.specs.Points.{pointsOf}
 use Rattle.file_formats.specs.Numbers.{Word}
+use Rattle.file_write.specs.LayerTables.{LayerTables}
+use Rattle.clean_layers.specs.Layers.{LeftIn}
 use Rattle.all_heights.specs.Taking.{heightAt}
 use Rattle.cut.specs.Cut.{lent, lengthsOf}
 use Rattle.cut.specs.Outlines.{Long}
@@ -25,7 +30,8 @@ use Rattle.all_contours.specs.Rounds.{Followed, Marked}
 use Rattle.all_sweep.specs.AllLayers.{WorkTables, work}
 use Rattle.all_sweep.specs.Works.{Spent, Works, HoldsLayer, TakenHeights, takenHeights, takenAt}
 use Rattle.all_sweep.specs.Sweeps.{Ranged, LayersTested, CornerLists, cornerLists, Sweeping}
-use Rattle.all_sweep.specs.CutLayerLaws.{spent-kept, k-names, k-points, names-climb, names-spent, ends-spent, points-spent, followed-holds}
+use Rattle.all_sweep.specs.CutLayerLaws.{spent-more, spent-kept, k-names, k-points, names-climb, names-spent, ends-spent, points-spent, followed-holds}
+use Rattle.all_sweep.specs.CutLayerLaws.{Brought, brought}
 use Rattle.all_sweep.specs.PassLaws.{works-long}
 use Rattle.all_sweep.specs.SweepLaws.{sweeping-start, AtHeight, ring-kept, sweeping-next}
 
@@ -85,23 +91,40 @@ module _ {m : PairedMesh} {t : TakenHeights} {k : ℕ} {l : CornerLists} {h : �
   pub points-climb : (i : ℕ) → i < n → Climbs (m .mesh) h (getD names₁ i 0)
   points-climb = names-climb m (v .right) h o (long .names-long) (long .ends-long)
 
-  module _ {points₁ : List ℤ} (ep : points₁ ≡ overwrite (pointsOf (m .mesh) h (take n names₁)) points) {ring₁ marks₁ : List ℕ} {a : ℕ}
-      (r : ListRelinked (activeAt (m .mesh .coords) (m .mesh .corners) h) (length (m .mesh .corners)) (l .ring) ring₁ a)
-      (w : Marked (activeAt (m .mesh .coords) (m .mesh .corners) h) (length (m .mesh .corners)) (k + 1) (l .marks) marks₁) where
-    pub level-holds : HoldsLayer m (takenAt t k) points₁ ends₁ j
-    level-holds =
-        subst (λ (z : ℤ). HoldsLayer m z points₁ ends₁ j) (v .is)
-        (followed-holds m (v .right) h o (long .names-long) (long .ends-long) points (long .points-long) ep)
+  module _ {points₁ : List ℤ} (ep : points₁ ≡ overwrite (pointsOf (m .mesh) h (take n names₁)) points) where
+    cut-holds : HoldsLayer Full m h points₁ ends₁ j
+    cut-holds = followed-holds m (v .right) h o (long .names-long) (long .ends-long) points (long .points-long) ep
 
-    pub level-works : Works (length (m .mesh .corners)) (work names points ends (l .marks) (l .ring)) (work names₁ points₁ ends₁ marks₁ ring₁)
-    level-works =
-        record {
-          names-spent = names-spent m (v .right) h o (long .names-long) (long .ends-long);
-          points-spent = points-spent m (v .right) h o (long .names-long) (long .ends-long) points (long .points-long) ep;
-          ends-spent = ends-spent m (v .right) h o (long .names-long) (long .ends-long);
-          marks-spent = spent-kept (w .kept);
-          ring-spent = spent-kept (ring-kept v r);
-        }
+    points-written : Spent (2 * length (m .mesh .corners)) points points₁
+    points-written = points-spent m (v .right) h o (long .names-long) (long .ends-long) points (long .points-long) ep
 
-    pub level-sweeps : Sweeping (m .mesh) t (k + 1) (cornerLists ring₁ (l .heads) marks₁ a)
-    level-sweeps = sweeping-next v r refl w
+    ends-written : Spent (length (m .mesh .corners)) ends ends₁
+    ends-written = ends-spent m (v .right) h o (long .names-long) (long .ends-long)
+
+    -- what cleaning them asks
+    pub level-tables : LayerTables points₁ ends₁ j
+    level-tables = cut-holds .tables
+
+    pub level-brought : (p : Profile) {points₂ : List ℤ} {ends₂ : List ℕ} {i : ℕ} → LeftIn p (flat points₁ ends₁) j i (flat points₂ ends₂)
+        → Brought p m h points₁ ends₁ points₂ ends₂ i
+    level-brought = brought m (v .right) h cut-holds
+
+    module _ {ring₁ marks₁ : List ℕ} {a : ℕ}
+        (r : ListRelinked (activeAt (m .mesh .coords) (m .mesh .corners) h) (length (m .mesh .corners)) (l .ring) ring₁ a)
+        (w : Marked (activeAt (m .mesh .coords) (m .mesh .corners) h) (length (m .mesh .corners)) (k + 1) (l .marks) marks₁)
+        {p : Profile} {points₂ : List ℤ} {ends₂ : List ℕ} {i : ℕ} (b : Brought p m h points₁ ends₁ points₂ ends₂ i) where
+      pub level-holds : HoldsLayer p m (takenAt t k) points₂ ends₂ i
+      level-holds = subst (λ (z : ℤ). HoldsLayer p m z points₂ ends₂ i) (v .is) (b .holds-it)
+
+      pub level-works : Works (length (m .mesh .corners)) (work names points ends (l .marks) (l .ring)) (work names₁ points₂ ends₂ marks₁ ring₁)
+      level-works =
+          record {
+            names-spent = names-spent m (v .right) h o (long .names-long) (long .ends-long);
+            points-spent = spent-more points-written (b .points-spent (omega (arith, long .points-long, points-written .same-length)));
+            ends-spent = spent-more ends-written (b .ends-spent (omega (arith, long .ends-long, ends-written .same-length)));
+            marks-spent = spent-kept (w .kept);
+            ring-spent = spent-kept (ring-kept v r);
+          }
+
+      pub level-sweeps : Sweeping (m .mesh) t (k + 1) (cornerLists ring₁ (l .heads) marks₁ a)
+      level-sweeps = sweeping-next v r refl w

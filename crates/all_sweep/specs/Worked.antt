@@ -1,4 +1,4 @@
--- The worked layer file (WORKED-10), from part P to its 23 bytes, by computation from the definitions.
+-- The worked layer file (WORKED-10), from part P to its 23 bytes, and to the 16 of its clean file, by computation from the definitions.
 use Prim.Native.Nat.{ℕ}
 use mathlib.Core.Path.{_≡_, refl}
 use mathlib.Core.List.{List, [], _∷_, flatten}
@@ -11,6 +11,8 @@ use Rattle.mesh.specs.Operation.{gives, refuses, test, _then_, verdict, answerO
 use Rattle.mesh.specs.Order.{before, place, orderUpTo, orderOf}
 use Rattle.mesh.specs.Refusals.{refusal}
 use Rattle.mesh.specs.Tests.{sizesFit, outOfRange, namesNone, namesTwice, reverse, pairedAt, orderedAt}
+use Rattle.cleaning.specs.Cleaning.{samePoint, unrepeated, trimmed, neat, among, variety, kept, cleaned}
+use Rattle.cleaning.specs.declared.Profile.the-variants.{Full, Clean}
 use Rattle.section.specs.Section.{below, rising, risingIn, successor, ringEntry}
 use Rattle.section.specs.Contours.{member, walk, traceAt, traceTo}
 use Rattle.section.specs.Links.{hasLink, traceLinks}
@@ -18,7 +20,7 @@ use Rattle.cut_points.specs.Points.{numerator, denominator, rounded, exactOver,
 use Rattle.cut.specs.Cut.{cutRoomFor, metAt}
 use Rattle.file_formats.specs.Formats.{encodeAll}
 use Rattle.file_formats.specs.Numbers.{groups, encodeNumber}
-use Rattle.file_formats.specs.LayerFile.{coordinateFormat, pointFormat, contourFormat, contourList, heightAbove, layerFormat, layerFile}
+use Rattle.file_formats.specs.LayerFile.{coordinateFormat, pointFormat, contourFormat, contourListIn, heightAbove, layerFormatIn, layerFileIn}
 use Rattle.sweep.specs.Sweep.{passedAt, freshRing, touches, relinked, stepRing, mayRise, risenTo, risenRing}
 use Rattle.all_heights.specs.Heights.{lower, higher, lowestTo, highestTo, defaultCount, heightsTaken, notAboveLast}
 use Rattle.all_sweep.specs.AllLayers.{sweptLayer, climb, sweptFile, WorkTables, work, workRoomFor, filing}
@@ -46,38 +48,47 @@ ring = replicate 12 7
 abbrev w : WorkTables
 w = work (replicate 12 7) (replicate 24 (pos 7)) (replicate 12 7) (replicate 12 7) ring
 
-file : sweptFile p ring (heightsTaken coords heights)
+file : sweptFile Full p ring (heightsTaken coords heights)
     ≡ 0x04 ∷ 0x00 ∷ 0x00 ∷ 0x0A ∷ 0x01 ∷ 0x03 ∷ 0x0A ∷ 0x00 ∷ 0x09 ∷ 0x0A ∷ 0x00 ∷ 0x09 ∷ 0x14 ∷ 0x01 ∷ 0x03 ∷ 0x00 ∷ 0x00 ∷ 0x00 ∷ 0x00 ∷ 0x00 ∷ 0x00 ∷ 0x16
     ∷ 0x00 ∷ []
 unfolding heightsTaken sweptLayer climb freshRing tabulate overwrite mayRise risenTo risenRing stepRing relinked touches ringEntry passedAt below rising
     risingIn successor member walk traceAt flatten traceTo traceLinks hasLink numerator denominator rounded exactOver exactUnder pointAt encodeAll groups
-    encodeNumber coordinateFormat pointFormat contourFormat contourList heightAbove layerFormat layerFile
+    encodeNumber coordinateFormat pointFormat contourFormat contourListIn heightAbove layerFormatIn layerFileIn
 file = refl
 
+-- in the clean profile the layer at 10 stays, without its contour of three equal points
+clean-file : sweptFile Clean p ring (heightsTaken coords heights)
+    ≡ 0x04 ∷ 0x00 ∷ 0x00 ∷ 0x0A ∷ 0x01 ∷ 0x03 ∷ 0x0A ∷ 0x00 ∷ 0x09 ∷ 0x0A ∷ 0x00 ∷ 0x09 ∷ 0x14 ∷ 0x00 ∷ 0x16 ∷ 0x00 ∷ []
+unfolding heightsTaken sweptLayer climb freshRing tabulate overwrite mayRise risenTo risenRing stepRing relinked touches ringEntry passedAt below rising
+    risingIn successor member walk traceAt flatten traceTo traceLinks hasLink numerator denominator rounded exactOver exactUnder pointAt cleaned kept neat
+    unrepeated trimmed samePoint variety among encodeAll groups encodeNumber coordinateFormat pointFormat contourFormat contourListIn heightAbove layerFormatIn
+    layerFileIn
+clean-file = refl
+
 -- without heights given P has no layer: it is lower than the first default height
-none : sweptFile p ring (heightsTaken coords []) ≡ 0x00 ∷ []
-unfolding heightsTaken climb lower higher lowestTo highestTo defaultCount tabulate encodeAll groups encodeNumber layerFile
+none : sweptFile Full p ring (heightsTaken coords []) ≡ 0x00 ∷ []
+unfolding heightsTaken climb lower higher lowestTo highestTo defaultCount tabulate encodeAll groups encodeNumber layerFileIn
 none = refl
 
 -- an output of 23 bytes is enough; one of 22 is not
-enough : answerOf (filing (p, heights, w, replicate 23 7)) ≡ gives 23
+enough : answerOf (filing (Full, p, heights, w, replicate 23 7)) ≡ gives 23
 unfolding verdict _then_ test some least sizesFit workRoomFor cutRoomFor outOfRange namesNone namesTwice reverse pairedAt orderedAt before place orderUpTo
     orderOf
     metAt notAboveLast heightsTaken sweptLayer climb freshRing tabulate overwrite mayRise risenTo risenRing stepRing relinked touches ringEntry passedAt
     below rising risingIn successor member walk traceAt flatten traceTo traceLinks hasLink numerator denominator rounded exactOver exactUnder pointAt encodeAll
-    groups encodeNumber coordinateFormat pointFormat contourFormat contourList heightAbove layerFormat layerFile
+    groups encodeNumber coordinateFormat pointFormat contourFormat contourListIn heightAbove layerFormatIn layerFileIn
 enough = refl
 
-short : verdict (filing (p, heights, w, replicate 22 7) .refusals) ≡ refuses (refusal 14 0)
+short : verdict (filing (Full, p, heights, w, replicate 22 7) .refusals) ≡ refuses (refusal 14 0)
 unfolding verdict _then_ test some least sizesFit workRoomFor cutRoomFor outOfRange namesNone namesTwice reverse pairedAt orderedAt before place orderUpTo
     orderOf
     metAt notAboveLast heightsTaken sweptLayer climb freshRing tabulate overwrite mayRise risenTo risenRing stepRing relinked touches ringEntry passedAt
     below rising risingIn successor member walk traceAt flatten traceTo traceLinks hasLink numerator denominator rounded exactOver exactUnder pointAt encodeAll
-    groups encodeNumber coordinateFormat pointFormat contourFormat contourList heightAbove layerFormat layerFile
+    groups encodeNumber coordinateFormat pointFormat contourFormat contourListIn heightAbove layerFormatIn layerFileIn
 short = refl
 
 -- a height that is not above its forerunner is refused at its position
-falling : verdict (filing (p, pos 0 ∷ pos 5 ∷ pos 5 ∷ [], w, []) .refusals) ≡ refuses (refusal 12 2)
+falling : verdict (filing (Full, p, pos 0 ∷ pos 5 ∷ pos 5 ∷ [], w, []) .refusals) ≡ refuses (refusal 12 2)
 unfolding verdict _then_ test some least sizesFit workRoomFor cutRoomFor outOfRange namesNone namesTwice reverse pairedAt orderedAt before place orderUpTo
     orderOf
     notAboveLast heightsTaken

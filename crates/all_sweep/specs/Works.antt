@@ -8,7 +8,8 @@ use Rattle.laws.specs.Tables.{overwrite}
 use Rattle.mesh.specs.Meshes.{PairedMesh}
 use Rattle.mesh.specs.Operation.{fine, Operation, Does}
 use Rattle.mesh.specs.Refusals.{Told}
-use Rattle.file_formats.specs.LayerFile.{mostLayers}
+use Rattle.cleaning.specs.declared.Profile.{Profile}
+use Rattle.file_formats.specs.LayerFile.{mostLayers, layerIn}
 use Rattle.sweep.specs.Operations.{unlessRefused}
 use Rattle.all_heights.specs.Heights.{heightsTaken}
 use Rattle.all_heights.specs.Taking.{RisingHeights, baseZ, heightAt, Takable}
@@ -36,9 +37,9 @@ pub record Works (n : ℕ) (w w′ : WorkTables) : Type 0 where
 pub record Zeroed (n : ℕ) (w w′ : WorkTables) : Type 0 where
   pub is : w′ ≡ workAfter n w fine
 
--- the tables of points and ends hold the layer of height h, which has j contours
-pub record HoldsLayer (m : PairedMesh) (h : ℤ) (points : List ℤ) (ends : List ℕ) (j : ℕ) : Type 0 where
-  pub is : layerOf h points ends j ≡ cutLayer m h
+-- the tables of points and ends hold the layer of height h in the profile, which has j contours
+pub record HoldsLayer (p : Profile) (m : PairedMesh) (h : ℤ) (points : List ℤ) (ends : List ℕ) (j : ℕ) : Type 0 where
+  pub is : layerOf h points ends j ≡ layerIn p (cutLayer m h)
   pub tables : LayerTables points ends j
 
 -- ---- the heights taken
@@ -64,9 +65,9 @@ pub record ListedHeights (coords : List ℤ) (t : TakenHeights) : Type 0 where
   pub rises : RisingHeights (heightsTaken coords (t .heights))
   pub each : (k : ℕ) → k < t .count → Takable (t .low) (t .heights) k
 
--- the layer file of Cut at these heights
-abbrev pub takenFile : PairedMesh → TakenHeights → List ℕ
-takenFile m t = cutFile m (heightsTaken (m .mesh .coords) (t .heights))
+-- the layer file of Cut at these heights, each layer in the profile
+abbrev pub takenFile : Profile → PairedMesh → TakenHeights → List ℕ
+takenFile p m t = cutFile p m (heightsTaken (m .mesh .coords) (t .heights))
 
 -- ---- the output
 

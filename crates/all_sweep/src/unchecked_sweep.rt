@@ -17,6 +17,8 @@ use all_active::unchecked_lists::advance;
 use all_active::unchecked_lists::deal_lists;
 use all_contours::unchecked_contours::outline_crossings;
 use all_heights::unchecked::taken_height;
+use clean_layers::unchecked::bring_into;
+use cleaning::Profile;
 use cut_points::unchecked_points::put_points;
 use file_formats::numbers::number_length;
 use file_formats::unchecked::write_number;
@@ -56,8 +58,9 @@ pub fn begin(
     deal_lists(coords, corners, low, heights, count, ring, heads, marks)
 }
 
-// The layer of height k, put into the tables of points and ends.
+// The layer of height k in the profile, put into the tables of points and ends.
 fn next_layer(
+    profile: Profile,
     coords: &[i32],
     corners: &[u32],
     pairing: &[u32],
@@ -78,7 +81,8 @@ fn next_layer(
         ∗ ⌜ Climbing low (now heights) count ⌝
         ∗ ⌜ Sweeping (mesh (now coords) (now corners)) (takenHeights low (now heights) count) k
         (cornerLists (now ring) (now heads) (now marks) active) ⌝ ∗ ⌜ k < count ⌝ }
-    ensures layer { λ r. ⌜ HoldsLayer (paired (coords .entry .now) (corners .entry .now) (pairing .entry .now))
+    ensures layer { λ r. ⌜ HoldsLayer profile
+        (paired (coords .entry .now) (corners .entry .now) (pairing .entry .now))
         (heightAt low (heights .entry .now) k) (points .exit .now) (ends .exit .now) (r .contours) ⌝ }
     ensures work { λ _. ⌜ Works (length (corners .entry .now))
         (work (names .entry .now) (points .entry .now) (ends .entry .now) (marks .entry .now) (ring .entry .now))
@@ -93,14 +97,16 @@ fn next_layer(
     let s = (k + 1) as u32;
     let f = outline_crossings(coords, corners, pairing, h, s, ring, a, names, ends, marks);
     put_points(coords, corners, h, names, points, f.names);
+    let contours = bring_into(profile, points, ends, f.contours);
     Level {
         active: a,
-        contours: f.contours,
+        contours: contours,
     }
 }
 
-// How many bytes the layers take, the sweep begun.
+// How many bytes the layers in the profile take, the sweep begun.
 pub fn layers_length(
+    profile: Profile,
     coords: &[i32],
     corners: &[u32],
     pairing: &[u32],
@@ -118,7 +124,7 @@ pub fn layers_length(
         (work (now names) (now points) (now ends) (now marks) (now ring)) ⌝
         ∗ ⌜ Sweeping (mesh (now coords) (now corners)) (takenHeights low (now heights) count) 0
         (cornerLists (now ring) (now heads) (now marks) (length (now corners))) ⌝ }
-    ensures value { λ r. ⌜ r ≡ length (takenFile
+    ensures value { λ r. ⌜ r ≡ length (takenFile profile
         (paired (coords .entry .now) (corners .entry .now) (pairing .entry .now))
         (takenHeights low (heights .entry .now) count)) ⌝ }
     ensures work { λ _. ⌜ Works (length (corners .entry .now))
@@ -130,6 +136,7 @@ pub fn layers_length(
     let mut k: usize = 0;
     while k < count {
         let s = next_layer(
+            profile,
             coords,
             corners,
             pairing,
@@ -153,8 +160,9 @@ pub fn layers_length(
     total
 }
 
-// Writes the layer file, the sweep begun, and returns its length.
+// Writes the layer file in the profile, the sweep begun, and returns its length.
 pub fn write_layers(
+    profile: Profile,
     coords: &[i32],
     corners: &[u32],
     pairing: &[u32],
@@ -175,12 +183,12 @@ pub fn write_layers(
         ∗ ⌜ Sweeping (mesh (now coords) (now corners)) (takenHeights low (now heights) count) 0
         (cornerLists (now ring) (now heads) (now marks) (length (now corners))) ⌝
         ∗ ⌜ length
-        (takenFile (paired (now coords) (now corners) (now pairing)) (takenHeights low (now heights) count))
+        (takenFile profile (paired (now coords) (now corners) (now pairing)) (takenHeights low (now heights) count))
         ≤ length (now output) ⌝ }
-    ensures value { λ r. ⌜ r ≡ length (takenFile
+    ensures value { λ r. ⌜ r ≡ length (takenFile profile
         (paired (coords .entry .now) (corners .entry .now) (pairing .entry .now))
         (takenHeights low (heights .entry .now) count)) ⌝ }
-    ensures output_left { λ _. ⌜ output .exit .now ≡ overwrite (takenFile
+    ensures output_left { λ _. ⌜ output .exit .now ≡ overwrite (takenFile profile
         (paired (coords .entry .now) (corners .entry .now) (pairing .entry .now))
         (takenHeights low (heights .entry .now) count)) (output .entry .now) ⌝ }
     ensures work { λ _. ⌜ Works (length (corners .entry .now))
@@ -192,6 +200,7 @@ pub fn write_layers(
     let mut i: usize = 0;
     while i < count {
         let s = next_layer(
+            profile,
             coords,
             corners,
             pairing,

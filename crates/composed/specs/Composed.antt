@@ -21,6 +21,7 @@ use Rattle.sweep.specs.declared.StepAnswer.{StepAnswer}
 use Rattle.sweep.specs.declared.LayerAnswer.{LayerAnswer}
 use Rattle.sweep.specs.Sweep.{sweep, RingAt, countBelow}
 use Rattle.sweep.specs.Operations.{tellStart, Starts, tellStep, Steps, tellLayer, Rises}
+use Rattle.cleaning.specs.declared.Profile.{Profile}
 use Rattle.file_formats.specs.LayerFile.{mostLayers}
 use Rattle.all_heights.specs.Heights.{heightsTaken}
 use Rattle.all_heights.specs.Taking.{RisingHeights}
@@ -60,12 +61,13 @@ pub record RiseAfter (m : OrderedMesh) (ring : List ℕ) (n : ℕ) (h : ℤ) (re
   pub given : n ≤ vertexCount (m .paired .mesh .coords) → RingAt (sweep m ring n) → n ≤ countBelow (m .paired .mesh .coords) h
       → RefusedOnly [] (tellLayer result)
 
--- All layers, with these heights taken: 1, 12 and 14, and 1 only for too many heights; with few enough that rise 14; and with room for the file nothing
-pub record FiledAfter (m : PairedMesh) (hs : List ℤ) (output : List ℕ) (result : AllLayersAnswer) : Type 0 where
+-- All layers in either profile, with these heights taken: 1, 12 and 14, and 1 only for too many heights; with few enough that rise 14; and with room for the
+-- file nothing
+pub record FiledAfter (p : Profile) (m : PairedMesh) (hs : List ℤ) (output : List ℕ) (result : AllLayersAnswer) : Type 0 where
   pub only : RefusedOnly (1 ∷ 12 ∷ 14 ∷ []) (tellAllLayers result)
   pub too-many : (place : ℕ) → tellAllLayers result ≡ refuses (refusal 1 place) → mostLayers < length hs
   pub short : length hs ≤ mostLayers → RisingHeights hs → RefusedOnly (14 ∷ []) (tellAllLayers result)
-  pub given : length hs ≤ mostLayers → RisingHeights hs → length (cutFile m hs) ≤ length output → RefusedOnly [] (tellAllLayers result)
+  pub given : length hs ≤ mostLayers → RisingHeights hs → length (cutFile p m hs) ≤ length output → RefusedOnly [] (tellAllLayers result)
 
 -- ---- the theorem
 
@@ -83,9 +85,9 @@ pub record Composed (m : Mesh) (t : CheckTables) : Type 0 where
   pub onward : (ring : List ℕ) (result : StartAnswer) (k : ℕ) (ring₀ : List ℕ) → Starts m ring result ring₀ → tellStart result ≡ gives k
       → (calls : List Call) (n : ℕ) (ring′ : List ℕ) → Run (withLeft m t) k ring₀ calls n ring′
       → (n ≤ vertexCount (m .coords)) × RingAt (sweep (withLeft m t) ring′ n)
-  pub filed : (heights : List ℤ) (w w′ : WorkTables) (output output′ : List ℕ) (result : AllLayersAnswer)
-      → workRoomFor (length (m .corners)) (lengthsOf (w .cut)) (length (w .ring)) ≡ true → Files (withLeft m t) heights w output result w′ output′
-      → FiledAfter (withLeft m t .paired) (heightsTaken (m .coords) heights) output result
+  pub filed : (p : Profile) (heights : List ℤ) (w w′ : WorkTables) (output output′ : List ℕ) (result : AllLayersAnswer)
+      → workRoomFor (length (m .corners)) (lengthsOf (w .cut)) (length (w .ring)) ≡ true → Files p (withLeft m t) heights w output result w′ output′
+      → FiledAfter p (withLeft m t .paired) (heightsTaken (m .coords) heights) output result
 
 -- Check accepted the mesh and left the tables t′
 abbrev pub AfterCheck : Type 0

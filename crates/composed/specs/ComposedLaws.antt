@@ -18,6 +18,7 @@ use Rattle.mesh.specs.Refusals.{Told, refusal, numbered}
 use Rattle.check_mesh.specs.Check.{CheckTables, checking, tellCheck, Checks}
 use Rattle.check_mesh.specs.CheckLaws.{check-promise}
 use Rattle.check_mesh.specs.declared.CheckAnswer.{CheckAnswer}
+use Rattle.cleaning.specs.declared.Profile.{Profile}
 use Rattle.file_formats.specs.LayerFile.{mostLayers}
 use Rattle.cut.specs.Cut.{CutTables, lengthsOf, cutRoomFor, used}
 use Rattle.sweep.specs.Sweep.{sweep, RingAt}
@@ -111,17 +112,17 @@ module _ (m : OrderedMesh) (right : None (rightTests m)) where
           (inl s, (inl (λ i l. ap not room), (inl r, (inl v, (inl x, (inl p, (inl o, (inr (λ i. refl), (inr (λ i. refl), (inr (λ i. refl), tt))))))))))
 
   -- All layers with room: 1 for the heights, 12 or 14, of which some may fit nowhere
-  module _ (heights : List ℤ) (w : WorkTables) (output : List ℕ)
+  module _ (profile : Profile) (heights : List ℤ) (w : WorkTables) (output : List ℕ)
       (room : workRoomFor (length (m .paired .mesh .corners)) (lengthsOf (w .cut)) (length (w .ring)) ≡ true) where
     abbrev hs : List ℤ
     hs = heightsTaken coords heights
 
     abbrev file : List ℕ
-    file = sweptFile m (w .ring) (heightsTaken (m .paired .mesh .coords) heights)
+    file = sweptFile profile m (w .ring) (heightsTaken (m .paired .mesh .coords) heights)
 
     filed-left : (P : Told → Type 0) → Nowhere (tooManyHeights coords heights) ⊎ ((i : ℕ) → P (refusal 1 i))
         → Nowhere (fallingHeight hs) ⊎ ((i : ℕ) → P (refusal 12 i)) → Nowhere (shortOutput (length output) file) ⊎ ((i : ℕ) → P (refusal 14 i))
-        → (r : Told) → verdict (filing (m, heights, w, output) .refusals) ≡ refuses r → P r
+        → (r : Told) → verdict (filing (profile, m, heights, w, output) .refusals) ≡ refuses r → P r
     filed-left P many falls short r =
         join-either P (layersTests m heights (lengthsOf (w .cut)) (length (w .ring)))
         (map usedAt (climbed m (w .ring) hs) ++ (shortOutput (length output) file ∷ [])) (go right)
@@ -142,11 +143,11 @@ module _ (m : OrderedMesh) (right : None (rightTests m)) where
     few-nowhere : length hs ≤ mostLayers → Nowhere (tooManyHeights coords heights)
     few-nowhere few i l = le-ltb mostLayers (length hs) few
 
-    short-nowhere : RisingHeights hs → length (cutFile (m .paired) hs) ≤ length output → Nowhere (shortOutput (length output) file)
+    short-nowhere : RisingHeights hs → length (cutFile profile (m .paired) hs) ≤ length output → Nowhere (shortOutput (length output) file)
     short-nowhere above long i l =
         let placed = mesh-tested m right in
         let ring = work-parts (length corners) (lengthsOf (w .cut)) (length (w .ring)) room .1 in
-        let same = swept-is-cut m (w .ring) (placed .0) (placed .1) ring hs above in
+        let same = swept-is-cut m (w .ring) (placed .0) (placed .1) ring profile hs above in
         le-ltb (length output) (length file) (omega (arith, ap length same))
 
 -- ---- after Check
@@ -178,9 +179,9 @@ module _ {m : Mesh} {t t′ : CheckTables} {checked : CheckAnswer} (c : Checks m
               subst (λ (i : ℕ). i ≤ vertexCount (m .coords)) (sym (k .position)) (k .few),
               subst (λ (i : ℕ). RingAt (sweep o ring′ i)) (sym (k .position)) (k .table),
             );
-        filed = λ heights w w′ output output′ result room d.
-            let left = filed-left o right heights w output room in
-            let few-none = few-nowhere o right heights w output room in
+        filed = λ profile heights w w′ output output′ result room d.
+            let left = filed-left o right profile heights w output room in
+            let few-none = few-nowhere o right profile heights w output room in
             let hs = heightsTaken (m .coords) heights in
             record {
               only = only-verdict d (1 ∷ 12 ∷ 14 ∷ [])
@@ -192,7 +193,7 @@ module _ {m : Mesh} {t t′ : CheckTables} {checked : CheckAnswer} (c : Checks m
                   (left (λ r. numbered (14 ∷ []) r ≡ true) (inl (few-none few)) (inl (rising-nowhere hs above)) (inr (λ i. refl)));
               given = λ few above long. only-verdict d []
                   (left (λ r. numbered [] r ≡ true) (inl (few-none few)) (inl (rising-nowhere hs above))
-                  (inl (short-nowhere o right heights w output room above long)));
+                  (inl (short-nowhere o right profile heights w output room above long)));
             };
       }
 

@@ -1,5 +1,5 @@
--- The third demand about All layers (RUN-8): its file is the layer file of Cut at each height
--- taken, which is what Layer leaves on the way up from a start. Below it the demand whole (RUN-10).
+-- The third demand about All layers (RUN-8), in its full and in its clean form (ALLCLEAN-3): its file is the layer file of Cut at each
+-- height taken, as it is or cleaned, which is what Layer leaves on the way up from a start. Below it the demand whole (RUN-10).
 use Prim.Native.Nat.{ℕ}
 use mathlib.Core.Path.{_≡_}
 use mathlib.Core.Bool.{true}
@@ -10,6 +10,7 @@ use Rattle.mesh.specs.Meshes.{PairedMesh, OrderedMesh}
 use Rattle.mesh.specs.Operation.{gives, fine, Condition, verdict}
 use Rattle.mesh.specs.Refusals.{Told}
 use Rattle.mesh.specs.Tests.{orders}
+use Rattle.cleaning.specs.declared.Profile.{Profile}
 use Rattle.file_formats.specs.LayerFile as files
 use Rattle.file_write.specs.Written.{layerOf}
 use Rattle.cut.specs.Cut.{CutTables, lengthsOf, cutRoomFor, tellCut, Cuts}
@@ -66,26 +67,27 @@ ClimbClaim =
 
 -- ---- All layers
 
--- an answer n and an output are the length and the bytes of the layer file of Cut at each of these heights
-pub record FileOfCuts (m : OrderedMesh) (hs : List ℤ) (w : WorkTables) (output : List ℕ) (n : ℕ) (output′ : List ℕ) : Type 0 where
-  -- the layers of the file are those of Cut
+-- an answer n and an output are the length and the bytes of the layer file of Cut at each of these heights, each layer in the profile
+pub record FileOfCuts (p : Profile) (m : OrderedMesh) (hs : List ℤ) (w : WorkTables) (output : List ℕ) (n : ℕ) (output′ : List ℕ) : Type 0 where
+  -- the layers of the file are those of Cut, as they are or cleaned
   pub cut : (h : ℤ) → LayerOfCut (m .paired) h (cutLayer (m .paired) h)
-  pub size : n ≡ length (cutFile (m .paired) hs)
-  pub bytes : take n output′ ≡ cutFile (m .paired) hs
+  pub size : n ≡ length (cutFile p (m .paired) hs)
+  pub bytes : take n output′ ≡ cutFile p (m .paired) hs
   -- what was in the output past them stays
   pub past : drop n output′ ≡ drop n output
-  -- Start is not refused the lent ring table, and calls of Layer from there, none refused, leave the layers of the file
+  -- Start is not refused the lent ring table, and calls of Layer from there, none refused, leave the layers of Cut at these heights
   pub start : (answer : StartAnswer) × (tellStart answer ≡ gives 0) × Starts (m .paired .mesh) (w .ring) answer (freshRing (m .paired .mesh .corners) (w .ring))
   pub ascent : Ascent m 0 (freshRing (m .paired .mesh .corners) (w .ring)) (map (cutLayer (m .paired)) hs)
 
--- The third demand about All layers (RUN-8): where it is not refused, it gives the length and the bytes of the layer
--- file of Cut at each height taken. A caller can meet the hypothesis: only a listed condition refuses (`all-layers-given`,
--- all_sweep/LayersLaws), and after Check none but those of heights and room (`FiledAfter`, composed).
+-- The third demand about All layers (RUN-8), and its clean form (ALLCLEAN-3): where it is not refused, it gives the length and the
+-- bytes of the layer file of Cut at each height taken, in the full profile as it is, in the clean profile cleaned. A caller can
+-- meet the hypothesis: only a listed condition refuses (`all-layers-given`, all_sweep/LayersLaws), and after Check none but
+-- those of heights and room (`FiledAfter`, composed).
 abbrev pub FileClaim : Type 0
 FileClaim =
-    (m : OrderedMesh) (heights : List ℤ) (w w′ : WorkTables) (output output′ : List ℕ) (answer : AllLayersAnswer) (n : ℕ)
-    → Files m heights w output answer w′ output′ → tellAllLayers answer ≡ gives n
-    → FileOfCuts m (heightsTaken (m .paired .mesh .coords) heights) w output n output′
+    (p : Profile) (m : OrderedMesh) (heights : List ℤ) (w w′ : WorkTables) (output output′ : List ℕ) (answer : AllLayersAnswer) (n : ℕ)
+    → Files p m heights w output answer w′ output′ → tellAllLayers answer ≡ gives n
+    → FileOfCuts p m (heightsTaken (m .paired .mesh .coords) heights) w output n output′
 
 -- ---- the third demand, whole (RUN-10)
 

@@ -1,5 +1,5 @@
 -- The claim about All layers proved: what Cut leaves at a height is the layer of the file, so does Layer on the way up, and the file is that of Cut at each
--- height taken. With the claim about the list of calls it is demand 3.
+-- height taken, in either profile. With the claim about the list of calls it is demand 3.
 use Prim.Native.Nat.{ℕ, _≤_}
 use mathlib.Core.Path.{_≡_, refl, sym, ap, _∙_, subst}
 use mathlib.Core.Bool.{true, false, not}
@@ -18,6 +18,7 @@ use Rattle.mesh.specs.OperationLaws.{given-verdict, given-exactly, left-given}
 use Rattle.mesh.specs.Refusals.{Told}
 use Rattle.polygons.specs.Flat.{numbersOf, endsOf}
 use Rattle.section.specs.RightLaws.{right-of}
+use Rattle.cleaning.specs.declared.Profile.{Profile}
 use Rattle.file_formats.specs.LayerFile as files
 use Rattle.file_write.specs.Written.{layerOf}
 use Rattle.file_write.specs.WrittenLaws.{layer-held}
@@ -136,31 +137,31 @@ passed-parts m heights w (more s (more y (more u (more r (more v (more x (more p
     let room = work-parts (length (m .paired .mesh .corners)) (lengthsOf (w .cut)) (length (w .ring)) (not-false _ (u 0 (omega arith))) in
     (more s (more r (more v (more x (more p (more o none-left))))), room .0)
 
-pub file-passed : {m : OrderedMesh} {heights : List ℤ} {w w′ : WorkTables} {output output′ : List ℕ} {answer : AllLayersAnswer} {n : ℕ}
-    → Files m heights w output answer w′ output′ → tellAllLayers answer ≡ gives n
+pub file-passed : {p : Profile} {m : OrderedMesh} {heights : List ℤ} {w w′ : WorkTables} {output output′ : List ℕ} {answer : AllLayersAnswer} {n : ℕ}
+    → Files p m heights w output answer w′ output′ → tellAllLayers answer ≡ gives n
     → None (rightTests m) × (cutRoomFor (length (m .paired .mesh .corners)) (lengthsOf (w .cut)) ≡ true)
-file-passed {m} {heights} {w} {output = output} f e =
+file-passed {p} {m} {heights} {w} {output = output} f e =
     let hs = heightsTaken (m .paired .mesh .coords) heights in
     let tests = layersTests m heights (lengthsOf (w .cut)) (length (w .ring)) in
-    let later = map usedAt (climbed m (w .ring) hs) ++ (shortOutput (length output) (sweptFile m (w .ring) hs) ∷ []) in
+    let later = map usedAt (climbed m (w .ring) hs) ++ (shortOutput (length output) (sweptFile p m (w .ring) hs) ∷ []) in
     passed-parts m heights w (fine-none tests (join-fine tests later (given-verdict f e .0)))
 
 pub file-claim : FileClaim
-file-claim m heights w w′ output output′ answer n f e =
+file-claim p m heights w w′ output output′ answer n f e =
     let hs = heightsTaken (m .paired .mesh .coords) heights in
-    let bytes = cutFile (m .paired) hs in
-    let p = file-passed f e in
+    let bytes = cutFile p (m .paired) hs in
+    let passed = file-passed f e in
     let t = all-layers-tested f e in
     let size = all-layers-length f e in
     let written = all-layers-output f e in
-    let start = start-fine m (p .0) (w .ring) (t .ring-long) in
+    let start = start-fine m (passed .0) (w .ring) (t .ring-long) in
     record {
-      cut = layer-of-cut (m .paired) (linked-none m (p .0));
+      cut = layer-of-cut (m .paired) (linked-none m (passed .0));
       size = size;
       bytes = (λ i. take (size i) (written i)) ∙ overwrite-front bytes output refl;
       past = (λ i. drop (size i) (written i)) ∙ overwrite-rest bytes output refl ∙ ap (λ (k : ℕ). drop k output) (sym size);
       start = start;
-      ascent = climb-claim m (none-fine (rightTests m) (p .0)) (w .cut) (p .1) (w .ring) (start .0) 0 _ (start .2) (start .1) hs (t .rises);
+      ascent = climb-claim m (none-fine (rightTests m) (passed .0)) (w .cut) (passed .1) (w .ring) (start .0) 0 _ (start .2) (start .1) hs (t .rises);
     }
 
 -- ---- demand 3

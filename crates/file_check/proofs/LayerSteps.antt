@@ -7,9 +7,10 @@ use native.Mathlib.Omega.{arith}
 use lib.ListN.{length, drop}
 use lib.IntN.{ℤ}
 use lib.Signed.{ltZ}
+use Rattle.cleaning.specs.declared.Profile.{Profile}
 use Rattle.file_formats.specs.Formats.{Format, sequence}
 use Rattle.file_formats.specs.Numbers.{largestWord, unzigzag}
-use Rattle.file_formats.specs.LayerFile.{heightAbove, layerFormat, heightOf}
+use Rattle.file_formats.specs.LayerFile.{heightAbove, layerFormatIn, heightOf}
 use Rattle.file_formats.specs.LayerFileLaws.{height-bad, height-low, height-above}
 use Rattle.file_formats.specs.Positions.{numberAt, extentAt}
 use Rattle.file_formats.specs.PositionLaws.{took, not-took}
@@ -44,25 +45,26 @@ module _ (low : ℤ) (file : List ℕ) (at : ℕ) where
 
 -- ---- the loop over the layers
 
-abbrev pub LayerRun : List ℕ → LevelsExtent → ℤ → ℕ → ℕ → Type 0
-LayerRun file total low i left = Running layerFormat heightOf (λ z next. End next z) Refused file total low i left
+abbrev pub LayerRun : Profile → List ℕ → LevelsExtent → ℤ → ℕ → ℕ → Type 0
+LayerRun p file total low i left = Running (layerFormatIn p) heightOf (λ z next. End next z) Refused file total low i left
 
-module _ {file : List ℕ} {total : LevelsExtent} {low : ℤ} {i left : ℕ} (w : LayerRun file total low i left) (h : 0 < left) where
+module _ (p : Profile) {file : List ℕ} {total : LevelsExtent} {low : ℤ} {i left : ℕ} (w : LayerRun p file total low i left) (h : 0 < left) where
   pub height-stops : heightToldAt low file i ≡ HeightBad → Refused i ≡ total
-  height-stops e = run-off layerFormat heightOf (λ z next. End next z) Refused file left w h i (layer-no-height low file i (w .inside) e)
+  height-stops e = run-off (layerFormatIn p) heightOf (λ z next. End next z) Refused file left w h i (layer-no-height p low file i (w .inside) e)
 
   module _ {z : ℤ} {j : ℕ} (e : heightToldAt low file i ≡ Above z j) where
     pub height-in : j ≤ length file
-    height-in = height-inside low file i (w .inside) z j e
+    height-in = height-inside p low file i (w .inside) z j e
 
-    pub contours-stop : {k : ℕ} → countsAt file j ≡ CountsRefused k → Refused k ≡ total
-    contours-stop {k} f = run-off layerFormat heightOf (λ z next. End next z) Refused file left w h k (layer-no-contours low file i (w .inside) z j e k f)
+    pub contours-stop : {k : ℕ} → countsAt p file j ≡ CountsRefused k → Refused k ≡ total
+    contours-stop {k} f =
+        run-off (layerFormatIn p) heightOf (λ z next. End next z) Refused file left w h k (layer-no-contours p low file i (w .inside) z j e k f)
 
-    pub layer-passes : {next c p : ℕ} → countsAt file j ≡ CountsEnd next c p → LayerRun file total z next (left - 1)
-    layer-passes {next} {c} {p} f =
-        let q = counts-read file j height-in next c p f in
-        run-next layerFormat heightOf (λ z next. End next z) Refused file left w h (record { height = z; contours = q .0 }) next
-        (layer-read low file i (w .inside) z j e (q .0) next c p (q .1))
+    pub layer-passes : {next c m : ℕ} → countsAt p file j ≡ CountsEnd next c m → LayerRun p file total z next (left - 1)
+    layer-passes {next} {c} {m} f =
+        let q = counts-read p file j height-in next c m f in
+        run-next (layerFormatIn p) heightOf (λ z next. End next z) Refused file left w h (record { height = z; contours = q .0 }) next
+        (layer-read p low file i (w .inside) z j e (q .0) next c m (q .1))
 
 -- ---- the end of the file
 
@@ -70,21 +72,22 @@ extent-off : {A : Type 0} (F : Format A) (file : List ℕ) (at i : ℕ) → Off 
 unfolding extentAt
 extent-off F file at i o = let p = o .parses in simp p (ap ExtentRefused (o .place))
 
-module _ (n : ℕ) (low : ℤ) (file : List ℕ) (at : ℕ) where
-  pub layers-stop : {i : ℕ} → levelsAt n low file at ≡ Refused i → ExtentRefused i ≡ extentAt (final (sequence layerFormat heightOf n low)) file at
+module _ (p : Profile) (n : ℕ) (low : ℤ) (file : List ℕ) (at : ℕ) where
+  pub layers-stop : {i : ℕ} → levelsAt p n low file at ≡ Refused i → ExtentRefused i ≡ extentAt (final (sequence (layerFormatIn p) heightOf n low)) file at
   layers-stop {i} e =
-      extent-off (final (sequence layerFormat heightOf n low)) file at i
-      (final-off (sequence layerFormat heightOf n low) file at i (levels-off file at n low i e))
+      extent-off (final (sequence (layerFormatIn p) heightOf n low)) file at i
+      (final-off (sequence (layerFormatIn p) heightOf n low) file at i (levels-off p file at n low i e))
 
-  module _ (h : at ≤ length file) {i : ℕ} {z : ℤ} (e : levelsAt n low file at ≡ End i z) where
-    pub left-over : i < length file → ExtentRefused i ≡ extentAt (final (sequence layerFormat heightOf n low)) file at
+  module _ (h : at ≤ length file) {i : ℕ} {z : ℤ} (e : levelsAt p n low file at ≡ End i z) where
+    pub left-over : i < length file → ExtentRefused i ≡ extentAt (final (sequence (layerFormatIn p) heightOf n low)) file at
     left-over k =
-        let q = levels-read file at n low h i z e in
-        extent-off (final (sequence layerFormat heightOf n low)) file at i (final-over (sequence layerFormat heightOf n low) file at (q .0) i (q .1) k)
+        let q = levels-read p file at n low h i z e in
+        extent-off (final (sequence (layerFormatIn p) heightOf n low)) file at i
+        (final-over (sequence (layerFormatIn p) heightOf n low) file at (q .0) i (q .1) k)
 
-    pub all-passed : length file ≤ i → ExtentEnd i ≡ extentAt (final (sequence layerFormat heightOf n low)) file at
+    pub all-passed : length file ≤ i → ExtentEnd i ≡ extentAt (final (sequence (layerFormatIn p) heightOf n low)) file at
     unfolding extentAt
     all-passed k =
-        let q = levels-read file at n low h i z e in
-        let p = final-whole (sequence layerFormat heightOf n low) file at (q .0) i (q .1) k in
-        simp p (ap ExtentEnd (omega (arith, q .1 .inside)))
+        let q = levels-read p file at n low h i z e in
+        let f = final-whole (sequence (layerFormatIn p) heightOf n low) file at (q .0) i (q .1) k in
+        simp f (ap ExtentEnd (omega (arith, q .1 .inside)))

@@ -8,6 +8,7 @@ use lib.ListN.{length, drop, length-drop, drop-of-length-le}
 use lib.IntN.{ℤ}
 use lib.Signed.{ltZ}
 use borrow.Author.Tests.{leb-true}
+use Rattle.cleaning.specs.declared.Profile.{Profile}
 use Rattle.file_formats.specs.Formats.{Parse, parsed, refused, Format, mapped, parseAll, sequence}
 use Rattle.file_formats.specs.FormatLaws.{tested-in, then-in, mapped-in}
 use Rattle.file_formats.specs.Numbers.{largestWord, parseNumber, number, zigzag, unzigzag, signed, Word}
@@ -15,9 +16,9 @@ use Rattle.file_formats.specs.NumberLaws.{zigzag-unzigzag, sent-word}
 use Rattle.file_formats.specs.Positions.{numberAt}
 use Rattle.file_formats.specs.PositionLaws.{place-drop, Tails, sequence-tails, ParsedAt, parsed-at, took}
 use Rattle.file_formats.specs.SequenceLaws.{stateAfter}
-use Rattle.file_formats.specs.LayerFile.{Point, Layer, mostPoints, coordinateFormat, contourFormat, roomAfter, contourList, heightAbove, layerFormat, heightOf}
-use Rattle.file_formats.specs.LayerFileLaws.{coordinate-tails, coordinate-single, contour-in, contour-tails, contourList-tails, heightAbove-tails}
-use Rattle.file_formats.specs.LayerFileLaws.{height-single, layer-tails, layer-bad, layer-contours}
+use Rattle.file_formats.specs.LayerFile.{Point, Layer, mostPoints, coordinateFormat, contourIn, roomAfter, contourListIn, heightAbove, layerFormatIn, heightOf}
+use Rattle.file_formats.specs.LayerFileLaws.{coordinate-tails, coordinate-single, contour-in, contour-in-tails, contour-within, contourList-tails}
+use Rattle.file_formats.specs.LayerFileLaws.{heightAbove-tails, height-single, layer-tails, layer-bad, layer-contours}
 use Rattle.file_formats.specs.LayerRules.{pointTotal}
 use Rattle.file_formats.specs.declared.Number.the-variants.{Value}
 use Rattle.file_check.specs.declared.Coordinate.the-variants.{At, Bad}
@@ -124,26 +125,26 @@ height-word low l z r e =
 contours-kinds : Kinds (λ r next. End next r) Refused
 contours-kinds = record { apart = λ e. let n : _≡_ {A = ℕ} 0 1 = cc in omega arith; key-told = λ e. cc; next-told = λ e. cc }
 
-module _ (file : List ℕ) (at : ℕ) where
+module _ (p : Profile) (file : List ℕ) (at : ℕ) where
   module _ (room : ℕ) where
-    pub contour-read : at ≤ length file → (next r : ℕ) → contourToldAt room file at ≡ End next r
-        → (c : List Point) × ParsedAt (contourFormat room) file at c next × (roomAfter room c ≡ r)
-    contour-read h next r e = from-good contours-kinds (roomAfter room) (contourFormat room) file at (contour-tails room) h r next e
+    pub contour-read : at ≤ length file → (next r : ℕ) → contourToldAt p room file at ≡ End next r
+        → (c : List Point) × ParsedAt (contourIn p room) file at c next × (roomAfter room c ≡ r)
+    contour-read h next r e = from-good contours-kinds (roomAfter room) (contourIn p room) file at (contour-in-tails p room) h r next e
 
-    pub contour-off : (i : ℕ) → contourToldAt room file at ≡ Refused i → Off (contourFormat room) file at i
-    contour-off i e = from-off contours-kinds (roomAfter room) (contourFormat room) file at (λ p q f. cc) i e
+    pub contour-off : (i : ℕ) → contourToldAt p room file at ≡ Refused i → Off (contourIn p room) file at i
+    contour-off i e = from-off contours-kinds (roomAfter room) (contourIn p room) file at (λ j k f. cc) i e
 
   module _ (n : ℕ) where
-    pub contours-read : at ≤ length file → (next r : ℕ) → contoursAt n file at ≡ End next r
-        → (cs : List (List Point)) × ParsedAt (sequence contourFormat roomAfter n mostPoints) file at cs next
-        × (stateAfter contourFormat roomAfter mostPoints cs ≡ r)
+    pub contours-read : at ≤ length file → (next r : ℕ) → contoursAt p n file at ≡ End next r
+        → (cs : List (List Point)) × ParsedAt (sequence (contourIn p) roomAfter n mostPoints) file at cs next
+        × (stateAfter (contourIn p) roomAfter mostPoints cs ≡ r)
     contours-read h next r e =
-        from-good contours-kinds (stateAfter contourFormat roomAfter mostPoints) (sequence contourFormat roomAfter n mostPoints) file at
-        (sequence-tails contourFormat roomAfter contour-tails n mostPoints) h r next e
+        from-good contours-kinds (stateAfter (contourIn p) roomAfter mostPoints) (sequence (contourIn p) roomAfter n mostPoints) file at
+        (sequence-tails (contourIn p) roomAfter (contour-in-tails p) n mostPoints) h r next e
 
-    pub contours-off : (i : ℕ) → contoursAt n file at ≡ Refused i → Off (sequence contourFormat roomAfter n mostPoints) file at i
-    contours-off i e = from-off contours-kinds (stateAfter contourFormat roomAfter mostPoints) (sequence contourFormat roomAfter n mostPoints) file at
-        (λ p q f. cc) i e
+    pub contours-off : (i : ℕ) → contoursAt p n file at ≡ Refused i → Off (sequence (contourIn p) roomAfter n mostPoints) file at i
+    contours-off i e = from-off contours-kinds (stateAfter (contourIn p) roomAfter mostPoints) (sequence (contourIn p) roomAfter n mostPoints) file at
+        (λ j k f. cc) i e
 
 -- ---- the contours of a layer, by their counts
 
@@ -156,34 +157,34 @@ both-counts k l n m e =
 counts-kinds : Kinds (λ (k : ℕ × ℕ) next. CountsEnd next (k .0) (k .1)) CountsRefused
 counts-kinds = record { apart = λ e. let n : _≡_ {A = ℕ} 0 1 = cc in omega arith; key-told = λ e. both-counts _ _ _ _ e; next-told = λ e. cc }
 
-module _ (file : List ℕ) (at : ℕ) where
+module _ (p : Profile) (file : List ℕ) (at : ℕ) where
   pub record ContoursCounted (cs : List (List Point)) (next k m : ℕ) : Type 0 where
-    pub stands : ParsedAt contourList file at cs next
+    pub stands : ParsedAt (contourListIn p) file at cs next
     pub contours : length cs ≡ k
     pub points : pointTotal cs ≡ m
 
-  pub counts-read : at ≤ length file → (next k m : ℕ) → countsAt file at ≡ CountsEnd next k m → (cs : List (List Point)) × ContoursCounted cs next k m
+  pub counts-read : at ≤ length file → (next k m : ℕ) → countsAt p file at ≡ CountsEnd next k m → (cs : List (List Point)) × ContoursCounted cs next k m
   counts-read h next k m e =
-      let g = from-good counts-kinds (λ cs. (length cs, pointTotal cs)) contourList file at contourList-tails h (k, m) next e in
+      let g = from-good counts-kinds (λ cs. (length cs, pointTotal cs)) (contourListIn p) file at (contourList-tails p) h (k, m) next e in
       (g .0, record { stands = g .1; contours = ap (λ q. q .0) (g .2); points = ap (λ q. q .1) (g .2) })
 
-  pub counts-off : (i : ℕ) → countsAt file at ≡ CountsRefused i → Off contourList file at i
-  counts-off i e = from-off counts-kinds (λ cs. (length cs, pointTotal cs)) contourList file at (λ p q f. cc) i e
+  pub counts-off : (i : ℕ) → countsAt p file at ≡ CountsRefused i → Off (contourListIn p) file at i
+  counts-off i e = from-off counts-kinds (λ cs. (length cs, pointTotal cs)) (contourListIn p) file at (λ j k f. cc) i e
 
 -- ---- layers, by the height of the last
 
 levels-kinds : Kinds (λ z next. LevelsEnd next z) LevelsRefused
 levels-kinds = record { apart = λ e. let n : _≡_ {A = ℕ} 0 1 = cc in omega arith; key-told = λ e. cc; next-told = λ e. cc }
 
-module _ (file : List ℕ) (at n : ℕ) (low : ℤ) where
-  pub levels-read : at ≤ length file → (next : ℕ) (z : ℤ) → levelsAt n low file at ≡ LevelsEnd next z
-      → (ls : List Layer) × ParsedAt (sequence layerFormat heightOf n low) file at ls next × (stateAfter layerFormat heightOf low ls ≡ z)
+module _ (p : Profile) (file : List ℕ) (at n : ℕ) (low : ℤ) where
+  pub levels-read : at ≤ length file → (next : ℕ) (z : ℤ) → levelsAt p n low file at ≡ LevelsEnd next z
+      → (ls : List Layer) × ParsedAt (sequence (layerFormatIn p) heightOf n low) file at ls next × (stateAfter (layerFormatIn p) heightOf low ls ≡ z)
   levels-read h next z e =
-      from-good levels-kinds (stateAfter layerFormat heightOf low) (sequence layerFormat heightOf n low) file at
-      (sequence-tails layerFormat heightOf layer-tails n low) h z next e
+      from-good levels-kinds (stateAfter (layerFormatIn p) heightOf low) (sequence (layerFormatIn p) heightOf n low) file at
+      (sequence-tails (layerFormatIn p) heightOf (layer-tails p) n low) h z next e
 
-  pub levels-off : (i : ℕ) → levelsAt n low file at ≡ LevelsRefused i → Off (sequence layerFormat heightOf n low) file at i
-  levels-off i e = from-off levels-kinds (stateAfter layerFormat heightOf low) (sequence layerFormat heightOf n low) file at (λ p q f. cc) i e
+  pub levels-off : (i : ℕ) → levelsAt p n low file at ≡ LevelsRefused i → Off (sequence (layerFormatIn p) heightOf n low) file at i
+  levels-off i e = from-off levels-kinds (stateAfter (layerFormatIn p) heightOf low) (sequence (layerFormatIn p) heightOf n low) file at (λ j k f. cc) i e
 
 -- ---- a value with which the file ends
 
@@ -206,48 +207,49 @@ module _ {A : Type 0} (F : Format A) (file : List ℕ) (at : ℕ) where
 
 -- ---- the contours of a layer, by the count before them
 
-pub contours-by-count : (file : List ℕ) (at n next : ℕ) → numberAt largestWord file at ≡ Value n next
-    → contourList .parse (drop at file) ≡ (sequence contourFormat roomAfter n mostPoints) .parse (drop next file)
-unfolding contourList
-contours-by-count file at n next e = let p = took e .parses in simp p
+pub contours-by-count : (p : Profile) (file : List ℕ) (at n next : ℕ) → numberAt largestWord file at ≡ Value n next
+    → (contourListIn p) .parse (drop at file) ≡ (sequence (contourIn p) roomAfter n mostPoints) .parse (drop next file)
+unfolding contourListIn
+contours-by-count p file at n next e = let q = took e .parses in simp q
 
 -- ---- the room after contours
 
-pub room-left : (n room : ℕ) (l : List ℕ) (cs : List (List Point)) (r : List ℕ) → parseAll contourFormat roomAfter n room l ≡ parsed cs r
-    → stateAfter contourFormat roomAfter room cs + pointTotal cs ≡ room
+pub room-left : (p : Profile) (n room : ℕ) (l : List ℕ) (cs : List (List Point)) (r : List ℕ) → parseAll (contourIn p) roomAfter n room l ≡ parsed cs r
+    → stateAfter (contourIn p) roomAfter room cs + pointTotal cs ≡ room
 unfolding parseAll
-room-left zero room l cs r e =
-    let p : cs ≡ [] = cc in
-    subst (λ (ds : List (List Point)). stateAfter contourFormat roomAfter room ds + pointTotal ds ≡ room) (sym p) (omega arith)
-room-left (suc n) room l cs r e =
-    let i = then-in ((contourFormat room) .parse l) (λ c r. mapped (λ ds. c ∷ ds) (parseAll contourFormat roomAfter n (roomAfter room c) r)) cs r e in
-    let j = mapped-in (λ ds. i .0 ∷ ds) (parseAll contourFormat roomAfter n (roomAfter room (i .0)) (i .1)) cs r (i .3) in
-    let h : stateAfter contourFormat roomAfter (room - length (i .0)) (j .0) + pointTotal (j .0) ≡ room - length (i .0) =
-    room-left n (room - length (i .0)) (i .1) (j .0) r (j .1) in
-    subst (λ (ds : List (List Point)). stateAfter contourFormat roomAfter room ds + pointTotal ds ≡ room) (j .2)
-    (omega (arith, contour-in room l (i .0) (i .1) (i .2) .1))
+room-left p zero room l cs r e =
+    let none : cs ≡ [] = cc in
+    subst (λ (ds : List (List Point)). stateAfter (contourIn p) roomAfter room ds + pointTotal ds ≡ room) (sym none) (omega arith)
+room-left p (suc n) room l cs r e =
+    let i = then-in ((contourIn p room) .parse l) (λ c r. mapped (λ ds. c ∷ ds) (parseAll (contourIn p) roomAfter n (roomAfter room c) r)) cs r e in
+    let j = mapped-in (λ ds. i .0 ∷ ds) (parseAll (contourIn p) roomAfter n (roomAfter room (i .0)) (i .1)) cs r (i .3) in
+    let h : stateAfter (contourIn p) roomAfter (room - length (i .0)) (j .0) + pointTotal (j .0) ≡ room - length (i .0) =
+    room-left p n (room - length (i .0)) (i .1) (j .0) r (j .1) in
+    subst (λ (ds : List (List Point)). stateAfter (contourIn p) roomAfter room ds + pointTotal ds ≡ room) (j .2)
+    (omega (arith, contour-in room l (i .0) (i .1) (contour-within p room l (i .0) (i .1) (i .2)) .1))
 
 -- ---- a layer, by its height and its contours
 
-module _ (low : ℤ) (file : List ℕ) (at : ℕ) (h : at ≤ length file) where
-  pub layer-no-height : heightToldAt low file at ≡ HeightBad → Off (layerFormat low) file at at
-  layer-no-height e = record { rest = drop at file; parses = layer-bad low (drop at file) (height-off low file at e); place = sym (place-drop file at h) }
+module _ (p : Profile) (low : ℤ) (file : List ℕ) (at : ℕ) (h : at ≤ length file) where
+  pub layer-no-height : heightToldAt low file at ≡ HeightBad → Off (layerFormatIn p low) file at at
+  layer-no-height e = record { rest = drop at file; parses = layer-bad low (drop at file) p (height-off low file at e); place = sym (place-drop file at h) }
 
   module _ (z : ℤ) (j : ℕ) (e : heightToldAt low file at ≡ Above z j) where
-    by-contours : (layerFormat low) .parse (drop at file) ≡ mapped {B = Layer} (λ cs. record { height = z; contours = cs }) (contourList .parse (drop j file))
-    by-contours = layer-contours low (drop at file) z (drop j file) (height-read low file at h z j e .parses)
+    by-contours : (layerFormatIn p low) .parse (drop at file)
+        ≡ mapped {B = Layer} (λ cs. record { height = z; contours = cs }) ((contourListIn p) .parse (drop j file))
+    by-contours = layer-contours low (drop at file) p z (drop j file) (height-read low file at h z j e .parses)
 
     pub height-inside : j ≤ length file
     height-inside = height-read low file at h z j e .inside
 
-    pub layer-no-contours : (i : ℕ) → countsAt file j ≡ CountsRefused i → Off (layerFormat low) file at i
+    pub layer-no-contours : (i : ℕ) → countsAt p file j ≡ CountsRefused i → Off (layerFormatIn p low) file at i
     layer-no-contours i f =
-        let o = counts-off file j i f in
-        let p = o .parses in
-        record { rest = o .rest; parses = by-contours ∙ simp p; place = o .place }
+        let o = counts-off p file j i f in
+        let q = o .parses in
+        record { rest = o .rest; parses = by-contours ∙ simp q; place = o .place }
 
-    pub layer-read : (cs : List (List Point)) (next k m : ℕ) → ContoursCounted file j cs next k m
-        → ParsedAt (layerFormat low) file at (record { height = z; contours = cs }) next
+    pub layer-read : (cs : List (List Point)) (next k m : ℕ) → ContoursCounted p file j cs next k m
+        → ParsedAt (layerFormatIn p low) file at (record { height = z; contours = cs }) next
     layer-read cs next k m c =
-        let p = c .stands .parses in
-        record { inside = c .stands .inside; parses = by-contours ∙ simp p }
+        let q = c .stands .parses in
+        record { inside = c .stands .inside; parses = by-contours ∙ simp q }

@@ -1,15 +1,20 @@
--- What the functions of this crate answer of a part of a file.
+-- What the functions of this crate answer of a part of a file, in the full profile or the clean one.
 use Prim.Native.Nat.{ℕ, _-_}
 use mathlib.Core.List.{List}
 use lib.ListN.{length, drop}
 use lib.IntN.{ℤ}
 use Rattle.file_formats.specs.Formats.{Parse, parsed, refused, Format, finished, stateAfter, sequence}
-use Rattle.file_formats.specs.LayerFile.{mostPoints, coordinateFormat, contourFormat, roomAfter, contourList, heightAbove, layerFormat, heightOf}
+use Rattle.cleaning.specs.Profiles.{fitsIn}
+use Rattle.cleaning.specs.declared.Profile.{Profile}
+use Rattle.file_formats.specs.LayerFile.{mostPoints, coordinateFormat, pointFormat, origin, latest, contourIn, roomAfter, contourListIn}
+use Rattle.file_formats.specs.LayerFile.{heightAbove, layerFormatIn, heightOf}
 use Rattle.file_formats.specs.LayerRules.{pointTotal}
 use Rattle.file_check.specs.declared.Coordinate.{Coordinate}
 use Rattle.file_check.specs.declared.Coordinate.the-variants.{At, Bad}
 use Rattle.file_check.specs.declared.Height.{Height}
 use Rattle.file_check.specs.declared.Height.the-variants.{Above, Bad as HeightBad}
+use Rattle.file_check.specs.declared.PointsExtent.{PointsExtent}
+use Rattle.file_check.specs.declared.PointsExtent.the-variants.{End as PointsEnd, Refused as PointsRefused}
 use Rattle.file_check.specs.declared.ContoursExtent.{ContoursExtent}
 use Rattle.file_check.specs.declared.ContoursExtent.the-variants.{End, Refused}
 use Rattle.file_check.specs.declared.CountsExtent.{CountsExtent}
@@ -34,21 +39,26 @@ coordinateAt p = toldAt At (λ at. Bad) (coordinateFormat p)
 abbrev pub heightToldAt : ℤ → List ℕ → ℕ → Height
 heightToldAt low = toldAt Above (λ at. HeightBad) (heightAbove low)
 
+-- the n points of a contour, and whether it may stand in a file of the profile
+abbrev pub pointsAt : Profile → ℕ → List ℕ → ℕ → PointsExtent
+pointsAt p n = toldAt (λ c next. PointsEnd next (fitsIn p c)) PointsRefused (sequence pointFormat latest n origin)
+
 -- a contour
-abbrev pub contourToldAt : ℕ → List ℕ → ℕ → ContoursExtent
-contourToldAt room = toldAt (λ c next. End next (roomAfter room c)) Refused (contourFormat room)
+abbrev pub contourToldAt : Profile → ℕ → List ℕ → ℕ → ContoursExtent
+contourToldAt p room = toldAt (λ c next. End next (roomAfter room c)) Refused (contourIn p room)
 
 -- the first n contours of a layer
-abbrev pub contoursAt : ℕ → List ℕ → ℕ → ContoursExtent
-contoursAt n = toldAt (λ cs next. End next (stateAfter contourFormat roomAfter mostPoints cs)) Refused (sequence contourFormat roomAfter n mostPoints)
+abbrev pub contoursAt : Profile → ℕ → List ℕ → ℕ → ContoursExtent
+contoursAt p n = toldAt (λ cs next. End next (stateAfter (contourIn p) roomAfter mostPoints cs)) Refused (sequence (contourIn p) roomAfter n mostPoints)
 
 -- all contours of a layer, with their count
-abbrev pub countsAt : List ℕ → ℕ → CountsExtent
-countsAt = toldAt (λ cs next. CountsEnd next (length cs) (pointTotal cs)) CountsRefused contourList
+abbrev pub countsAt : Profile → List ℕ → ℕ → CountsExtent
+countsAt p = toldAt (λ cs next. CountsEnd next (length cs) (pointTotal cs)) CountsRefused (contourListIn p)
 
 -- n layers above low
-abbrev pub levelsAt : ℕ → ℤ → List ℕ → ℕ → LevelsExtent
-levelsAt n low = toldAt (λ ls next. LevelsEnd next (stateAfter layerFormat heightOf low ls)) LevelsRefused (sequence layerFormat heightOf n low)
+abbrev pub levelsAt : Profile → ℕ → ℤ → List ℕ → ℕ → LevelsExtent
+levelsAt p n low =
+    toldAt (λ ls next. LevelsEnd next (stateAfter (layerFormatIn p) heightOf low ls)) LevelsRefused (sequence (layerFormatIn p) heightOf n low)
 
 -- a value with which the file ends
 abbrev pub final : {A : Type 0} → Format A → Format A

@@ -14,6 +14,12 @@ pub enum Height {
     Bad,
 }
 
+// The position after the points of a contour, and whether it may stand in the profile; or the first refused position.
+pub enum PointsExtent {
+    End(usize, bool),
+    Refused(usize),
+}
+
 // The position after contours, and for how many points their layer has room then; or the first refused position.
 pub enum ContoursExtent {
     End(usize, u64),

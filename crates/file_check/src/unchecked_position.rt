@@ -4,15 +4,22 @@ ghost use Prim.Native.Nat.{_≤_};
 ghost use lib.ListN.{length};
 ghost use lib.IntN.{natAbs};
 ghost use Rattle.mesh.specs.Corners.{largest};
+ghost use Rattle.cleaning.specs.declared.Profile.the-variants.{Full, Clean};
 ghost use Rattle.file_formats.specs.Formats.{sequence};
-ghost use Rattle.file_formats.specs.LayerFile.{pointFormat, origin, latest, layerFormat, heightOf};
+ghost use Rattle.file_formats.specs.LayerFile.{layerFormatIn, heightOf};
 ghost use Rattle.file_formats.specs.Positions.{extentAt};
-ghost use Rattle.file_check.specs.Answers.{coordinateAt, heightToldAt, contourToldAt, contoursAt, countsAt, levelsAt, final};
+ghost use Rattle.file_check.specs.Answers.{coordinateAt, pointsAt, heightToldAt, contourToldAt, contoursAt, countsAt, levelsAt, final};
 use crate::ContoursExtent;
 use crate::Coordinate;
 use crate::CountsExtent;
 use crate::Height;
 use crate::LevelsExtent;
+use crate::PointsExtent;
+use clean_test::ContourSeen;
+use clean_test::see;
+use clean_test::see_none;
+use clean_test::seen_clean;
+use cleaning::Profile;
 use file_formats::Extent;
 use file_formats::LARGEST_WORD;
 use file_formats::Number;
@@ -41,10 +48,10 @@ pub fn read_coordinate(file: &[u8], at: usize, before: i32) -> Coordinate
     Coordinate::At(z as i32, next)
 }
 
-// Checks so many points of a contour.
-pub fn check_points(file: &[u8], at: usize, count: u64) -> Extent
+// Checks so many points of a contour of the full profile, in which any may stand.
+fn check_full_points(file: &[u8], at: usize, count: u64) -> PointsExtent
     requires { ⌜ at ≤ length (now file) ⌝ }
-    ensures value { λ r. ⌜ r ≡ extentAt (sequence pointFormat latest count origin) (file .entry .now) at ⌝ }
+    ensures value { λ r. ⌜ r ≡ pointsAt Full count (file .entry .now) at ⌝ }
 {
     let mut x: i32 = 0;
     let mut y: i32 = 0;
@@ -53,24 +60,63 @@ pub fn check_points(file: &[u8], at: usize, count: u64) -> Extent
     while 0 < left {
         let a = read_coordinate(file, i, x);
         let Coordinate::At(nx, j) = a else {
-            return Extent::Refused(i);
+            return PointsExtent::Refused(i);
         };
         let b = read_coordinate(file, j, y);
         let Coordinate::At(ny, k) = b else {
-            return Extent::Refused(j);
+            return PointsExtent::Refused(j);
         };
         x = nx;
         y = ny;
         i = k;
         left -= 1;
     }
-    Extent::End(i)
+    PointsExtent::End(i, true)
 }
 
-// Checks a contour, where its layer has room for so many points.
-pub fn check_contour(file: &[u8], at: usize, room: u64) -> ContoursExtent
+// The same in the clean profile, where it is kept in mind what the points show. A loop of its own: a test of the profile at each point would slow the other.
+fn check_clean_points(file: &[u8], at: usize, count: u64) -> PointsExtent
     requires { ⌜ at ≤ length (now file) ⌝ }
-    ensures value { λ r. ⌜ r ≡ contourToldAt room (file .entry .now) at ⌝ }
+    ensures value { λ r. ⌜ r ≡ pointsAt Clean count (file .entry .now) at ⌝ }
+{
+    let mut seen = see_none();
+    let mut x: i32 = 0;
+    let mut y: i32 = 0;
+    let mut i = at;
+    let mut left = count;
+    while 0 < left {
+        let a = read_coordinate(file, i, x);
+        let Coordinate::At(nx, k) = a else {
+            return PointsExtent::Refused(i);
+        };
+        let b = read_coordinate(file, k, y);
+        let Coordinate::At(ny, next) = b else {
+            return PointsExtent::Refused(k);
+        };
+        seen = see(seen, x, y, nx, ny);
+        x = nx;
+        y = ny;
+        i = next;
+        left -= 1;
+    }
+    PointsExtent::End(i, seen_clean(seen, x, y))
+}
+
+// Checks so many points of a contour, and tells whether it may stand in a file of the profile.
+pub fn check_points(profile: Profile, file: &[u8], at: usize, count: u64) -> PointsExtent
+    requires { ⌜ at ≤ length (now file) ⌝ }
+    ensures value { λ r. ⌜ r ≡ pointsAt profile count (file .entry .now) at ⌝ }
+{
+    match profile {
+        Profile::Full => check_full_points(file, at, count),
+        Profile::Clean => check_clean_points(file, at, count),
+    }
+}
+
+// Checks a contour, where its layer has room for so many points. One that may not stand in the profile is refused at its first byte.
+pub fn check_contour(profile: Profile, file: &[u8], at: usize, room: u64) -> ContoursExtent
+    requires { ⌜ at ≤ length (now file) ⌝ }
+    ensures value { λ r. ⌜ r ≡ contourToldAt profile room (file .entry .now) at ⌝ }
 {
     let n = read_number(file, at, room);
     let Number::Value(count, next) = n else {
@@ -79,23 +125,28 @@ pub fn check_contour(file: &[u8], at: usize, room: u64) -> ContoursExtent
     if count < 2 {
         return ContoursExtent::Refused(at);
     }
-    let p = check_points(file, next, count);
+    let p = check_points(profile, file, next, count);
     match p {
-        Extent::End(e) => ContoursExtent::End(e, room - count),
-        Extent::Refused(e) => ContoursExtent::Refused(e),
+        PointsExtent::End(e, fits) => {
+            if fits {
+                return ContoursExtent::End(e, room - count);
+            }
+            ContoursExtent::Refused(at)
+        }
+        PointsExtent::Refused(e) => ContoursExtent::Refused(e),
     }
 }
 
 // Checks so many contours, the first of a layer.
-pub fn check_contours(file: &[u8], at: usize, count: u64) -> ContoursExtent
+pub fn check_contours(profile: Profile, file: &[u8], at: usize, count: u64) -> ContoursExtent
     requires { ⌜ at ≤ length (now file) ⌝ }
-    ensures value { λ r. ⌜ r ≡ contoursAt count (file .entry .now) at ⌝ }
+    ensures value { λ r. ⌜ r ≡ contoursAt profile count (file .entry .now) at ⌝ }
 {
     let mut room: u64 = MOST_POINTS_64;
     let mut i = at;
     let mut left = count;
     while 0 < left {
-        let c = check_contour(file, i, room);
+        let c = check_contour(profile, file, i, room);
         match c {
             ContoursExtent::End(next, r) => {
                 i = next;
@@ -111,15 +162,15 @@ pub fn check_contours(file: &[u8], at: usize, count: u64) -> ContoursExtent
 }
 
 // Checks the contours of a layer with their count.
-pub fn check_counted(file: &[u8], at: usize) -> CountsExtent
+pub fn check_counted(profile: Profile, file: &[u8], at: usize) -> CountsExtent
     requires { ⌜ at ≤ length (now file) ⌝ }
-    ensures value { λ r. ⌜ r ≡ countsAt (file .entry .now) at ⌝ }
+    ensures value { λ r. ⌜ r ≡ countsAt profile (file .entry .now) at ⌝ }
 {
     let n = read_number(file, at, LARGEST_WORD);
     let Number::Value(count, next) = n else {
         return CountsExtent::Refused(at);
     };
-    let c = check_contours(file, next, count);
+    let c = check_contours(profile, file, next, count);
     match c {
         ContoursExtent::End(e, room) => CountsExtent::End(e, count, MOST_POINTS_64 - room),
         ContoursExtent::Refused(e) => CountsExtent::Refused(e),
@@ -142,9 +193,9 @@ pub fn read_height(file: &[u8], at: usize, low: i64) -> Height
 }
 
 // Checks so many layers, of which the first must lie above low.
-pub fn check_layers(file: &[u8], at: usize, count: u64, low: i64) -> LevelsExtent
+pub fn check_layers(profile: Profile, file: &[u8], at: usize, count: u64, low: i64) -> LevelsExtent
     requires { ⌜ at ≤ length (now file) ⌝ }
-    ensures value { λ r. ⌜ r ≡ levelsAt count low (file .entry .now) at ⌝ }
+    ensures value { λ r. ⌜ r ≡ levelsAt profile count low (file .entry .now) at ⌝ }
 {
     let mut last = low;
     let mut i = at;
@@ -154,7 +205,7 @@ pub fn check_layers(file: &[u8], at: usize, count: u64, low: i64) -> LevelsExten
         let Height::Above(z, j) = h else {
             return LevelsExtent::Refused(i);
         };
-        let c = check_counted(file, j);
+        let c = check_counted(profile, file, j);
         match c {
             CountsExtent::End(next, _, _) => {
                 i = next;
@@ -170,11 +221,11 @@ pub fn check_layers(file: &[u8], at: usize, count: u64, low: i64) -> LevelsExten
 }
 
 // Checks so many layers, and that the file ends after them.
-pub fn check_last(file: &[u8], at: usize, count: u64, low: i64) -> Extent
+pub fn check_last(profile: Profile, file: &[u8], at: usize, count: u64, low: i64) -> Extent
     requires { ⌜ at ≤ length (now file) ⌝ }
-    ensures value { λ r. ⌜ r ≡ extentAt (final (sequence layerFormat heightOf count low)) (file .entry .now) at ⌝ }
+    ensures value { λ r. ⌜ r ≡ extentAt (final (sequence (layerFormatIn profile) heightOf count low)) (file .entry .now) at ⌝ }
 {
-    let c = check_layers(file, at, count, low);
+    let c = check_layers(profile, file, at, count, low);
     match c {
         LevelsExtent::End(e, _) => {
             if e < file.len() {

@@ -8,8 +8,8 @@ use lib.Dec.{T}
 use lib.ListN.{length, getD, length-append}
 use lib.Seq.{getD-append-add}
 use Rattle.laws.specs.Booleans.{from-T}
-use Rattle.file_formats.specs.Formats.{Parse, parsed, refused, Format, andThen, mapped, tested, through, ruled, pair, headed, validAll, encodeAll}
-use Rattle.file_formats.specs.Formats.{parseAll, sequence, counted, holds, finished, decodedIn, decode}
+use Rattle.file_formats.specs.Formats.{Parse, parsed, refused, Format, andThen, mapped, tested, obeyed, through, ruled, obeying, pair, headed, validAll}
+use Rattle.file_formats.specs.Formats.{encodeAll, parseAll, sequence, counted, holds, finished, decodedIn, decode}
 
 -- a list of bytes
 abbrev pub Bytes : List ℕ → Type 0
@@ -39,6 +39,10 @@ tested-in t s (parsed b q) a r e = by (t b) refl
     by : (c : Bool) → t b ≡ c → (parsed b q ≡ parsed a r) × (t a ≡ true)
     by true p = let e′ : parsed b q ≡ parsed a r = simp p at e in (e′, cc)
     by false p = let e′ : refused s ≡ parsed a r = simp p at e in not-refused e′
+
+pub obeyed-in : {A : Type 0} (t : A → Bool) (s : List ℕ) (d : Parse A) (a : A) (r : List ℕ) → obeyed t s d ≡ parsed a r → (d ≡ parsed a r) × (t a ≡ true)
+obeyed-in t s (refused q) a r e = not-refused e
+obeyed-in t s (parsed b q) a r e = tested-in t s (parsed b q) a r e
 
 pub mapped-in : {A B : Type 0} (f : A → B) (d : Parse A) (b : B) (r : List ℕ) → mapped f d ≡ parsed b r → (a : A) × (d ≡ parsed a r) × (f a ≡ b)
 mapped-in f (refused q) b r e = not-refused e
@@ -74,7 +78,7 @@ through-single {A} f g F h l r e = by (F .parse l) refl
 
 -- ---- the combinators
 
-true-T : {b : Bool} → b ≡ true → T b
+pub true-T : {b : Bool} → b ≡ true → T b
 true-T e = subst T (sym e) tt
 
 pub through-laws : {A B : Type 0} (f : A → B) (g : B → A) (F : Format A) → ((a : A) → g (f a) ≡ a) → ((b : B) → f (g b) ≡ b) → Lawful F → Lawful (through f g F)
@@ -98,6 +102,18 @@ ruled-laws {A} t F L = record { there = to; back = fro }
     fro : (l : List ℕ) (a : A) (r : List ℕ) → Bytes l → tested t l (F .parse l) ≡ parsed a r → (F .valid a × T (t a)) × (l ≡ F .encode a ++ r)
     fro l a r bs e =
         let i = tested-in t l (F .parse l) a r e in
+        let h = L .back l a r bs (i .0) in
+        ((h .0, true-T (i .1)), h .1)
+
+pub obeying-laws : {A : Type 0} (t : A → Bool) (F : Format A) → Lawful F → Lawful (obeying t F)
+obeying-laws {A} t F L = record { there = to; back = fro }
+  where
+    to : (a : A) (r : List ℕ) → F .valid a × T (t a) → obeyed t (F .encode a ++ r) (F .parse (F .encode a ++ r)) ≡ parsed a r
+    to a r h = simp (L .there a r (h .0), from-T (t a) (h .1))
+
+    fro : (l : List ℕ) (a : A) (r : List ℕ) → Bytes l → obeyed t l (F .parse l) ≡ parsed a r → (F .valid a × T (t a)) × (l ≡ F .encode a ++ r)
+    fro l a r bs e =
+        let i = obeyed-in t l (F .parse l) a r e in
         let h = L .back l a r bs (i .0) in
         ((h .0, true-T (i .1)), h .1)
 
@@ -201,3 +217,53 @@ module _ {A : Type 0} (F : Format A) (L : Lawful F) where
   -- no two files hold the same
   pub decode-one : (l m : List ℕ) (a : A) → Bytes l → Bytes m → decode F l ≡ holds a → decode F m ≡ holds a → l ≡ m
   decode-one l m a bl bm e f = decode-back l a bl e .1 ∙ sym (decode-back m a bm f .1)
+
+-- ---- two formats of the same values
+
+-- what the first parses the second parses too, as the same value
+abbrev pub Within : {A : Type 0} → Format A → Format A → Type 0
+Within {A} F G = (l : List ℕ) (a : A) (r : List ℕ) → F .parse l ≡ parsed a r → G .parse l ≡ parsed a r
+
+pub obeying-within : {A : Type 0} (t : A → Bool) (F : Format A) → Within (obeying t F) F
+obeying-within t F l a r e = obeyed-in t l (F .parse l) a r e .0
+
+pub through-within : {A B : Type 0} (f : A → B) (g : B → A) (F G : Format A) → Within F G → Within (through f g F) (through f g G)
+through-within f g F G W l b r e =
+    let i = mapped-in f (F .parse l) b r e in
+    ap (mapped f) (W l (i .0) r (i .1)) ∙ ap (λ (c : _). parsed c r) (i .2)
+
+pub pair-within : {A B : Type 0} (F : Format A) (G H : A → Format B) → ((a : A) → Within (G a) (H a)) → Within (pair F G) (pair F H)
+pair-within {A} {B} F G H W l p r e =
+    let i = then-in (F .parse l) (λ a r. mapped {B = A × B} (λ b. (a, b)) ((G a) .parse r)) p r e in
+    let j = mapped-in {B = A × B} (λ b. (i .0, b)) ((G (i .0)) .parse (i .1)) p r (i .3) in
+    ap (λ (d : Parse A). andThen d (λ a r. mapped {B = A × B} (λ b. (a, b)) ((H a) .parse r))) (i .2)
+    ∙ ap (mapped {B = A × B} (λ b. (i .0, b))) (W (i .0) (i .1) (j .0) r (j .1))
+    ∙ ap (λ (q : A × B). parsed q r) (j .2)
+
+module _ {S A : Type 0} (F G : S → Format A) (step : S → A → S) where
+  pub sequence-within : ((s : S) → Within (F s) (G s)) → (n : ℕ) (s : S) → Within (sequence F step n s) (sequence G step n s)
+  unfolding parseAll
+  sequence-within W zero s l xs r e = e
+  sequence-within W (suc n) s l xs r e =
+      let i = then-in ((F s) .parse l) (λ a r. mapped (λ rest. a ∷ rest) (parseAll F step n (step s a) r)) xs r e in
+      let j = mapped-in (λ rest. i .0 ∷ rest) (parseAll F step n (step s (i .0)) (i .1)) xs r (i .3) in
+      ap (λ (d : Parse A). andThen d (λ a r. mapped (λ rest. a ∷ rest) (parseAll G step n (step s a) r))) (W s l (i .0) (i .1) (i .2))
+      ∙ ap (mapped (λ rest. i .0 ∷ rest)) (sequence-within W n (step s (i .0)) (i .1) (j .0) r (j .1))
+      ∙ ap (λ (ys : List A). parsed ys r) (j .2)
+
+  pub counted-within : ((s : S) → Within (F s) (G s)) → (C : Format ℕ) (s : S) → Within (counted F step C s) (counted G step C s)
+  counted-within W C s l xs r e =
+      let i = then-in (C .parse l) (λ n r. parseAll F step n s r) xs r e in
+      ap (λ (d : Parse ℕ). andThen d (λ n r. parseAll G step n s r)) (i .2) ∙ sequence-within W (i .0) s (i .1) xs r (i .3)
+
+  -- both write each value alike, and so lists of them
+  pub encode-alike : ((s : S) (a : A) → (F s) .encode a ≡ (G s) .encode a) → (s : S) (xs : List A) → encodeAll F step s xs ≡ encodeAll G step s xs
+  unfolding encodeAll
+  encode-alike h s [] = refl
+  encode-alike h s (x ∷ xs) = λ i. h s x i ++ encode-alike h (step s x) xs i
+
+pub decode-within : {A : Type 0} (F G : Format A) → Within F G → (l : List ℕ) (a : A) → decode F l ≡ holds a → decode G l ≡ holds a
+decode-within F G W l a e =
+    let i = placed-in (length l) (finished (F .parse l)) a e in
+    let j = finished-in (F .parse l) a (i .0) (i .1) in
+    ap (λ (d : Parse _). decodedIn (length l) (finished d)) (W l a [] (j .0))

@@ -37,6 +37,11 @@ abbrev pub tested : {A : Type 0} → (A → Bool) → List ℕ → Parse A → P
 tested t s (parsed a r) = cond (t a) (parsed a r) (refused s)
 tested t s (refused r) = refused s
 
+-- the value if it passes the test, else refused from the first byte of s on; what is refused already stays refused where it is
+abbrev pub obeyed : {A : Type 0} → (A → Bool) → List ℕ → Parse A → Parse A
+obeyed t s (parsed a r) = cond (t a) (parsed a r) (refused s)
+obeyed t s (refused r) = refused r
+
 -- ---- formats from others
 
 -- a value that stands for another one
@@ -55,6 +60,15 @@ ruled t F =
       valid = λ a. F .valid a × T (t a);
       encode = F .encode;
       parse = λ l. tested t l (F .parse l);
+    }
+
+-- a value that obeys one rule more: where it breaks that one it is refused at its first byte, all else where it was
+abbrev pub obeying : {A : Type 0} → (A → Bool) → Format A → Format A
+obeying t F =
+    record {
+      valid = λ a. F .valid a × T (t a);
+      encode = F .encode;
+      parse = λ l. obeyed t l (F .parse l);
     }
 
 -- two values, where the second's format may depend on the first

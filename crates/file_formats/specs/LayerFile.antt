@@ -1,4 +1,4 @@
--- The layer file (FILE-1 to FILE-7): what it holds and its format.
+-- The layer file (FILE-1 to FILE-7): what it holds and its format, and that of its clean profile (READCLEAN-1, READCLEAN-3).
 use Prim.Native.Nat.{ℕ, _-_}
 use mathlib.Core.Bool.{Bool}
 use mathlib.Core.List.{List}
@@ -8,13 +8,21 @@ use lib.IntN.{ℤ, pos, negsuc, natAbs, _+ℤ_, _-ℤ_}
 use lib.Signed.{ltZ}
 use Rattle.mesh.specs.Corners.{largest}
 pub use Rattle.polygons.specs.Flat.{Point, mostPoints, fewestPoints}
-use Rattle.file_formats.specs.Formats.{Format, through, ruled, pair, counted, Decoded, decode}
+use Rattle.cleaning.specs.Cleaning.{isClean}
+use Rattle.cleaning.specs.Profiles.{profiled}
+use Rattle.cleaning.specs.declared.Profile.{Profile}
+use Rattle.cleaning.specs.declared.Profile.the-variants.{Full, Clean}
+use Rattle.file_formats.specs.Formats.{Format, through, ruled, obeying, pair, counted, Decoded, decode}
 use Rattle.file_formats.specs.Numbers.{largestWord, number, signed}
 
 -- a layer is a height and contours, which are lists of points
 pub record Layer : Type 0 where
   pub height : ℤ
   pub contours : List (List Point)
+
+-- a layer in a profile: at its height, with its contours as they are or cleaned (PROFILE-1, PROFILE-2)
+abbrev pub layerIn : Profile → Layer → Layer
+layerIn p l = record { height = l .height; contours = profiled p (l .contours) }
 
 -- most layers of a file (LIMIT-5, FILE-2), and so most heights of All layers (LIMIT-4)
 abbrev pub mostLayers : ℕ
@@ -47,23 +55,35 @@ latest p q = q
 unfoldable pub contourFormat : ℕ → Format (List Point)
 contourFormat room = counted pointFormat latest (ruled (λ n. leb fewestPoints n) (number room)) origin
 
+-- a contour in a file of the profile: in the clean one it is clean, or
+-- else refused at its first byte, that of its point count (READCLEAN-3)
+abbrev pub contourIn : Profile → ℕ → Format (List Point)
+contourIn Full room = contourFormat room
+contourIn Clean room = obeying isClean (contourFormat room)
+
 -- the room after a contour (FILE-5)
 abbrev pub roomAfter : ℕ → List Point → ℕ
 roomAfter room c = room - length c
 
 -- the contours of a layer after their count (FILE-1), with room for all their points (LIMIT-7)
-unfoldable pub contourList : Format (List (List Point))
-contourList = counted contourFormat roomAfter (number largestWord) mostPoints
+unfoldable pub contourListIn : Profile → Format (List (List Point))
+contourListIn p = counted (contourIn p) roomAfter (number largestWord) mostPoints
+
+abbrev pub contourList : Format (List (List Point))
+contourList = contourListIn Full
 
 -- a height above the one before (FILE-3)
 unfoldable pub heightAbove : ℤ → Format ℤ
 heightAbove low = ruled (λ h. ltZ low h) (signed largestWord)
 
 -- a layer above the one before: its height, its contours (FILE-1)
-unfoldable pub layerFormat : ℤ → Format Layer
-layerFormat low =
+unfoldable pub layerFormatIn : Profile → ℤ → Format Layer
+layerFormatIn p low =
     through (λ q. record { height = q .0; contours = q .1 }) (λ l. (l .height, l .contours))
-    (pair (heightAbove low) (λ h. contourList))
+    (pair (heightAbove low) (λ h. contourListIn p))
+
+abbrev pub layerFormat : ℤ → Format Layer
+layerFormat = layerFormatIn Full
 
 -- below every number of 32 bits
 abbrev pub lowest : ℤ
@@ -74,9 +94,16 @@ abbrev pub heightOf : ℤ → Layer → ℤ
 heightOf low l = l .height
 
 -- the file: layers after their count (FILE-1, FILE-2)
-unfoldable pub layerFile : Format (List Layer)
-layerFile = counted layerFormat heightOf (number mostLayers) lowest
+unfoldable pub layerFileIn : Profile → Format (List Layer)
+layerFileIn p = counted (layerFormatIn p) heightOf (number mostLayers) lowest
+
+abbrev pub layerFile : Format (List Layer)
+layerFile = layerFileIn Full
+
+-- the layers of a file of the profile, or where it is none
+unfoldable pub layersOfIn : Profile → List ℕ → Decoded (List Layer)
+layersOfIn p file = decode (layerFileIn p) file
 
 -- the layers of a file, or refusal 13 with its place (READ-1)
-unfoldable pub layersOf : List ℕ → Decoded (List Layer)
-layersOf file = decode layerFile file
+abbrev pub layersOf : List ℕ → Decoded (List Layer)
+layersOf = layersOfIn Full

@@ -1,5 +1,5 @@
 -- The layer file's formats are lawful, stay in the file, and go value by value.
-use mathlib.Core.Path.{_≡_, refl, sym, _∙_}
+use mathlib.Core.Path.{_≡_, refl, sym, ap, _∙_}
 use mathlib.Core.Bool.{true, false}
 use mathlib.Core.List.{List, _++_}
 use Prim.Native.Nat.{ℕ, _≤_}
@@ -11,14 +11,20 @@ use lib.Signed.{ltZ}
 use borrow.Author.Tests.{leb-true}
 use Rattle.laws.specs.Integers.{ext, sum, diff, abs-sub}
 use Rattle.mesh.specs.Corners.{largest}
+use Rattle.cleaning.specs.Cleaning.{isClean}
+use Rattle.cleaning.specs.declared.Profile.{Profile}
+use Rattle.cleaning.specs.declared.Profile.the-variants.{Full, Clean}
 use Rattle.file_formats.specs.Formats.{Parse, parsed, refused, mapped, tested, through, ruled, pair, sequence}
-use Rattle.file_formats.specs.FormatLaws.{Lawful, through-laws, ruled-laws, pair-laws, counted-laws, Single, ruled-single, tested-in, then-in}
+use Rattle.file_formats.specs.FormatLaws.{Lawful, through-laws, ruled-laws, obeying-laws, pair-laws, counted-laws, Single, ruled-single, tested-in}
+use Rattle.file_formats.specs.FormatLaws.{then-in}
+use Rattle.file_formats.specs.FormatLaws.{Within, obeying-within, through-within, pair-within, counted-within, encode-alike}
 use Rattle.file_formats.specs.Numbers.{largestWord, encodeNumber, parseNumber, number, zigzag, unzigzag, signed}
 use Rattle.file_formats.specs.NumberLaws.{number-laws, signed-laws, zigzag-abs}
-use Rattle.file_formats.specs.PositionLaws.{Tails, number-tails, signed-tails, through-tails, ruled-tails, pair-tails, counted-tails}
+use Rattle.file_formats.specs.PositionLaws.{Tails, number-tails, signed-tails, through-tails, ruled-tails, obeying-tails, pair-tails, counted-tails}
 use Rattle.file_formats.specs.SequenceLaws.{parsed-length}
 use Rattle.file_formats.specs.LayerFile.{Point, Layer, mostLayers, mostPoints, fewestPoints, inRange, coordinateFormat, pointFormat, origin, latest}
-use Rattle.file_formats.specs.LayerFile.{contourFormat, roomAfter, contourList, heightAbove, layerFormat, lowest, heightOf, layerFile}
+use Rattle.file_formats.specs.LayerFile.{contourFormat, contourIn, roomAfter, contourList, contourListIn, heightAbove, layerFormat, layerFormatIn, lowest}
+use Rattle.file_formats.specs.LayerFile.{heightOf, layerFile, layerFileIn}
 
 -- ---- each format is lawful, and what is left after a value is a part of the file
 
@@ -69,13 +75,30 @@ module _ (room : ℕ) where
       counted-tails pointFormat latest point-tails (ruled (λ n. leb fewestPoints n) (number room))
       origin (ruled-tails (λ n. leb fewestPoints n) (number room) (number-tails room))
 
-pub contourList-laws : Lawful contourList
-unfolding contourList
-contourList-laws = counted-laws contourFormat roomAfter contour-laws (number largestWord) mostPoints (number-laws largestWord)
+-- ---- the same of what depends on the profile
 
-pub contourList-tails : Tails contourList
-unfolding contourList
-contourList-tails = counted-tails contourFormat roomAfter contour-tails (number largestWord) mostPoints (number-tails largestWord)
+module _ (p : Profile) where
+  pub contour-in-laws : (room : ℕ) → Lawful (contourIn p room)
+  contour-in-laws = by p
+    where
+      by : (p : Profile) (room : ℕ) → Lawful (contourIn p room)
+      by Full room = contour-laws room
+      by Clean room = obeying-laws isClean (contourFormat room) (contour-laws room)
+
+  pub contour-in-tails : (room : ℕ) → Tails (contourIn p room)
+  contour-in-tails = by p
+    where
+      by : (p : Profile) (room : ℕ) → Tails (contourIn p room)
+      by Full room = contour-tails room
+      by Clean room = obeying-tails isClean (contourFormat room) (contour-tails room)
+
+  pub contourList-laws : Lawful (contourListIn p)
+  unfolding contourListIn
+  contourList-laws = counted-laws (contourIn p) roomAfter contour-in-laws (number largestWord) mostPoints (number-laws largestWord)
+
+  pub contourList-tails : Tails (contourListIn p)
+  unfolding contourListIn
+  contourList-tails = counted-tails (contourIn p) roomAfter contour-in-tails (number largestWord) mostPoints (number-tails largestWord)
 
 module _ (low : ℤ) where
   pub heightAbove-laws : Lawful (heightAbove low)
@@ -86,26 +109,70 @@ module _ (low : ℤ) where
   unfolding heightAbove
   heightAbove-tails = ruled-tails (λ h. ltZ low h) (signed largestWord) (signed-tails largestWord)
 
-  pub layer-laws : Lawful (layerFormat low)
-  unfolding layerFormat
-  layer-laws =
-      through-laws {B = Layer} (λ q. record { height = q .0; contours = q .1 }) (λ l. (l .height, l .contours)) (pair (heightAbove low) (λ h. contourList))
+module _ (p : Profile) where
+  pub layer-laws : (low : ℤ) → Lawful (layerFormatIn p low)
+  unfolding layerFormatIn
+  layer-laws low =
+      through-laws {B = Layer} (λ q. record { height = q .0; contours = q .1 }) (λ l. (l .height, l .contours)) (pair (heightAbove low) (λ h. contourListIn p))
       (λ q. refl) (λ l. refl)
-      (pair-laws (heightAbove low) (λ h. contourList) heightAbove-laws (λ h. contourList-laws))
+      (pair-laws (heightAbove low) (λ h. contourListIn p) (heightAbove-laws low) (λ h. contourList-laws p))
 
-  pub layer-tails : Tails (layerFormat low)
-  unfolding layerFormat
-  layer-tails =
-      through-tails {B = Layer} (λ q. record { height = q .0; contours = q .1 }) (λ l. (l .height, l .contours)) (pair (heightAbove low) (λ h. contourList))
-      (pair-tails (heightAbove low) (λ h. contourList) heightAbove-tails (λ h. contourList-tails))
+  pub layer-tails : (low : ℤ) → Tails (layerFormatIn p low)
+  unfolding layerFormatIn
+  layer-tails low =
+      through-tails {B = Layer} (λ q. record { height = q .0; contours = q .1 }) (λ l. (l .height, l .contours)) (pair (heightAbove low) (λ h. contourListIn p))
+      (pair-tails (heightAbove low) (λ h. contourListIn p) (heightAbove-tails low) (λ h. contourList-tails p))
 
-pub layerFile-laws : Lawful layerFile
-unfolding layerFile
-layerFile-laws = counted-laws layerFormat heightOf layer-laws (number mostLayers) lowest (number-laws mostLayers)
+  pub layerFile-laws : Lawful (layerFileIn p)
+  unfolding layerFileIn
+  layerFile-laws = counted-laws (layerFormatIn p) heightOf layer-laws (number mostLayers) lowest (number-laws mostLayers)
 
-pub layerFile-tails : Tails layerFile
-unfolding layerFile
-layerFile-tails = counted-tails layerFormat heightOf layer-tails (number mostLayers) lowest (number-tails mostLayers)
+  pub layerFile-tails : Tails (layerFileIn p)
+  unfolding layerFileIn
+  layerFile-tails = counted-tails (layerFormatIn p) heightOf layer-tails (number mostLayers) lowest (number-tails mostLayers)
+
+  -- what is parsed in a profile is parsed in the full one, as the same value
+  pub contour-within : (room : ℕ) → Within (contourIn p room) (contourFormat room)
+  contour-within = by p
+    where
+      by : (p : Profile) (room : ℕ) → Within (contourIn p room) (contourFormat room)
+      by Full room l c r e = e
+      by Clean room l c r e = obeying-within isClean (contourFormat room) l c r e
+
+  pub contourList-within : Within (contourListIn p) contourList
+  unfolding contourListIn
+  contourList-within = counted-within (contourIn p) contourFormat roomAfter contour-within (number largestWord) mostPoints
+
+  pub layer-within : (low : ℤ) → Within (layerFormatIn p low) (layerFormat low)
+  unfolding layerFormatIn
+  layer-within low =
+      through-within {B = Layer} (λ q. record { height = q .0; contours = q .1 }) (λ l. (l .height, l .contours))
+      (pair (heightAbove low) (λ h. contourListIn p)) (pair (heightAbove low) (λ h. contourList))
+      (pair-within (heightAbove low) (λ h. contourListIn p) (λ h. contourList) (λ h. contourList-within))
+
+  pub layerFile-within : Within (layerFileIn p) layerFile
+  unfolding layerFileIn
+  layerFile-within = counted-within (layerFormatIn p) layerFormat heightOf layer-within (number mostLayers) lowest
+
+  -- and written alike
+  pub contour-alike : (room : ℕ) (c : List Point) → (contourIn p room) .encode c ≡ (contourFormat room) .encode c
+  contour-alike = by p
+    where
+      by : (p : Profile) (room : ℕ) (c : List Point) → (contourIn p room) .encode c ≡ (contourFormat room) .encode c
+      by Full room c = refl
+      by Clean room c = refl
+
+  contours-alike : (cs : List (List Point)) → (contourListIn p) .encode cs ≡ contourList .encode cs
+  unfolding contourListIn
+  contours-alike cs = ap (λ (l : List ℕ). encodeNumber (length cs) ++ l) (encode-alike (contourIn p) contourFormat roomAfter contour-alike mostPoints cs)
+
+  pub layer-alike : (low : ℤ) (l : Layer) → (layerFormatIn p low) .encode l ≡ (layerFormat low) .encode l
+  unfolding layerFormatIn
+  layer-alike low l = ap (λ (m : List ℕ). (heightAbove low) .encode (l .height) ++ m) (contours-alike (l .contours))
+
+  pub encode-in : (ls : List Layer) → (layerFileIn p) .encode ls ≡ layerFile .encode ls
+  unfolding layerFileIn
+  encode-in ls = ap (λ (l : List ℕ). encodeNumber (length ls) ++ l) (encode-alike (layerFormatIn p) layerFormat heightOf layer-alike lowest ls)
 
 -- ---- a coordinate, by its number
 
@@ -196,14 +263,14 @@ module _ (low : ℤ) (l : List ℕ) where
   unfolding heightAbove
   height-in h r e = tested-in (λ h. ltZ low h) l ((signed largestWord) .parse l) h r e .1
 
-  pub layer-bad : (heightAbove low) .parse l ≡ refused l → (layerFormat low) .parse l ≡ refused l
-  unfolding layerFormat
-  layer-bad e = simp e
+  pub layer-bad : (p : Profile) → (heightAbove low) .parse l ≡ refused l → (layerFormatIn p low) .parse l ≡ refused l
+  unfolding layerFormatIn
+  layer-bad p e = simp e
 
-  pub layer-contours : (h : ℤ) (m : List ℕ) → (heightAbove low) .parse l ≡ parsed h m
-      → (layerFormat low) .parse l ≡ mapped {B = Layer} (λ cs. record { height = h; contours = cs }) (contourList .parse m)
-  unfolding layerFormat
-  layer-contours h m e = simp e (by (contourList .parse m))
+  pub layer-contours : (p : Profile) (h : ℤ) (m : List ℕ) → (heightAbove low) .parse l ≡ parsed h m
+      → (layerFormatIn p low) .parse l ≡ mapped {B = Layer} (λ cs. record { height = h; contours = cs }) ((contourListIn p) .parse m)
+  unfolding layerFormatIn
+  layer-contours p h m e = simp e (by ((contourListIn p) .parse m))
     where
       by : (d : Parse (List (List Point)))
           → mapped {B = Layer} (λ (q : ℤ × List (List Point)). record { height = q .0; contours = q .1 }) (mapped (λ b. (h, b)) d)

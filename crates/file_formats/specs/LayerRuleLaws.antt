@@ -11,7 +11,7 @@ use Rattle.polygons.specs.Flat.{Polygons}
 use Rattle.file_formats.specs.Formats.{validAll, Each}
 use Rattle.file_formats.specs.NumberLaws.{word-sent, sent-word}
 use Rattle.file_formats.specs.LayerFile.{Point, Layer, mostPoints, fewestPoints, coordinateFormat, pointFormat, origin, latest, contourFormat, roomAfter}
-use Rattle.file_formats.specs.LayerFile.{contourList, heightAbove, layerFormat, lowest, heightOf, layerFile}
+use Rattle.file_formats.specs.LayerFile.{contourListIn, heightAbove, layerFormat, layerFormatIn, lowest, heightOf, layerFile, layerFileIn}
 use Rattle.file_formats.specs.LayerFileLaws.{coordinate-valid}
 use Rattle.file_formats.specs.LayerRules.{PointRules, ContourRules, pointTotal, LayerRules, RisingLayers, Rules}
 
@@ -60,14 +60,14 @@ few-contours (c ∷ cs) e = omega (arith, e .0 .0, few-contours cs (e .1))
 -- ---- layers
 
 layer-valid : (low : ℤ) (l : Layer) → low <ℤ l .height → LayerRules l → (layerFormat low) .valid l
-unfolding layerFormat heightAbove contourList
+unfolding layerFormatIn heightAbove contourListIn
 layer-valid low l h r = (
   (word-sent (l .height) (r .height-fits), h .lt),
   (omega (arith, few-contours (l .contours) (r .each), r .few), contours-valid mostPoints (l .contours) (r .few) (r .each)),
 )
 
 layer-ruled : (low : ℤ) (l : Layer) → (layerFormat low) .valid l → (low <ℤ l .height) × LayerRules l
-unfolding layerFormat heightAbove contourList
+unfolding layerFormatIn heightAbove contourListIn
 layer-ruled low l e =
     let g = contours-ruled (length (l .contours)) mostPoints (l .contours) (e .1 .1) in
     (record { lt = e .0 .1 }, record { height-fits = sent-word (l .height) (e .0 .0); few = g .0; each = g .1 })
@@ -85,11 +85,11 @@ layers-ruled (suc n) low (l ∷ ls) e =
     ((h .0, g .0), (h .1, g .1))
 
 pub rules-valid : (ls : List Layer) → Rules ls → layerFile .valid ls
-unfolding layerFile
+unfolding layerFileIn
 rules-valid ls r = (r .few, layers-valid lowest ls (r .rises) (r .each))
 
 pub valid-rules : (ls : List Layer) → layerFile .valid ls → Rules ls
-unfolding layerFile
+unfolding layerFileIn
 valid-rules ls e =
     let g = layers-ruled (length ls) lowest ls (e .1) in
     record { few = e .0; rises = g .0; each = g .1 }

@@ -11,10 +11,13 @@ pub mod Positions
 pub mod PositionLaws
 pub mod SequenceLaws
 pub mod EmitLaws
+pub mod StopLaws
 pub mod LayerFileLaws
 pub mod LayerRuleLaws
+pub mod ProfileLaws
 pub mod PartFileLaws
 pub mod RoundTripLaws
+pub mod CleanFileLaws
 pub mod WholeFiles
 pub mod WholeFileLaws
 pub mod Worked

@@ -8,9 +8,9 @@ use lib.Dec.{ltb, leb}
 use lib.ListN.{length, drop, length-drop, drop-of-length-le}
 use lib.Seq.{drop-drop}
 use borrow.Author.Tests.{leb-true}
-use Rattle.file_formats.specs.Formats.{Parse, parsed, refused, Format, mapped, through, ruled, pair, headed, parseAll, sequence, counted, holds, broken}
-use Rattle.file_formats.specs.Formats.{decode}
-use Rattle.file_formats.specs.FormatLaws.{not-refused, tested-in, mapped-in, then-in}
+use Rattle.file_formats.specs.Formats.{Parse, parsed, refused, Format, mapped, through, ruled, obeying, pair, headed, parseAll, sequence, counted}
+use Rattle.file_formats.specs.Formats.{holds, broken, decode}
+use Rattle.file_formats.specs.FormatLaws.{not-refused, tested-in, obeyed-in, mapped-in, then-in}
 use Rattle.file_formats.specs.Numbers.{parseNumber, number, zigzag, unzigzag, signed}
 use Rattle.file_formats.specs.Positions.{numberAt, extentAt}
 pub use Rattle.file_formats.specs.Positions.{ParsedAt}
@@ -77,6 +77,9 @@ signed-tails top = through-tails unzigzag zigzag (number top) (number-tails top)
 
 pub ruled-tails : {A : Type 0} (t : A → Bool) (F : Format A) → Tails F → Tails (ruled t F)
 ruled-tails t F T l a r e = T l a r (tested-in t l (F .parse l) a r e .0)
+
+pub obeying-tails : {A : Type 0} (t : A → Bool) (F : Format A) → Tails F → Tails (obeying t F)
+obeying-tails t F T l a r e = T l a r (obeyed-in t l (F .parse l) a r e .0)
 
 pub pair-tails : {A B : Type 0} (F : Format A) (G : A → Format B) → Tails F → ((a : A) → Tails (G a)) → Tails (pair F G)
 pair-tails {A} {B} F G T U l p r e =

@@ -4,11 +4,12 @@ use mathlib.Core.Path.{_≡_}
 use mathlib.Core.List.{List}
 use Prim.Native.Nat.{ℕ, _≤_}
 use lib.IntN.{ℤ}
+use Rattle.cleaning.specs.declared.Profile.the-variants.{Full}
 use Rattle.file_formats.specs.Formats.{holds, decode}
 use Rattle.file_formats.specs.FormatLaws.{Bytes, decode-there, decode-back, decode-one}
 use Rattle.file_formats.specs.Numbers.{encodeNumber, number, zigzag, signed}
 use Rattle.file_formats.specs.NumberLaws.{number-laws, signed-laws}
-use Rattle.file_formats.specs.LayerFile.{Layer, layerFile, layersOf}
+use Rattle.file_formats.specs.LayerFile.{Layer, layerFile, layersOf, layersOfIn}
 use Rattle.file_formats.specs.LayerFileLaws.{layerFile-laws}
 use Rattle.file_formats.specs.LayerRules.{Rules}
 use Rattle.file_formats.specs.LayerRuleLaws.{rules-valid, valid-rules}
@@ -19,18 +20,18 @@ use Rattle.file_formats.specs.PartFileLaws.{partFile-laws, part-rules-va
 
 -- the file of layers that obey the rules is read as these layers
 pub layers-read-back : (ls : List Layer) → Rules ls → layersOf (layerFile .encode ls) ≡ holds ls
-unfolding layersOf
-layers-read-back ls h = decode-there layerFile layerFile-laws ls (rules-valid ls h)
+unfolding layersOfIn
+layers-read-back ls h = decode-there layerFile (layerFile-laws Full) ls (rules-valid ls h)
 
 -- a file that is read as some layers is the file of these layers, and they obey the rules
 pub layers-written : (file : List ℕ) (ls : List Layer) → Bytes file → layersOf file ≡ holds ls → Rules ls × (file ≡ layerFile .encode ls)
-unfolding layersOf
-layers-written file ls b e = let h = decode-back layerFile layerFile-laws file ls b e in (valid-rules ls (h .0), h .1)
+unfolding layersOfIn
+layers-written file ls b e = let h = decode-back layerFile (layerFile-laws Full) file ls b e in (valid-rules ls (h .0), h .1)
 
 -- no two different accepted files hold the same layers
 pub layers-once : (file file′ : List ℕ) (ls : List Layer) → Bytes file → Bytes file′ → layersOf file ≡ holds ls → layersOf file′ ≡ holds ls → file ≡ file′
-unfolding layersOf
-layers-once file file′ ls b b′ e e′ = decode-one layerFile layerFile-laws file file′ ls b b′ e e′
+unfolding layersOfIn
+layers-once file file′ ls b b′ e e′ = decode-one layerFile (layerFile-laws Full) file file′ ls b b′ e e′
 
 -- ---- part files
 

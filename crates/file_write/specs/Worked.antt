@@ -6,7 +6,7 @@ use Prim.Native.Nat.{ℕ}
 use lib.IntN.{ℤ, pos, negsuc}
 use Rattle.file_formats.specs.Formats.{encodeAll}
 use Rattle.file_formats.specs.Numbers.{groups, encodeNumber}
-use Rattle.file_formats.specs.LayerFile.{Layer, coordinateFormat, pointFormat, contourFormat, contourList, heightAbove, layerFormat}
+use Rattle.file_formats.specs.LayerFile.{Layer, coordinateFormat, pointFormat, contourFormat, contourListIn, heightAbove, layerFormatIn}
 use Rattle.polygons.specs.Flat.{pointsIn, contoursIn, numbersOf, endsFrom, endsOf}
 use Rattle.file_write.specs.Written.{layerOf, layerBytes}
 
@@ -30,7 +30,8 @@ unfolding points ends five layerOf contoursIn pointsIn
 held = refl
 
 written : layerBytes (layerOf (pos 5) points ends 1) ≡ 0x0A ∷ 0x01 ∷ 0x03 ∷ 0x0A ∷ 0x00 ∷ 0x09 ∷ 0x0A ∷ 0x00 ∷ 0x09 ∷ []
-unfolding points ends layerOf contoursIn pointsIn layerBytes layerFormat heightAbove contourList contourFormat pointFormat coordinateFormat encodeNumber groups
+unfolding points ends layerOf contoursIn pointsIn layerBytes layerFormatIn heightAbove contourListIn contourFormat pointFormat coordinateFormat encodeNumber
+    groups
     encodeAll
 written = refl
 
@@ -46,7 +47,8 @@ its-ends = refl
 -- ---- no contours
 
 none : layerBytes (layerOf (pos 11) points ends 0) ≡ 0x16 ∷ 0x00 ∷ []
-unfolding points ends layerOf contoursIn pointsIn layerBytes layerFormat heightAbove contourList contourFormat pointFormat coordinateFormat encodeNumber groups
+unfolding points ends layerOf contoursIn pointsIn layerBytes layerFormatIn heightAbove contourListIn contourFormat pointFormat coordinateFormat encodeNumber
+    groups
     encodeAll
 none = refl
 
@@ -54,5 +56,6 @@ none = refl
 
 two : layerBytes (layerOf (negsuc 2) (pos 1 ∷ negsuc 0 ∷ negsuc 63 ∷ pos 64 ∷ pos 7 ∷ pos 7 ∷ pos 7 ∷ pos 7 ∷ []) (2 ∷ 4 ∷ []) 2)
     ≡ 0x05 ∷ 0x02 ∷ 0x02 ∷ 0x02 ∷ 0x01 ∷ 0x81 ∷ 0x01 ∷ 0x82 ∷ 0x01 ∷ 0x02 ∷ 0x0E ∷ 0x0E ∷ 0x00 ∷ 0x00 ∷ []
-unfolding layerOf contoursIn pointsIn layerBytes layerFormat heightAbove contourList contourFormat pointFormat coordinateFormat encodeNumber groups encodeAll
+unfolding layerOf contoursIn pointsIn layerBytes layerFormatIn heightAbove contourListIn contourFormat pointFormat coordinateFormat encodeNumber groups
+    encodeAll
 two = refl

@@ -16,8 +16,9 @@ use Rattle.file_formats.specs.Formats.{Format, encodeAll, Each}
 use Rattle.file_formats.specs.Numbers.{encodeNumber, zigzag}
 use Rattle.file_formats.specs.NumberLaws.{encode-short, word-bytes, word-sent, zigzag-abs}
 use Rattle.file_formats.specs.EmitLaws.{Emit, emit-start, emit-fits, emit, emit-end}
-use Rattle.file_formats.specs.LayerFile.{Point, Layer, mostPoints, pointFormat, latest, origin, contourFormat, roomAfter, contourList, heightAbove, layerFormat}
-use Rattle.file_formats.specs.LayerFile.{heightOf, lowest, layerFile}
+use Rattle.file_formats.specs.LayerFile.{Point, Layer, mostPoints, pointFormat, latest, origin, contourFormat, roomAfter, contourListIn, heightAbove}
+use Rattle.file_formats.specs.LayerFile.{layerFormat, layerFormatIn}
+use Rattle.file_formats.specs.LayerFile.{heightOf, lowest, layerFile, layerFileIn}
 use Rattle.file_formats.specs.LayerFileLaws.{point-encode}
 use Rattle.file_formats.specs.LayerRules.{PointRules, ContourRules, pointTotal, LayerRules}
 use Rattle.file_formats.specs.LayerRuleLaws.{few-contours}
@@ -102,18 +103,18 @@ unfolding contourFormat contourBytes pointBytes
 contour-bytes c = refl
 
 pub layer-encode : (low : ℤ) (l : Layer) → (layerFormat low) .encode l ≡ layerBytes l
-unfolding layerFormat heightAbove layerBytes
+unfolding layerFormatIn heightAbove layerBytes
 layer-encode low l = refl
 
 pub layer-bytes : (l : Layer) → layerBytes l ≡ encodeNumber (zigzag (l .height)) ++ (encodeNumber (length (l .contours)) ++ flatMap contourBytes (l .contours))
-unfolding layerBytes layerFormat heightAbove contourList
+unfolding layerBytes layerFormatIn heightAbove contourListIn
 layer-bytes l =
     ap (λ (r : List ℕ). encodeNumber (zigzag (l .height)) ++ (encodeNumber (length (l .contours)) ++ r))
     (encode-each contourFormat roomAfter contourBytes contour-encode mostPoints (l .contours))
 
 -- the file: the count, and then layer by layer
 pub file-bytes : (ls : List Layer) → layerFile .encode ls ≡ encodeNumber (length ls) ++ flatMap layerBytes ls
-unfolding layerFile
+unfolding layerFileIn
 file-bytes ls = ap (λ (r : List ℕ). encodeNumber (length ls) ++ r) (encode-each layerFormat heightOf layerBytes layer-encode lowest ls)
 
 pub file-length : (ls : List Layer) → length (layerFile .encode ls) ≡ length (encodeNumber (length ls)) + totalOf (λ l. length (layerBytes l)) ls

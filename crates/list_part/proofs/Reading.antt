@@ -84,7 +84,7 @@ module _ {input : List ℕ} {t t′ : Part} {result : ReadPartAnswer} (k : Reads
       let y = front (p .corners) (t .corners) {n = 3 * n} (ap (λ (q : Part). q .corners) (w .3 .filled)) (omega (arith, w .1 .whole-triangles)) in
       let z = front (p .heights) (t .heights) {n = h} (ap (λ (q : Part). q .heights) (w .3 .filled)) ch in
       record {
-        opens = sym (verdict-next (longInput input) _ (opens input short) refl (form-fine input is ∙ verdict-one (form input (partOf input))));
+        opens = sym (verdict-next (longInput input) _ (opens input short) refl (form-fine 13 input is ∙ verdict-one (form input (partOf input))));
         coords-there = x .0;
         corners-there = y .0;
         heights-there = z .0;
@@ -102,7 +102,7 @@ module _ {input : List ℕ} {t t′ : Part} {result : ReadPartAnswer} (k : Reads
       by : (d : Decoded Part) → partOf input ≡ d → verdict (refusalsOf input) ≡ refuses (limited r)
       by (broken place) h =
           sym (verdict-next (longInput input) _ (opens input short) refl
-          (verdict-stop (form input (partOf input)) _ (form-refused input (part-broken-inside input place h) h) refl))
+          (verdict-stop (form input (partOf input)) _ (form-refused 13 input (part-broken-inside input place h) h) refl))
           ∙ ap (λ (s : Told). refuses (limited s)) (same-refusal (sym (broken-verdict input heldSizes h) ∙ said))
       by (holds p) h = room (readPartRoomFor (partSizesOf p) heldSizes) refl
         where
@@ -111,7 +111,7 @@ module _ {input : List ℕ} {t t′ : Part} {result : ReadPartAnswer} (k : Reads
           room false g =
               let over : beyond (partIn input) ≡ true = ap beyond (held-part input h) ∙ no-room p (part-written input p bytes h .0) g in
               sym (verdict-next (longInput input) _ (opens input short) refl
-              (verdict-next (form input (partOf input)) _ (form-fine input h) refl
+              (verdict-next (form input (partOf input)) _ (form-fine 13 input h) refl
               (verdict-stop (limits (partIn input)) _ (whole-refused (refusal 1) _ over) refl)))
               ∙ ap (λ (s : Told). refuses (limited s)) (same-refusal (sym (short-verdict input heldSizes h g) ∙ said))
 

@@ -42,6 +42,8 @@ pub enum Refusal {
     Used(usize),
     // 17: the origin is not whole or out of range.
     Origin(usize),
+    // 18: a contour of a file is not clean.
+    Unclean(usize),
 }
 
 // What tests find: no refusal, or the first that fits.

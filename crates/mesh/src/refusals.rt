@@ -25,6 +25,7 @@ pub fn number_of(r: Refusal) -> u32
         Refusal::Layer(_) => 15,
         Refusal::Used(_) => 16,
         Refusal::Origin(_) => 17,
+        Refusal::Unclean(_) => 18,
     }
 }
 
@@ -49,5 +50,6 @@ pub fn place_of(r: Refusal) -> usize
         Refusal::Layer(p) => p,
         Refusal::Used(p) => p,
         Refusal::Origin(p) => p,
+        Refusal::Unclean(p) => p,
     }
 }

@@ -43,7 +43,7 @@ oneWord n = n ∷ []
 abbrev pub signedWord : ℤ → List ℕ
 signedWord z = wordOf z ∷ []
 
--- Cut: the counts of contours and points
+-- Cut, Clean: the counts of contours and points
 abbrev pub cutWords : ℕ × ℕ → List ℕ
 cutWords (contours, points) = contours ∷ points ∷ []
 

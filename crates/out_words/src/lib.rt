@@ -5,6 +5,7 @@ ghost use lib.ListN.{set};
 ghost use Rattle.mesh.specs.Operation.{gives};
 ghost use Rattle.mesh.specs.Refusals.{numberOf, placeOf};
 ghost use Rattle.check_mesh.specs.Check.{tellCheck};
+ghost use Rattle.clean.specs.Clean.{tellClean};
 ghost use Rattle.cut.specs.Cut.{tellCut};
 ghost use Rattle.contours.specs.Areas.{tellArea};
 ghost use Rattle.sweep.specs.Operations.{tellStart, tellStep, tellLayer};
@@ -16,6 +17,7 @@ ghost use Rattle.out_words.specs.Words.{wordOf, Says, noWords, oneWord, 
 ghost use Rattle.out_words.specs.Words.{readLayerWords, readPartWords, previewWords, xyAfter};
 use all_sweep::AllLayersAnswer;
 use check_mesh::CheckAnswer;
+use clean::CleanAnswer;
 use contours::AreaAnswer;
 use cut::CutAnswer;
 use mesh::Refusal;
@@ -68,6 +70,19 @@ pub fn tell_cut(a: CutAnswer, out: &mut [u64; 4]) -> u32
             0
         }
         CutAnswer::Refused(r) => refuse(r, out),
+    }
+}
+
+pub fn tell_clean(a: CleanAnswer, out: &mut [u64; 4]) -> u32
+    ensures outcome { λ n. ⌜ Says cutWords (tellClean a) (out .entry .now) n (out .exit .now) ⌝ }
+{
+    match a {
+        CleanAnswer::Layer(j, k) => {
+            out[0] = j as u64;
+            out[1] = k as u64;
+            0
+        }
+        CleanAnswer::Refused(r) => refuse(r, out),
     }
 }
 

@@ -12,10 +12,11 @@ use Rattle.laws.specs.Tables.{overwrite}
 use Rattle.laws.specs.TableLaws.{overwrite-none, overwrite-more}
 use Rattle.polygons.specs.Flat.{FlatLayer, flat, numbersOf, endsFrom, endsOf, flatOf}
 use Rattle.polygons.specs.FlatLaws.{length-numbers, length-points, length-ends, flatten-none, flatten-first, ends-first}
+use Rattle.cleaning.specs.declared.Profile.the-variants.{Full}
 use Rattle.file_formats.specs.Formats.{parsed, refused, parseAll, sequence}
 use Rattle.file_formats.specs.FormatLaws.{not-refused}
 use Rattle.file_formats.specs.Numbers.{largestWord, number}
-use Rattle.file_formats.specs.LayerFile.{Point, mostPoints, fewestPoints, pointFormat, origin, latest, contourFormat, roomAfter, contourList}
+use Rattle.file_formats.specs.LayerFile.{Point, mostPoints, fewestPoints, pointFormat, origin, latest, contourFormat, roomAfter, contourList, contourListIn}
 use Rattle.file_formats.specs.LayerFileLaws.{point-tails, contour-bad, contour-few, contour-points, contour-length}
 use Rattle.file_formats.specs.Positions.{numberAt}
 use Rattle.file_formats.specs.PositionLaws.{Tails, took, not-took, sequence-tails, parsed-at, passed}
@@ -42,7 +43,7 @@ pub record LayerFilling (file : List ℕ) (at : ℕ) (t : FlatLayer) (n : ℕ) (
 
 module _ {file : List ℕ} {at : ℕ} {t : FlatLayer} (f : FillLayer file at t) where
   pub count-there : numberAt largestWord file at ≡ Bad → ⊥
-  unfolding contourList
+  unfolding contourListIn
   count-there e =
       let p = not-took largestWord file at e in
       let q : contourList .parse (drop at file) ≡ refused (drop at file) = simp p in
@@ -59,7 +60,7 @@ module _ {file : List ℕ} {at : ℕ} {t : FlatLayer} (f : FillLayer file at t) 
         rest = drop (f .next) file;
         parses =
             ap (λ (k : ℕ). parseAll contourFormat roomAfter k mostPoints (drop start file)) z
-            ∙ sym (contours-by-count file at n start e) ∙ f .stands .parses;
+            ∙ sym (contours-by-count Full file at n start e) ∙ f .stands .parses;
         points-go =
             subst (λ (cs : List (List Point)). Emit (t .points) 0 (numbersOf (flatten cs)) (t .points) 0 (numbersOf (flatten (f .cs)))) s
             (emit-start (t .points) 0 (numbersOf (flatten (f .cs))) (omega (arith, f .points-long, length-points (f .cs))));

@@ -8,10 +8,14 @@ use lib.IntN.{ℤ}
 use Rattle.laws.specs.Tables.{overwrite}
 use Rattle.mesh.specs.Operation.{refuses, fine, verdict}
 use Rattle.mesh.specs.Refusals.{toldOf}
+use Rattle.mesh.specs.declared.Refusal.{Refusal}
+use Rattle.mesh.specs.declared.Refusal.the-variants.{File, Unclean}
+use Rattle.cleaning.specs.declared.Profile.{Profile}
+use Rattle.cleaning.specs.declared.Profile.the-variants.{Full, Clean}
 use Rattle.polygons.specs.Flat.{FlatLayer, flat, numbersOf, flatOf}
 use Rattle.file_formats.specs.Formats.{Parse, parsed, refused, sequence}
 use Rattle.file_formats.specs.Numbers.{Word}
-use Rattle.file_formats.specs.LayerFile.{Point, Layer, pointFormat, origin, latest, contourList, layerFormat, heightOf}
+use Rattle.file_formats.specs.LayerFile.{Point, Layer, pointFormat, origin, latest, contourList, layerFormatIn, heightOf}
 use Rattle.file_formats.specs.LayerRules.{pointTotal}
 use Rattle.file_formats.specs.Positions.{extentAt, ParsedAt}
 use Rattle.file_formats.specs.declared.Extent.the-variants.{End}
@@ -33,9 +37,9 @@ pub record LayerStands (file : List ℕ) (l : Layer) (p : LayerPlace) : Type 0 w
   pub next : ℕ
   pub stands : ParsedAt contourList file (p .at) (l .contours) next
 
--- the last n layers of a file, from a position on, the first of which lies above low
-abbrev pub lastLayers : ℕ → ℤ → List ℕ → ℕ → Parse (List Layer)
-lastLayers n low file at = (final (sequence layerFormat heightOf n low)) .parse (drop at file)
+-- the last n layers of a file of the profile, from a position on, the first of which lies above low
+abbrev pub lastLayers : Profile → ℕ → ℤ → List ℕ → ℕ → Parse (List Layer)
+lastLayers p n low file at = (final (sequence (layerFormatIn p) heightOf n low)) .parse (drop at file)
 
 -- what a search for layer i answers, where the layers of the file are parsed so
 abbrev pub Searched : List ℕ → ℕ → Parse (List Layer) → FindLayerAnswer → Type 0
@@ -44,18 +48,24 @@ Searched file i (parsed ls r) (Found p) = (i < length ls) × LayerStands file (l
 Searched file i (parsed ls r) Missing = length ls ≤ i
 Searched file i (parsed ls r) (Broken q) = ⊥
 
+-- what is refused of a file that breaks at e in a profile, where its layers are parsed so in the full one: 13, or 18 if they are layers there
+abbrev pub brokenTold : Profile → List ℕ → Parse (List Layer) → ℕ → Refusal
+brokenTold Full file d e = File e
+brokenTold Clean file (refused r) e = File (length file - length r)
+brokenTold Clean file (parsed ls r) e = Unclean e
+
 -- the layer that is to be read, for tables of so many entries
-pub record Ready (file : List ℕ) (i : ℕ) (n : Entries) (count : ℕ) (p : LayerPlace) : Type 0 where
-  pub passed : verdict (readingTests file i n) ≡ fine
+pub record Ready (p : Profile) (file : List ℕ) (i : ℕ) (n : Entries) (count : ℕ) (l : LayerPlace) : Type 0 where
+  pub passed : verdict (readingTests p file i n) ≡ fine
   pub counted : count ≡ length (layersIn file)
-  pub place : LayerStands file (layerAt (layersIn file) i) p
+  pub place : LayerStands file (layerAt (layersIn file) i) l
   pub points-long : 2 * pointTotal (layerAt (layersIn file) i .contours) ≤ n .points
   pub ends-long : length (layerAt (layersIn file) i .contours) ≤ n .ends
 
 -- what the tests of a call answer
-abbrev pub Located : List ℕ → ℕ → Entries → Location → Type 0
-Located file i n (At count p) = Ready file i n count p
-Located file i n (Refused r) = verdict (readingTests file i n) ≡ refuses (toldOf r)
+abbrev pub Located : Profile → List ℕ → ℕ → Entries → Location → Type 0
+Located p file i n (At count l) = Ready p file i n count l
+Located p file i n (Refused r) = verdict (readingTests p file i n) ≡ refuses (toldOf r)
 
 -- ---- filling
 

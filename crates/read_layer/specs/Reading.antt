@@ -1,16 +1,19 @@
--- Read layer i (READ-1 to READ-11): its refusals in order, what it answers, and what it leaves in the two lent tables.
+-- Read layer i, in the full profile (READ-1 to READ-11) and the clean one (READCLEAN-1 to READCLEAN-3): its refusals in order, what it answers, and what it
+-- leaves in the two lent tables.
 use Prim.Native.Nat.{ℕ, _*_}
 use mathlib.Core.Bool.{Bool, not, _&&_}
-use mathlib.Core.List.{List, [], _∷_}
+use mathlib.Core.List.{List, [], _∷_, _++_}
 use lib.Dec.{leb}
 use lib.ListN.{length, getD}
 use lib.IntN.{ℤ, pos}
 use Rattle.mesh.specs.Operation.{Answer, gives, refuses, Finding, Condition, whole, after, Operation, Does}
 use Rattle.mesh.specs.Refusals.{Told, refusal, numbered, toldOf}
 use Rattle.polygons.specs.Flat.{FlatLayer, flat, flatOf}
-use Rattle.file_formats.specs.LayerFile.{Layer, layersOf}
+use Rattle.cleaning.specs.declared.Profile.{Profile}
+use Rattle.cleaning.specs.declared.Profile.the-variants.{Full, Clean}
+use Rattle.file_formats.specs.LayerFile.{Layer, layersOf, layersOfIn}
 use Rattle.file_formats.specs.LayerRules.{pointTotal}
-use Rattle.file_formats.specs.WholeFiles.{form, heldOr}
+use Rattle.file_formats.specs.WholeFiles.{form, uncleanForm, heldOr}
 use Rattle.read_layer.specs.declared.ReadLayerAnswer.{ReadLayerAnswer}
 use Rattle.read_layer.specs.declared.ReadLayerAnswer.the-variants.{Layer as ReadLayerLayer, Refused}
 
@@ -58,9 +61,15 @@ noLayerRoom l n = whole (refusal 9) (not (layerHasRoom l n))
 
 -- ---- Read layer as a whole
 
--- its refusals in order, for tables of so many entries (READ-5); 13 is of the whole file (READ-1)
-abbrev pub readingTests : List ℕ → ℕ → Entries → List (Condition Told)
-readingTests file i n = form file (layersOf file) ∷ noLayer (layersIn file) i ∷ noLayerRoom (layerAt (layersIn file) i) n ∷ []
+-- 18, in the clean profile alone: a contour that is not clean, in any layer (READCLEAN-3)
+abbrev pub profileTests : Profile → List ℕ → List (Condition Told)
+profileTests Full file = []
+profileTests Clean file = uncleanForm file (layersOfIn Clean file) ∷ []
+
+-- its refusals in order, for tables of so many entries (READ-5, READCLEAN-2); 13 is of the whole file (READ-1)
+abbrev pub readingTests : Profile → List ℕ → ℕ → Entries → List (Condition Told)
+readingTests p file i n =
+    form file (layersOf file) ∷ (profileTests p file ++ (noLayer (layersIn file) i ∷ noLayerRoom (layerAt (layersIn file) i) n ∷ []))
 
 -- the layer count, and the layer's height and its counts of contours and points (READ-3)
 abbrev pub layerCounts : List Layer → ℕ → ℕ × ℤ × ℕ × ℕ
@@ -75,10 +84,10 @@ fillsLayer l t f =
     (after (numbered []) f (filled .points) 0 (pos 0) (t .points))
     (after (numbered []) f (filled .ends) 0 0 (t .ends))
 
--- Read layer of a file, a number and two tables
-abbrev pub layerReading : List ℕ × ℕ × FlatLayer → Operation Told (ℕ × ℤ × ℕ × ℕ) FlatLayer
-layerReading = λ (file, i, t). record {
-  refusals = readingTests file i (entriesOf t);
+-- Read layer in a profile, of a file, a number and two tables
+abbrev pub layerReading : Profile × List ℕ × ℕ × FlatLayer → Operation Told (ℕ × ℤ × ℕ × ℕ) FlatLayer
+layerReading = λ (p, file, i, t). record {
+  refusals = readingTests p file i (entriesOf t);
   values = layerCounts (layersIn file) i;
   leaves = fillsLayer (layerAt (layersIn file) i) t;
 }
@@ -89,5 +98,5 @@ tellReadLayer (ReadLayerLayer n h k m) = gives (n, h, k, m)
 tellReadLayer (Refused r) = refuses (toldOf r)
 
 -- the contract of Read layer
-abbrev pub ReadsLayer : List ℕ → ℕ → FlatLayer → ReadLayerAnswer → FlatLayer → Type 0
-ReadsLayer file i t result t′ = Does layerReading tellReadLayer (file, i, t) result t′
+abbrev pub ReadsLayer : Profile → List ℕ → ℕ → FlatLayer → ReadLayerAnswer → FlatLayer → Type 0
+ReadsLayer p file i t result t′ = Does layerReading tellReadLayer (p, file, i, t) result t′

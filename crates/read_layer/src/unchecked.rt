@@ -3,10 +3,12 @@ ghost use mathlib.Core.Path.{_≡_};
 ghost use Prim.Native.Nat.{suc, _≤_};
 ghost use lib.ListN.{length};
 ghost use Rattle.file_formats.specs.LayerFile.{lowest};
+ghost use Rattle.cleaning.specs.declared.Profile.the-variants.{Full};
 ghost use Rattle.polygons.specs.Flat.{flat};
-ghost use Rattle.read_layer.specs.Places.{lastLayers, Searched, FillPoints, FilledPoints, FillLayer, filledLayer};
+ghost use Rattle.read_layer.specs.Places.{lastLayers, Searched, brokenTold, FillPoints, FilledPoints, FillLayer, filledLayer};
 use crate::FindLayerAnswer;
 use crate::LayerPlace;
+use cleaning::Profile;
 use file_check::Coordinate;
 use file_check::CountsExtent;
 use file_check::Height;
@@ -20,22 +22,23 @@ use file_formats::Extent;
 use file_formats::LARGEST_WORD;
 use file_formats::Number;
 use file_formats::numbers::read_number;
+use mesh::Refusal;
 use mesh::limits::MOST_POINTS_64;
 
 // Checks the last layers of a file, one and so many more, the first of which must lie above low; and tells where the first stands.
-fn check_from(file: &[u8], at: usize, more: u64, low: i64) -> FindLayerAnswer
+fn check_from(profile: Profile, file: &[u8], at: usize, more: u64, low: i64) -> FindLayerAnswer
     requires { ⌜ at ≤ length (now file) ⌝ }
-    ensures result { λ r. ⌜ Searched (file .entry .now) 0 (lastLayers (suc more) low (file .entry .now) at) r ⌝ }
+    ensures result { λ r. ⌜ Searched (file .entry .now) 0 (lastLayers profile (suc more) low (file .entry .now) at) r ⌝ }
 {
     let h = read_height(file, at, low);
     let Height::Above(z, j) = h else {
         return FindLayerAnswer::Broken(at);
     };
-    let c = check_counted(file, j);
+    let c = check_counted(profile, file, j);
     match c {
         CountsExtent::Refused(e) => FindLayerAnswer::Broken(e),
         CountsExtent::End(next, contours, points) => {
-            let rest = check_last(file, next, more, z);
+            let rest = check_last(profile, file, next, more, z);
             match rest {
                 Extent::Refused(e) => FindLayerAnswer::Broken(e),
                 Extent::End(_) => FindLayerAnswer::Found(LayerPlace {
@@ -50,21 +53,39 @@ fn check_from(file: &[u8], at: usize, more: u64, low: i64) -> FindLayerAnswer
 }
 
 // Checks the layers of a file after their count, and tells where layer i stands.
-pub fn find_layer(file: &[u8], at: usize, count: u64, i: u64) -> FindLayerAnswer
+pub fn find_layer(profile: Profile, file: &[u8], at: usize, count: u64, i: u64) -> FindLayerAnswer
     requires { ⌜ at ≤ length (now file) ⌝ }
-    ensures result { λ r. ⌜ Searched (file .entry .now) i (lastLayers count lowest (file .entry .now) at) r ⌝ }
+    ensures result { λ r. ⌜ Searched (file .entry .now) i (lastLayers profile count lowest (file .entry .now) at) r ⌝ }
 {
     if i < count {
-        let b = check_layers(file, at, i, -2147483649);
+        let b = check_layers(profile, file, at, i, -2147483649);
         return match b {
-            LevelsExtent::End(next, low) => check_from(file, next, count - i - 1, low),
+            LevelsExtent::End(next, low) => check_from(profile, file, next, count - i - 1, low),
             LevelsExtent::Refused(e) => FindLayerAnswer::Broken(e),
         };
     }
-    let c = check_last(file, at, count, -2147483649);
+    let c = check_last(profile, file, at, count, -2147483649);
     match c {
         Extent::End(_) => FindLayerAnswer::Missing,
         Extent::Refused(e) => FindLayerAnswer::Broken(e),
+    }
+}
+
+// What is refused of a file that breaks at e in the profile. In the clean one it is read again as a full file: 13 where that breaks, else 18 at e.
+pub fn refusal_at(profile: Profile, file: &[u8], at: usize, count: u64, e: usize) -> Refusal
+    requires { ⌜ at ≤ length (now file) ⌝ }
+    ensures value { λ r. ⌜ r ≡ brokenTold profile (file .entry .now)
+        (lastLayers Full count lowest (file .entry .now) at) e ⌝ }
+{
+    match profile {
+        Profile::Full => Refusal::File(e),
+        Profile::Clean => {
+            let c = check_last(Profile::Full, file, at, count, -2147483649);
+            match c {
+                Extent::End(_) => Refusal::Unclean(e),
+                Extent::Refused(f) => Refusal::File(f),
+            }
+        }
     }
 }
 

@@ -57,7 +57,7 @@ module _ (file : List ℕ) (t : PartSizes) where
   others = noPartRoom (partIn file) t ∷ []
 
   pub broken-verdict : {place : ℕ} → partOf file ≡ broken place → verdict (partTests file t) ≡ refuses (refusal 13 place)
-  broken-verdict e = form-first file (partOf file) (part-broken-inside file) others e
+  broken-verdict e = form-first 13 file (partOf file) (part-broken-inside file) others e
 
   pub verdict-broken : (place : ℕ) → (verdict (partTests file t) ≡ refuses (refusal 13 place)) ↔ (partOf file ≡ broken place)
   verdict-broken = thirteen-exactly file (partOf file) (part-broken-inside file) others ((λ j e. omega arith), tt)
@@ -65,7 +65,7 @@ module _ (file : List ℕ) (t : PartSizes) where
   module _ {p : Part} (e : partOf file ≡ holds p) where
     left : verdict (partTests file t) ≡ test (noPartRoom p t)
     left =
-        form-next file (partOf file) (part-broken-inside file) others e ∙ sym (verdict-one (noPartRoom (partIn file) t))
+        form-next 13 file (partOf file) (part-broken-inside file) others e ∙ sym (verdict-one (noPartRoom (partIn file) t))
         ∙ ap (λ (q : Part). test (noPartRoom q t)) (held-part file e)
 
     pub short-verdict : readPartRoomFor (partSizesOf p) t ≡ false → verdict (partTests file t) ≡ refuses (refusal 9 0)
@@ -76,7 +76,7 @@ module _ (file : List ℕ) (t : PartSizes) where
 
   -- where nothing is refused, the file holds a part
   pub fine-part : verdict (partTests file t) ≡ fine → (p : Part) × (partOf file ≡ holds p)
-  fine-part v = fine-holds file (partOf file) (part-broken-inside file) others v
+  fine-part v = fine-holds 13 file (partOf file) (part-broken-inside file) others v
 
 -- ---- the three tables: filled, or as they were
 

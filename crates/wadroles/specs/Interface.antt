@@ -9,8 +9,10 @@ use lib.Ieee.{Float}
 use Rattle.mesh.specs.Meshes.{Mesh, PairedMesh, OrderedMesh}
 use Rattle.mesh.specs.Operation.{answerOf}
 use Rattle.polygons.specs.Flat.{FlatLayer}
+use Rattle.cleaning.specs.declared.Profile.{Profile}
 use Rattle.check_mesh.specs.Check.{CheckTables, checking}
 use Rattle.cut.specs.Cut.{CutTables, cutting}
+use Rattle.clean.specs.Clean.{cleaning}
 use Rattle.contours.specs.Contours.{firstOf, spanOf}
 use Rattle.contours.specs.Areas.{measuring}
 use Rattle.sweep.specs.Sweep.{Sweep}
@@ -55,13 +57,17 @@ StepC s = Exports stepping (stepWords (s .passed)) s
 abbrev pub LayerC : Sweep → ℤ → CutTables → List ℕ → ℕ → List ℕ → CutTables → List ℕ → Type 0
 LayerC s h t out returned ring′ t′ = Exports layering layerWords (s, h, t) out returned (ring′, t′)
 
--- wadroles_all_layers: the length of the file
-abbrev pub AllLayersC : OrderedMesh → List ℤ → WorkTables → List ℕ → List ℕ → ℕ → WorkTables → List ℕ → List ℕ → Type 0
-AllLayersC m heights w output out returned w′ output′ = Exports filing oneWord (m, heights, w, output) out returned (w′, output′)
+-- wadroles_clean: the table given, and the two to be filled
+abbrev pub CleanC : FlatLayer → FlatLayer → List ℕ → ℕ → FlatLayer → List ℕ → Type 0
+CleanC t u = Exports cleaning cutWords (t, u)
 
--- wadroles_read_layer
-abbrev pub ReadLayerC : List ℕ → ℕ → FlatLayer → List ℕ → ℕ → FlatLayer → List ℕ → Type 0
-ReadLayerC file i t = Exports layerReading readLayerWords (file, i, t)
+-- wadroles_all_layers, wadroles_all_layers_clean: the length of the file
+abbrev pub AllLayersC : Profile → OrderedMesh → List ℤ → WorkTables → List ℕ → List ℕ → ℕ → WorkTables → List ℕ → List ℕ → Type 0
+AllLayersC p m heights w output out returned w′ output′ = Exports filing oneWord (p, m, heights, w, output) out returned (w′, output′)
+
+-- wadroles_read_layer, wadroles_read_layer_clean
+abbrev pub ReadLayerC : Profile → List ℕ → ℕ → FlatLayer → List ℕ → ℕ → FlatLayer → List ℕ → Type 0
+ReadLayerC p file i t = Exports layerReading readLayerWords (p, file, i, t)
 
 -- wadroles_read_part
 abbrev pub ReadPartC : List ℕ → Part → List ℕ → ℕ → Part → List ℕ → Type 0

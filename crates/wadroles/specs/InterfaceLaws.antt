@@ -26,12 +26,16 @@ use Rattle.sweep.specs.Operations.{starting, StepGives, passes, top, stepping, 
 use Rattle.all_heights.specs.Heights.{heightsTaken}
 use Rattle.all_sweep.specs.AllLayers.{WorkTables, climbed, sweptFile, usedAt, shortOutput, filing}
 use Rattle.polygons.specs.Flat.{FlatLayer}
+use Rattle.cleaning.specs.declared.Profile.{Profile}
+use Rattle.cleaning.specs.declared.Profile.the-variants.{Full, Clean}
+use Rattle.clean.specs.Clean.{cleaning}
 use Rattle.file_formats.specs.Formats.{Each}
 use Rattle.file_formats.specs.FormatLaws.{Bytes}
 use Rattle.file_formats.specs.LayerFile.{Layer}
 use Rattle.file_formats.specs.LayerRules.{LayerRules}
 use Rattle.file_formats.specs.RoundTripLaws.{layers-written}
 use Rattle.file_formats.specs.WholeFileLaws.{held-or-is}
+use Rattle.file_formats.specs.CleanFileLaws.{layers-full}
 use Rattle.file_formats.specs.PartFile.{Part}
 use Rattle.read_layer.specs.Reading.{layersIn, layerAt, Entries, entriesOf, readingTests, layerReading}
 use Rattle.read_layer.specs.ReadingLaws.{fine-there}
@@ -42,7 +46,7 @@ use Rattle.preview.specs.declared.PathCall.{PathCall}
 use Rattle.preview.specs.declared.PathCall.the-variants.{Move, Line, Close}
 use Rattle.preview.specs.Preview.{previewing, CallTables, previewRunning}
 use Rattle.out_words.specs.Words.{outAfter, stepWords, previewWords, xyAfter}
-use Rattle.wadroles.specs.Interface.{CheckC, CutC, ContourC, AreaC, StartC, StepC, LayerC, AllLayersC, ReadLayerC, ReadPartC}
+use Rattle.wadroles.specs.Interface.{CheckC, CutC, CleanC, ContourC, AreaC, StartC, StepC, LayerC, AllLayersC, ReadLayerC, ReadPartC}
 use Rattle.wadroles.specs.Interface.{PreviewC, PreviewRunC}
 
 -- a refusal has a number that is not 0
@@ -77,11 +81,18 @@ ruled-small [] i h e = absurd (omega arith)
 ruled-small (l ∷ ls) zero h e = omega (arith, e .0 .height-fits)
 ruled-small (l ∷ ls) (suc i) h e = ruled-small ls i (omega arith) (e .1)
 
-height-small : (file : List ℕ) (i : ℕ) (n : Entries) → Bytes file → verdict (readingTests file i n) ≡ fine → mag (layerAt (layersIn file) i .height) < 2 ^ 63
-height-small file i n b v =
-    let q = fine-there file i n v in
-    subst (λ (ls : List Layer). mag (layerAt ls i .height) < 2 ^ 63) (sym (held-or-is [] (q .1)))
-    (ruled-small (q .0) i (q .2) (layers-written file (q .0) b (q .1) .0 .each))
+height-small : (p : Profile) (file : List ℕ) (i : ℕ) (n : Entries) → Bytes file → verdict (readingTests p file i n) ≡ fine
+    → mag (layerAt (layersIn file) i .height) < 2 ^ 63
+height-small p file i n b v =
+    let q = fine-there file i n p v in
+    let held = layers-full p file (q .0) (q .1) in
+    subst (λ (ls : List Layer). mag (layerAt ls i .height) < 2 ^ 63) (sym (held-or-is [] held))
+    (ruled-small (q .0) i (q .2) (layers-written file (q .0) b held .0 .each))
+
+-- 13, in the clean profile 18, then 15 and 9
+reading-nonzero : (p : Profile) (file : List ℕ) (i : ℕ) (n : Entries) → Every Nonzero (readingTests p file i n)
+reading-nonzero Full file i n = three tt
+reading-nonzero Clean file i n = (has-one, three tt)
 
 module _ {a b c d n : ℕ} {out′ : List ℕ} where
   pub check-said : {m : Mesh} {t t′ : CheckTables} → CheckC m t (fourWords a b c d) n t′ out′ → saidBy (λ _. tt) n out′ ≡ answerOf (checking (m, t))
@@ -90,6 +101,10 @@ module _ {a b c d n : ℕ} {out′ : List ℕ} where
   pub cut-said : {m : PairedMesh} {h : ℤ} {t t′ : CutTables} → CutC m h t (fourWords a b c d) n t′ out′
       → saidBy (λ out. (getD out 0 0, getD out 1 0)) n out′ ≡ answerOf (cutting (m, h, t))
   cut-said = exports-said (λ out. (getD out 0 0, getD out 1 0)) (λ _. refl) (has-one, three (three tt))
+
+  pub clean-said : {t u u′ : FlatLayer} → CleanC t u (fourWords a b c d) n u′ out′
+      → saidBy (λ out. (getD out 0 0, getD out 1 0)) n out′ ≡ answerOf (cleaning (t, u))
+  clean-said = exports-said (λ out. (getD out 0 0, getD out 1 0)) (λ _. refl) (three tt)
 
   pub area-said : {points : List ℤ} → AreaC points (fourWords a b c d) n out′
       → saidBy (λ out. signedFromWord (getD out 0 0)) n out′ ≡ answerOf (measuring points)
@@ -109,19 +124,20 @@ module _ {a b c d n : ℕ} {out′ : List ℕ} where
       exports-said (λ out. (getD out 0 0, (getD out 1 0, getD out 2 0))) (λ _. refl)
       (has-one, (has-one, three (three (three tt))))
 
-  pub layers-said : {m : OrderedMesh} {heights : List ℤ} {w w′ : WorkTables} {output output′ : List ℕ}
-      → AllLayersC m heights w output (fourWords a b c d) n w′ output′ out′ → saidBy (λ out. getD out 0 0) n out′ ≡ answerOf (filing (m, heights, w, output))
-  layers-said {m} {heights} {w} {output = output} =
+  pub layers-said : {p : Profile} {m : OrderedMesh} {heights : List ℤ} {w w′ : WorkTables} {output output′ : List ℕ}
+      → AllLayersC p m heights w output (fourWords a b c d) n w′ output′ out′
+      → saidBy (λ out. getD out 0 0) n out′ ≡ answerOf (filing (p, m, heights, w, output))
+  layers-said {p} {m} {heights} {w} {output = output} =
       let hs = heightsTaken (m .paired .mesh .coords) heights in
       exports-said (λ out. getD out 0 0) (λ _. refl)
-      (three (three (three (used-nonzero (climbed m (w .ring) hs) (length output) (sweptFile m (w .ring) hs)))))
+      (three (three (three (used-nonzero (climbed m (w .ring) hs) (length output) (sweptFile p m (w .ring) hs)))))
 
-  pub read-said : {file : List ℕ} {i : ℕ} {t t′ : FlatLayer} → Bytes file → ReadLayerC file i t (fourWords a b c d) n t′ out′
-      → saidBy (λ out. (getD out 0 0, signedFromWord (getD out 1 0), getD out 2 0, getD out 3 0)) n out′ ≡ answerOf (layerReading (file, i, t))
-  read-said {file} {i} {t} bytes =
-      let g = layerReading (file, i, t) .values in
+  pub read-said : {p : Profile} {file : List ℕ} {i : ℕ} {t t′ : FlatLayer} → Bytes file → ReadLayerC p file i t (fourWords a b c d) n t′ out′
+      → saidBy (λ out. (getD out 0 0, signedFromWord (getD out 1 0), getD out 2 0, getD out 3 0)) n out′ ≡ answerOf (layerReading (p, file, i, t))
+  read-said {p} {file} {i} {t} bytes =
+      let g = layerReading (p, file, i, t) .values in
       exports-said (λ out. (getD out 0 0, signedFromWord (getD out 1 0), getD out 2 0, getD out 3 0))
-      (λ e j. (g .0, signed-back (g .1) (height-small file i (entriesOf t) bytes e) j, g .2, g .3)) (three tt)
+      (λ e j. (g .0, signed-back (g .1) (height-small p file i (entriesOf t) bytes e) j, g .2, g .3)) (reading-nonzero p file i (entriesOf t))
 
   pub part-said : {file : List ℕ} {t t′ : Part} → ReadPartC file t (fourWords a b c d) n t′ out′
       → saidBy (λ out. (getD out 0 0, getD out 1 0, getD out 2 0)) n out′ ≡ answerOf (partReading (file, t))

@@ -1,18 +1,21 @@
 // The C interface. Every function returns 0 or the refusal's number, and fills `out`: the place on refusal, the values on success.
 ghost use Rattle.mesh.specs.Meshes.{mesh, paired, ordered};
 ghost use Rattle.polygons.specs.Flat.{flat};
+ghost use Rattle.cleaning.specs.declared.Profile.the-variants.{Full, Clean};
 ghost use Rattle.check_mesh.specs.Check.{checkTables};
 ghost use Rattle.cut.specs.Cut.{lent};
 ghost use Rattle.sweep.specs.Sweep.{sweep};
 ghost use Rattle.all_sweep.specs.AllLayers.{work};
 ghost use Rattle.read_part.specs.Parts.{part};
-ghost use Rattle.wadroles.specs.Interface.{CheckC, CutC, ContourC, AreaC, StartC, StepC, LayerC, AllLayersC, ReadLayerC, ReadPartC};
+ghost use Rattle.wadroles.specs.Interface.{CheckC, CutC, CleanC, ContourC, AreaC, StartC, StepC, LayerC, AllLayersC, ReadLayerC, ReadPartC};
 ghost use Rattle.wadroles.specs.Interface.{PreviewC, PreviewRunC};
 ghost use Rattle.preview_floats.specs.DrawnPoints.{originAt};
 ghost use Rattle.preview.specs.Preview.{callTables};
+use cleaning::Profile;
 use out_words::tell_all_layers;
 use out_words::tell_area;
 use out_words::tell_check;
+use out_words::tell_clean;
 use out_words::tell_cut;
 use out_words::tell_layer;
 use out_words::tell_preview;
@@ -158,6 +161,22 @@ pub extern "C" fn wadroles_layer(
 }
 
 #[no_mangle]
+pub extern "C" fn wadroles_clean(
+    points: &[i32],
+    ends: &[u32],
+    cleanpoints: &mut [i32],
+    cleanends: &mut [u32],
+    out: &mut [u64; 4],
+) -> u32
+    ensures outcome { λ r. ⌜ CleanC (flat (points .entry .now) (ends .entry .now))
+        (flat (cleanpoints .entry .now) (cleanends .entry .now)) (out .entry .now) r
+        (flat (cleanpoints .exit .now) (cleanends .exit .now)) (out .exit .now) ⌝ }
+{
+    let a = clean::clean(points, ends, cleanpoints, cleanends);
+    tell_clean(a, out)
+}
+
+#[no_mangle]
 pub extern "C" fn wadroles_all_layers(
     coords: &[i32],
     corners: &[u32],
@@ -172,7 +191,7 @@ pub extern "C" fn wadroles_all_layers(
     output: &mut [u8],
     out: &mut [u64; 4],
 ) -> u32
-    ensures outcome { λ r. ⌜ AllLayersC
+    ensures outcome { λ r. ⌜ AllLayersC Full
         (ordered (coords .entry .now) (corners .entry .now) (pairing .entry .now) (order .entry .now))
         (heights .entry .now)
         (work (names .entry .now) (points .entry .now) (ends .entry .now) (marks .entry .now) (ring .entry .now))
@@ -181,6 +200,7 @@ pub extern "C" fn wadroles_all_layers(
         (output .exit .now) (out .exit .now) ⌝ }
 {
     let a = all_layers::all_layers(
+        Profile::Full,
         coords,
         corners,
         pairing,
@@ -197,6 +217,46 @@ pub extern "C" fn wadroles_all_layers(
 }
 
 #[no_mangle]
+pub extern "C" fn wadroles_all_layers_clean(
+    coords: &[i32],
+    corners: &[u32],
+    pairing: &[u32],
+    order: &[u32],
+    heights: &[i32],
+    names: &mut [u32],
+    points: &mut [i32],
+    ends: &mut [u32],
+    marks: &mut [u32],
+    ring: &mut [u32],
+    output: &mut [u8],
+    out: &mut [u64; 4],
+) -> u32
+    ensures outcome { λ r. ⌜ AllLayersC Clean
+        (ordered (coords .entry .now) (corners .entry .now) (pairing .entry .now) (order .entry .now))
+        (heights .entry .now)
+        (work (names .entry .now) (points .entry .now) (ends .entry .now) (marks .entry .now) (ring .entry .now))
+        (output .entry .now) (out .entry .now) r
+        (work (names .exit .now) (points .exit .now) (ends .exit .now) (marks .exit .now) (ring .exit .now))
+        (output .exit .now) (out .exit .now) ⌝ }
+{
+    let c = all_layers::all_layers(
+        Profile::Clean,
+        coords,
+        corners,
+        pairing,
+        order,
+        heights,
+        names,
+        points,
+        ends,
+        marks,
+        ring,
+        output,
+    );
+    tell_all_layers(c, out)
+}
+
+#[no_mangle]
 pub extern "C" fn wadroles_read_layer(
     file: &[u8],
     i: usize,
@@ -204,12 +264,28 @@ pub extern "C" fn wadroles_read_layer(
     ends: &mut [u32],
     out: &mut [u64; 4],
 ) -> u32
-    ensures outcome { λ r. ⌜ ReadLayerC (file .entry .now) i
+    ensures outcome { λ r. ⌜ ReadLayerC Full (file .entry .now) i
         (flat (points .entry .now) (ends .entry .now)) (out .entry .now) r
         (flat (points .exit .now) (ends .exit .now)) (out .exit .now) ⌝ }
 {
-    let a = read_layer::read_layer(file, i, points, ends);
+    let a = read_layer::read_layer(Profile::Full, file, i, points, ends);
     tell_read_layer(a, out)
+}
+
+#[no_mangle]
+pub extern "C" fn wadroles_read_layer_clean(
+    file: &[u8],
+    i: usize,
+    points: &mut [i32],
+    ends: &mut [u32],
+    out: &mut [u64; 4],
+) -> u32
+    ensures outcome { λ r. ⌜ ReadLayerC Clean (file .entry .now) i
+        (flat (points .entry .now) (ends .entry .now)) (out .entry .now) r
+        (flat (points .exit .now) (ends .exit .now)) (out .exit .now) ⌝ }
+{
+    let c = read_layer::read_layer(Profile::Clean, file, i, points, ends);
+    tell_read_layer(c, out)
 }
 
 #[no_mangle]

@@ -9,6 +9,7 @@ use Rattle.mesh.specs.Meshes.{Mesh, mesh, OrderedMesh, ordered}
 use Rattle.mesh.specs.Operation.{Answer, gives, refuses, answerOf, leftBy}
 use Rattle.mesh.specs.Refusals.{Told}
 use Rattle.polygons.specs.Flat.{flat}
+use Rattle.cleaning.specs.declared.Profile.{Profile}
 use Rattle.check_mesh.specs.Check.{CheckTables, checkTables, checking}
 use Rattle.section.specs.Contours.{Traced, contours, stuck, trace}
 use Rattle.cut_points.specs.Points.{pointAt}
@@ -29,12 +30,12 @@ pub data Input : Type 0 where
   cutAt : Mesh → ℤ → Input
   -- Area of a run of points
   areaOf : List ℤ → Input
-  -- All layers at these heights, with an output of so many bytes
-  filed : Mesh → List ℤ → ℕ → Input
+  -- All layers in a profile at these heights, with an output of so many bytes
+  filed : Profile → Mesh → List ℤ → ℕ → Input
   -- x of the point at a height on an edge (x0, y0, z0), (x1, y1, z1)
   edgeAt : List ℤ → ℤ → Input
-  -- Read layer 0 of these bytes
-  read : List ℕ → Input
+  -- Read layer 0 of these bytes in a profile
+  read : Profile → List ℕ → Input
 
 -- ---- what is answered
 
@@ -93,35 +94,35 @@ unfoldable pub passedAs : OrderedMesh → ℕ → Result
 passedAs m n = ringsOf (trace (passedAt (m .order) n) (m .paired .mesh .corners) (m .paired .pairing))
 
 -- the layer of j contours and k points in front of Cut's tables
-abbrev pub layerIn : CutTables → ℕ × ℕ → Result
-layerIn t (j, k) = layer (record { count = j; total = k; names = take k (t .names); points = take (2 * k) (t .points); ends = take j (t .ends) })
+abbrev pub frontLayer : CutTables → ℕ × ℕ → Result
+frontLayer t (j, k) = layer (record { count = j; total = k; names = take k (t .names); points = take (2 * k) (t .points); ends = take j (t .ends) })
 
 unfoldable pub cutAs : OrderedMesh → ℤ → Result
 cutAs m h =
     let o = cutting (m .paired, h, cutLent (m .paired .mesh .corners)) in
-    resultFrom (layerIn (leftBy o)) (answerOf o)
+    resultFrom (frontLayer (leftBy o)) (answerOf o)
 
 unfoldable pub areaAs : List ℤ → Result
 areaAs points = resultFrom number (answerOf (measuring points))
 
-unfoldable pub filedAs : OrderedMesh → List ℤ → ℕ → Result
-filedAs m heights output =
+unfoldable pub filedAs : Profile → OrderedMesh → List ℤ → ℕ → Result
+filedAs p m heights output =
     let n = length (m .paired .mesh .corners) in
     let t = cutLent (m .paired .mesh .corners) in
-    let o = filing (m, heights, work (t .names) (t .points) (t .ends) (t .marks) (replicate n 0), replicate output 0) in
+    let o = filing (p, m, heights, work (t .names) (t .points) (t .ends) (t .marks) (replicate n 0), replicate output 0) in
     resultFrom (λ n. bytes (take n (leftBy o .1))) (answerOf o)
 
 unfoldable pub edgeAs : List ℤ → ℤ → Result
 edgeAs edge h = number (pointAt (mesh edge (0 ∷ 1 ∷ 0 ∷ [])) h 0 0)
 
-unfoldable pub readFileAs : List ℕ → Result
-readFileAs file = resultFrom (λ v. number (pos (v .0))) (answerOf (layerReading (file, 0, flat [] [])))
+unfoldable pub readFileAs : Profile → List ℕ → Result
+readFileAs p file = resultFrom (λ v. number (pos (v .0))) (answerOf (layerReading (p, file, 0, flat [] [])))
 
 unfoldable pub resultOf : Input → Result
 resultOf (checked m) = checkedAs m
 resultOf (passed m n) = passedAs (withTables m) n
 resultOf (cutAt m h) = cutAs (withTables m) h
 resultOf (areaOf points) = areaAs points
-resultOf (filed m heights output) = filedAs (withTables m) heights output
+resultOf (filed p m heights output) = filedAs p (withTables m) heights output
 resultOf (edgeAt edge h) = edgeAs edge h
-resultOf (read file) = readFileAs file
+resultOf (read p file) = readFileAs p file

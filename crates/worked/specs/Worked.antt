@@ -1,4 +1,4 @@
--- The starred worked pieces (WORKED-4 to WORKED-14), all in one statement
+-- The starred worked pieces (WORKED-4 to WORKED-14, WORKED-18, WORKED-19), all in one statement
 -- (WORKED-1): what the definitions give for these inputs are these results.
 use mathlib.Core.Path.{_≡_, refl, ap, _∙_}
 use mathlib.Core.List.{List, [], _∷_, map, flatten}
@@ -12,6 +12,8 @@ use Rattle.mesh.specs.Order.{before, place, orderUpTo, orderOf}
 use Rattle.mesh.specs.Tests.{sizesFit, outOfRange, namesNone, namesTwice, reverse, pairedAt, orderedAt}
 use Rattle.check_pairing.specs.Partners.{repeatsEdge, doubledAt, openAt, partnerOf, pairingOf}
 use Rattle.check_mesh.specs.Check as check
+use Rattle.cleaning.specs.Cleaning.{samePoint, unrepeated, trimmed, neat, among, variety, kept, cleaned, samePoints, isClean}
+use Rattle.cleaning.specs.declared.Profile.the-variants.{Full, Clean}
 use Rattle.section.specs.Section.{below, rising, risingIn, successor, ringEntry}
 use Rattle.section.specs.Contours.{member, walk, traceAt, traceTo, trace, endsFrom}
 use Rattle.section.specs.Links.{hasLink, traceLinks}
@@ -23,7 +25,7 @@ use Rattle.sweep.specs.Sweep.{passedAt, freshRing, touches, relinked, stepRing,
 use Rattle.sweep.specs.Operations.{unlessRefused}
 use Rattle.file_formats.specs.Formats.{encodeAll, parseAll}
 use Rattle.file_formats.specs.Numbers.{groups, encodeNumber, parseNumber}
-use Rattle.file_formats.specs.LayerFile.{coordinateFormat, pointFormat, contourFormat, contourList, heightAbove, layerFormat, layerFile, layersOf}
+use Rattle.file_formats.specs.LayerFile.{coordinateFormat, pointFormat, contourFormat, contourListIn, heightAbove, layerFormatIn, layerFileIn, layersOfIn}
 use Rattle.file_formats.specs.WholeFiles.{brokenAt, heldOr}
 use Rattle.read_layer.specs.Reading.{readLayerRoomFor}
 use Rattle.all_heights.specs.Heights.{heightsTaken, notAboveLast}
@@ -41,7 +43,7 @@ P =
 abbrev pub opened : Mesh
 opened = mesh (P .coords) (0 ∷ 2 ∷ 1 ∷ 0 ∷ 1 ∷ 3 ∷ 0 ∷ 3 ∷ 2 ∷ [])
 
--- P's heights, its pairing (WORKED-4) and the bytes of its layer file (WORKED-10)
+-- P's heights, its pairing (WORKED-4) and the bytes of its layer file (WORKED-10), also in the clean profile (WORKED-18)
 abbrev pub heights : List ℤ
 heights = pos 0 ∷ pos 5 ∷ pos 10 ∷ pos 11 ∷ []
 
@@ -52,6 +54,9 @@ abbrev pub file : List ℕ
 file =
     0x04 ∷ 0x00 ∷ 0x00 ∷ 0x0A ∷ 0x01 ∷ 0x03 ∷ 0x0A ∷ 0x00 ∷ 0x09 ∷ 0x0A ∷ 0x00 ∷ 0x09
     ∷ 0x14 ∷ 0x01 ∷ 0x03 ∷ 0x00 ∷ 0x00 ∷ 0x00 ∷ 0x00 ∷ 0x00 ∷ 0x00 ∷ 0x16 ∷ 0x00 ∷ []
+
+abbrev pub cleanFile : List ℕ
+cleanFile = 0x04 ∷ 0x00 ∷ 0x00 ∷ 0x0A ∷ 0x01 ∷ 0x03 ∷ 0x0A ∷ 0x00 ∷ 0x09 ∷ 0x0A ∷ 0x00 ∷ 0x09 ∷ 0x14 ∷ 0x00 ∷ 0x16 ∷ 0x00 ∷ []
 
 -- the layers of P at 5 (WORKED-7) and at 10 (WORKED-8), and no contour (WORKED-9)
 abbrev pub atFive : LayerResult
@@ -87,11 +92,13 @@ inputs =
     ∷ cutAt P (pos 10)
     ∷ cutAt P (pos 0)
     ∷ cutAt P (pos 11)
-    ∷ filed P heights 23
+    ∷ filed Full P heights 23
     ∷ edgeAt (pos 0 ∷ pos 0 ∷ pos 0 ∷ pos 1 ∷ pos 0 ∷ pos 2 ∷ []) (pos 1)
     ∷ edgeAt (pos 0 ∷ pos 0 ∷ pos 0 ∷ negsuc 0 ∷ pos 0 ∷ pos 2 ∷ []) (pos 1)
     ∷ checked opened
-    ∷ read (0x80 ∷ 0x00 ∷ [])
+    ∷ read Full (0x80 ∷ 0x00 ∷ [])
+    ∷ filed Clean P heights 16
+    ∷ read Clean file
     ∷ []
 
 abbrev pub results : List Result
@@ -109,6 +116,8 @@ results =
     ∷ number (negsuc 0)
     ∷ refused 6 1
     ∷ refused 13 0
+    ∷ bytes cleanFile
+    ∷ refused 18 14
     ∷ []
 
 -- ---- P with its pairing and order
@@ -166,12 +175,21 @@ area-5 : areaAs (pos 5 ∷ pos 0 ∷ pos 0 ∷ pos 5 ∷ pos 0 ∷ pos 0 ∷ [])
 unfolding areaAs verdict _then_ test some least runFits outOfRange areas.areaOf sumOf crossOf nextPoint
 area-5 = refl
 
-file-P : filedAs ready heights 23 ≡ bytes file
+file-P : filedAs Full ready heights 23 ≡ bytes file
 unfolding filedAs verdict _then_ test some least overwrite tabulate sizesFit cutRoomFor workRoomFor outOfRange namesNone namesTwice reverse pairedAt orderedAt
     before place orderUpTo orderOf metAt notAboveLast heightsTaken unlessRefused sweptLayer climb freshRing mayRise risenTo risenRing stepRing relinked touches
     passedAt ringEntry hasLink traceLinks below rising risingIn successor member walk traceAt flatten traceTo pointAt exactOver exactUnder numerator denominator
-    rounded encodeAll groups encodeNumber coordinateFormat pointFormat contourFormat contourList heightAbove layerFormat layerFile
+    rounded encodeAll groups encodeNumber coordinateFormat pointFormat contourFormat contourListIn heightAbove layerFormatIn layerFileIn
 file-P = refl
+
+-- its layer at 10 stays, without the contour of three equal points
+clean-P : filedAs Clean ready heights 16 ≡ bytes cleanFile
+unfolding filedAs verdict _then_ test some least overwrite tabulate sizesFit cutRoomFor workRoomFor outOfRange namesNone namesTwice reverse pairedAt orderedAt
+    before place orderUpTo orderOf metAt notAboveLast heightsTaken unlessRefused sweptLayer climb freshRing mayRise risenTo risenRing stepRing relinked touches
+    passedAt ringEntry hasLink traceLinks below rising risingIn successor member walk traceAt flatten traceTo pointAt exactOver exactUnder numerator denominator
+    rounded cleaned kept neat unrepeated trimmed samePoint variety among encodeAll groups encodeNumber coordinateFormat pointFormat contourFormat contourListIn
+    heightAbove layerFormatIn layerFileIn
+clean-P = refl
 
 half : edgeAs (pos 0 ∷ pos 0 ∷ pos 0 ∷ pos 1 ∷ pos 0 ∷ pos 2 ∷ []) (pos 1) ≡ number (pos 1)
 unfolding edgeAs pointAt exactOver exactUnder numerator denominator rounded
@@ -181,11 +199,19 @@ minus-half : edgeAs (pos 0 ∷ pos 0 ∷ pos 0 ∷ negsuc 0 ∷ pos 0 ∷ pos 2 
 unfolding edgeAs pointAt exactOver exactUnder numerator denominator rounded
 minus-half = refl
 
-too-long : readFileAs (0x80 ∷ 0x00 ∷ []) ≡ refused 13 0
-unfolding readFileAs verdict _then_ test some least brokenAt heldOr readLayerRoomFor layersOf layerFile layerFormat heightAbove contourList contourFormat
+too-long : readFileAs Full (0x80 ∷ 0x00 ∷ []) ≡ refused 13 0
+unfolding readFileAs verdict _then_ test some least brokenAt heldOr readLayerRoomFor layersOfIn layerFileIn layerFormatIn heightAbove contourListIn
+    contourFormat
     pointFormat coordinateFormat parseNumber
     parseAll
 too-long = refl
+
+-- the contour of three equal points at height 10 (WORKED-19)
+unclean-P : readFileAs Clean file ≡ refused 18 14
+unfolding readFileAs verdict _then_ test some least brokenAt heldOr readLayerRoomFor layersOfIn layerFileIn layerFormatIn heightAbove contourListIn
+    contourFormat
+    pointFormat coordinateFormat parseNumber parseAll isClean samePoints kept neat unrepeated trimmed samePoint variety among
+unclean-P = refl
 
 -- ---- all of them
 
@@ -204,9 +230,11 @@ worked = λ i.
     ∷ from-ready (λ m. cutAs m (pos 10)) at-10 i
     ∷ from-ready (λ m. cutAs m (pos 0)) at-0 i
     ∷ from-ready (λ m. cutAs m (pos 11)) at-11 i
-    ∷ from-ready (λ m. filedAs m heights 23) file-P i
+    ∷ from-ready (λ m. filedAs Full m heights 23) file-P i
     ∷ half i
     ∷ minus-half i
     ∷ P-opened i
     ∷ too-long i
+    ∷ from-ready (λ m. filedAs Clean m heights 16) clean-P i
+    ∷ unclean-P i
     ∷ []

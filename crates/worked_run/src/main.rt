@@ -2,6 +2,7 @@
 use crate::unchecked::rise;
 use all_sweep::AllLayersAnswer;
 use check_mesh::CheckAnswer;
+use cleaning::Profile;
 use libc::STDOUT_FILENO;
 use list_lines::unchecked_lines::write_refusal;
 use mesh::Refusal;
@@ -44,6 +45,7 @@ fn file_heights(heights: &[i32]) {
     let mut ring = [0u32; 1];
     let mut output = [0u8; 16384];
     let a = all_layers::all_layers(
+        Profile::Full,
         &coords[..0],
         &corners[..0],
         &pairing[..0],

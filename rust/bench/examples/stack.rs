@@ -9,9 +9,9 @@ use oracle::{encode_layers, encode_part, FileLayer, Part};
 use std::hint::black_box;
 use std::ptr::read_volatile;
 use wadroles::{
-    all_layers, check, layer, preview, preview_run, read_layer, read_part, start, CallTables,
-    CheckTables, CutTables, FlatLayer, GivenLayer, OrderedMesh, Origin, PairedMesh, Sweep,
-    WorkTables,
+    all_layers, all_layers_clean, check, clean, layer, preview, preview_run, read_layer,
+    read_layer_clean, read_part, start, CallTables, CheckTables, CutTables, FlatLayer, GivenLayer,
+    OrderedMesh, Origin, PairedMesh, Sweep, WorkTables,
 };
 
 const HEIGHT: i32 = 7;
@@ -40,14 +40,14 @@ fn print_depth(name: &str, call: &mut dyn FnMut()) {
     let lowest = mark();
     call();
     let depth = overwritten(lowest);
-    println!("{name:12} {depth:>6}");
+    println!("{name:16} {depth:>6}");
 }
 
 fn main() {
     print_depth("nothing", &mut || {});
     print_mesh_depths(&torus(12, 16, 700, 300));
     print_file_depths(&torus(12, 16, 700, 300));
-    print_preview_depths();
+    print_given_depths();
 }
 
 /// Tables as long as so many corners need them.
@@ -112,6 +112,9 @@ fn print_mesh_depths(owned: &Mesh) {
     print_depth("all_layers", &mut || {
         all_layers(ordered, &heights, &mut work.lend(), &mut output).expect("it is closed");
     });
+    print_depth("all_layers_clean", &mut || {
+        all_layers_clean(ordered, &heights, &mut work.lend(), &mut output).expect("it is closed");
+    });
 }
 
 fn print_cut_depths(ordered: OrderedMesh, work: WorkTables) {
@@ -143,6 +146,9 @@ fn print_file_depths(mesh: &Mesh) {
     print_depth("read_layer", &mut || {
         read_layer(&file, 0, &mut layer).expect("the file is right");
     });
+    print_depth("read_layer_clean", &mut || {
+        read_layer_clean(&file, 0, &mut layer).expect("the file is clean");
+    });
     let mut part = Part {
         coords: mesh.coords.clone(),
         corners: mesh.corners.clone(),
@@ -159,7 +165,7 @@ fn print_file_depths(mesh: &Mesh) {
     });
 }
 
-fn print_preview_depths() {
+fn print_given_depths() {
     let layer = GivenLayer {
         points: &[0, 0, 700, 0, 0, 700, 5, 5, 9, 9],
         ends: &[3, 5],
@@ -174,5 +180,12 @@ fn print_preview_depths() {
     };
     print_depth("preview_run", &mut || {
         preview_run(layer, origin, 0, &mut tables).expect("the layer is right");
+    });
+    let mut cleaned = FlatLayer {
+        points: &mut [0; 10],
+        ends: &mut [0; 2],
+    };
+    print_depth("clean", &mut || {
+        clean(layer, &mut cleaned).expect("the layer is right");
     });
 }

@@ -118,6 +118,17 @@ pub fn torus_file(count: i32) -> Vec<u8> {
     swept.exact().output
 }
 
+/// The same of the largest double cone.
+pub fn cone_file(count: i32) -> Vec<u8> {
+    let swept = Swept::new(largest_cone(), count, unproved::all_layers);
+    swept.exact().output
+}
+
+/// Bytes enough for any file of so many points.
+pub fn room(mesh: &Mesh, heights: &[i32]) -> usize {
+    LAYER_BYTES * (heights.len() + 1) + POINT_BYTES * point_count(mesh, heights)
+}
+
 /// A mesh with its pairing and order, the heights of each call, and the tables lent to all layers.
 struct Swept {
     unproved: AllLayers,
@@ -133,7 +144,7 @@ impl Swept {
     /// points; the size is that of the mesh.
     fn new(mesh: Mesh, count: i32, unproved: AllLayers) -> Self {
         let heights = heights(&mesh, count);
-        let output = LAYER_BYTES * (heights.len() + 1) + POINT_BYTES * point_count(&mesh, &heights);
+        let output = room(&mesh, &heights);
         Swept {
             unproved,
             size: mesh.triangle_count(),

@@ -9,11 +9,10 @@ const CONE_POINTS: usize = 32_766;
 
 /// Meshes of 16,384, 32,768 and 65,536 triangles, or nearly so.
 pub fn kinds<S: 'static>(subject: fn(Mesh) -> S) -> Vec<Kind<S>> {
-    let cones = [8_192, 16_383, 32_766].map(double_cone);
     let mut kinds = torus_kinds(subject);
     kinds.extend([
-        Kind::new("double cone", cones.clone(), subject),
-        Kind::new("double cone, shuffled", cones.map(shuffled), subject),
+        Kind::new("double cone", cones(), subject),
+        Kind::new("double cone, shuffled", cones().map(shuffled), subject),
     ]);
     kinds
 }
@@ -28,6 +27,10 @@ pub fn torus_kinds<S: 'static>(subject: fn(Mesh) -> S) -> Vec<Kind<S>> {
 
 pub fn tori() -> [Mesh; 3] {
     [64, 128, 256].map(|q| torus(128, q, 700_000, 300_000))
+}
+
+pub fn cones() -> [Mesh; 3] {
+    [8_192, 16_383, 32_766].map(double_cone)
 }
 
 /// A torus of 65,536 triangles.

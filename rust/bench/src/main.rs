@@ -4,21 +4,24 @@
 //! lent tables are refilled before each call, outside the time measured. Neither version is built
 //! into its caller.
 //!
-//! Arguments choose among `check`, `cut`, `area`, `layer`, `all_layers`, `read_layer`, `read_part` and
-//! `preview`; without any, all are timed. For `tools/instructions`, which counts what a call takes,
-//! `inputs` lists operations and inputs, and `once OPERATION INPUT VERSION` makes a single call.
+//! Arguments choose among `check`, `cut`, `area`, `layer`, `all_layers`, `read_layer`, `read_part`,
+//! `preview`, `clean`, `all_layers_clean` and `read_layer_clean`; without any, all are timed. The last
+//! two time the clean profile against the full one. For `tools/instructions`, which counts what a call
+//! takes, `inputs` lists operations and inputs, and `once OPERATION INPUT VERSION` makes a single call.
 
 #![forbid(unsafe_code)]
 
 mod all_layers;
 mod area;
 mod check;
+mod clean;
 mod comparison;
 mod cut;
 mod inputs;
 mod layer;
 mod owned;
 mod preview;
+mod profiles;
 mod read_layer;
 mod read_part;
 mod unproved;
@@ -29,7 +32,7 @@ use versions::VERSIONS;
 
 type Benches = fn() -> Vec<Box<dyn Bench>>;
 
-const OPERATIONS: [(&str, Benches); 8] = [
+const OPERATIONS: [(&str, Benches); 11] = [
     ("check", check::benches),
     ("cut", cut::benches),
     ("area", area::benches),
@@ -38,6 +41,9 @@ const OPERATIONS: [(&str, Benches); 8] = [
     ("read_layer", read_layer::benches),
     ("read_part", read_part::benches),
     ("preview", preview::benches),
+    ("clean", clean::benches),
+    ("all_layers_clean", profiles::all_layers),
+    ("read_layer_clean", profiles::read_layer),
 ];
 
 fn main() {

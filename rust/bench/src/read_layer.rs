@@ -6,16 +6,20 @@ use crate::versions::{Subject, Version};
 use meshes::{Random, MAX_COORDINATE};
 use oracle::{encode_layers, FileLayer};
 use std::hint::black_box;
-use wadroles::{FlatLayer, Reading, MAX_POINTS};
+use wadroles::{FlatLayer, Reading, Refusal, MAX_POINTS};
+
+/// A version of Read layer.
+pub type Read = fn(&[u8], usize, &mut FlatLayer) -> Result<Reading, Refusal>;
 
 /// Read layer.
 pub fn benches() -> Vec<Box<dyn Bench>> {
+    let versions: [Read; 2] = [wadroles::read_layer, unproved::read_layer];
     let kinds = vec![
-        Kind::new("sections of a torus", [300, 600, 1200], |count| {
-            LayerFile::new(torus_file(count), count)
+        Kind::new("sections of a torus", [300, 600, 1200], move |count| {
+            LayerFile::new(torus_file(count), count, versions)
         }),
-        Kind::new("random points", [100, 200, 400], |count| {
-            LayerFile::new(encode_layers(&random_layers(count)), count)
+        Kind::new("random points", [100, 200, 400], move |count| {
+            LayerFile::new(encode_layers(&random_layers(count)), count, versions)
         }),
     ];
     let heading = "read layer, a middle one and the last";
@@ -23,7 +27,9 @@ pub fn benches() -> Vec<Box<dyn Bench>> {
 }
 
 /// A layer file, with the tables lent to Read layer.
-struct LayerFile {
+pub struct LayerFile {
+    /// The library's version, and the one that it is compared with.
+    versions: [Read; 2],
     file: Vec<u8>,
     layers: [usize; 2],
     points: Vec<i32>,
@@ -31,9 +37,10 @@ struct LayerFile {
 }
 
 impl LayerFile {
-    fn new(file: Vec<u8>, layer_count: i32) -> Self {
+    pub fn new(file: Vec<u8>, layer_count: i32, versions: [Read; 2]) -> Self {
         let count = layer_count as usize;
         LayerFile {
+            versions,
             file,
             layers: [count / 2, count - 1],
             points: vec![JUNK as i32; 2 * MAX_POINTS],
@@ -60,9 +67,10 @@ impl Subject for LayerFile {
     }
 
     fn call(&mut self, version: Version, call: usize) -> Reading {
+        let [library, unproved] = self.versions;
         let read_layer = black_box(match version {
-            Version::Library => wadroles::read_layer,
-            Version::Unproved => unproved::read_layer,
+            Version::Library => library,
+            Version::Unproved => unproved,
         });
         let mut layer = FlatLayer {
             points: &mut self.points,

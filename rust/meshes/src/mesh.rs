@@ -97,6 +97,15 @@ impl Mesh {
         }
     }
 
+    /// So many times smaller in x and y, rounded to zero; heights stay.
+    pub fn smaller(mut self, times: i32) -> Self {
+        for point in self.coords.chunks_exact_mut(3) {
+            point[0] /= times;
+            point[1] /= times;
+        }
+        self
+    }
+
     /// Names one vertex wherever another was named, which stays behind unused.
     pub fn weld(&mut self, kept: u32, dropped: u32) {
         for vertex in &mut self.corners {
@@ -179,6 +188,14 @@ mod tests {
         assert_eq!(joined.triangle_count(), 8);
         assert_eq!(joined.triangles().nth(4), Some([4, 6, 5]));
         assert_eq!(joined.point(5), [20, 0, 0]);
+    }
+
+    #[test]
+    fn a_smaller_mesh_is_as_high() {
+        let mut mesh = tetrahedron(10);
+        mesh.move_by([-3, 1, 0]);
+        let points: Vec<[i32; 3]> = (0..4).map(|v| mesh.clone().smaller(4).point(v)).collect();
+        assert_eq!(points, [[0, 0, 0], [1, 0, 0], [0, 2, 0], [0, 0, 10]]);
     }
 
     #[test]

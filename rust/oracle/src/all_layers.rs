@@ -1,5 +1,6 @@
-//! The operation "All layers" of the specification.
+//! The operations "All layers" and "All layers clean" of the specification.
 
+use crate::clean::clean_layer;
 use crate::cut::Tables;
 use crate::layer_file::{encode_layers, FileLayer};
 use crate::mesh::refuse_sizes;
@@ -19,9 +20,34 @@ const NEXT_HEIGHT: usize = 100;
 pub fn all_layers(
     sweep: Sweep,
     heights: &[i32],
+    tables: Tables<'_>,
+    ring: &mut [u32],
+    output: &mut [u8],
+) -> Result<usize, Refusal> {
+    let as_cut = |height| file_layer(sweep, height);
+    write_file(sweep, heights, tables, ring, output, as_cut)
+}
+
+/// The operation "All layers clean" of the specification: the length of the file.
+pub fn all_layers_clean(
+    sweep: Sweep,
+    heights: &[i32],
+    tables: Tables<'_>,
+    ring: &mut [u32],
+    output: &mut [u8],
+) -> Result<usize, Refusal> {
+    let cleaned = |height| file_layer(sweep, height).map(|layer| clean_layer(&layer));
+    write_file(sweep, heights, tables, ring, output, cleaned)
+}
+
+/// Writes the file of these layers.
+fn write_file(
+    sweep: Sweep,
+    heights: &[i32],
     mut tables: Tables<'_>,
     ring: &mut [u32],
     output: &mut [u8],
+    layer: impl Fn(i32) -> Result<FileLayer, Refusal>,
 ) -> Result<usize, Refusal> {
     let corners = sweep.corners.len();
     refuse_sizes(sweep.coords, sweep.corners)?;
@@ -36,8 +62,7 @@ pub fn all_layers(
 
     tables.clear(corners);
     ring[..corners].fill(0);
-    let layers: Result<Vec<FileLayer>, Refusal> =
-        heights.iter().map(|&h| file_layer(sweep, h)).collect();
+    let layers: Result<Vec<FileLayer>, Refusal> = heights.iter().map(|&h| layer(h)).collect();
     let file = encode_layers(&layers?);
     refuse_if(14, output.len() < file.len())?;
     output[..file.len()].copy_from_slice(&file);

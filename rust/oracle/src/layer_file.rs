@@ -1,8 +1,10 @@
 //! The layer file of the specification.
 
+use crate::clean::is_clean;
+use crate::cut::Layer;
 use crate::mesh::COORDINATES;
 use crate::numbers::{encode_plain, encode_signed, Values};
-use crate::refusal::{refuse_if, Refusal};
+use crate::refusal::{refuse_at, refuse_if, Refusal};
 
 const MOST_LAYERS: i128 = 4_096;
 const FEWEST_POINTS: i128 = 2;
@@ -37,31 +39,74 @@ pub fn read_layer(
     points: &mut [i32],
     ends: &mut [u32],
 ) -> Result<LayerRead, Refusal> {
-    let layers = decode_layers(file)?;
+    take_out(&decode_layers(file)?, i, points, ends)
+}
+
+/// The operation "Read layer clean" of the specification.
+pub fn read_layer_clean(
+    file: &[u8],
+    i: usize,
+    points: &mut [i32],
+    ends: &mut [u32],
+) -> Result<LayerRead, Refusal> {
+    let (layers, places) = decode_placed(file)?;
+    let contours = layers.iter().flat_map(|layer| &layer.contours);
+    for (contour, place) in contours.zip(places) {
+        refuse_at(18, place, !is_clean(contour))?;
+    }
+    take_out(&layers, i, points, ends)
+}
+
+/// Takes one of the layers out, or refusal 15 or 9.
+fn take_out(
+    layers: &[FileLayer],
+    i: usize,
+    points: &mut [i32],
+    ends: &mut [u32],
+) -> Result<LayerRead, Refusal> {
     refuse_if(15, i >= layers.len())?;
     let FileLayer { height, contours } = &layers[i];
-    let numbers: Vec<i32> = contours.iter().flatten().flatten().copied().collect();
-    refuse_if(9, points.len() < numbers.len())?;
+    let count: usize = contours.iter().map(Vec::len).sum();
+    refuse_if(9, points.len() < 2 * count)?;
     refuse_if(9, ends.len() < contours.len())?;
+    let counts = write_contours(contours, points, ends);
+    Ok(LayerRead {
+        layers: layers.len(),
+        height: *height,
+        contours: counts.contours,
+        points: counts.points,
+    })
+}
 
+/// Fills the first entries of tables that are long enough.
+pub(crate) fn write_contours(
+    contours: &[Vec<[i32; 2]>],
+    points: &mut [i32],
+    ends: &mut [u32],
+) -> Layer {
+    let numbers: Vec<i32> = contours.iter().flatten().flatten().copied().collect();
     points[..numbers.len()].copy_from_slice(&numbers);
     let mut up_to_its_end = 0;
     for (end, contour) in ends.iter_mut().zip(contours) {
         up_to_its_end += contour.len();
         *end = up_to_its_end as u32;
     }
-    Ok(LayerRead {
-        layers: layers.len(),
-        height: *height,
+    Layer {
         contours: contours.len(),
-        points: numbers.len() / 2,
-    })
+        points: up_to_its_end,
+    }
 }
 
 /// The layers of a file, or refusal 13.
 pub fn decode_layers(file: &[u8]) -> Result<Vec<FileLayer>, Refusal> {
+    decode_placed(file).map(|(layers, _places)| layers)
+}
+
+/// The layers of a file with the places of the point counts, one for each contour, or refusal 13.
+fn decode_placed(file: &[u8]) -> Result<(Vec<FileLayer>, Vec<usize>), Refusal> {
     let mut values = Values::of(file);
     let mut layers: Vec<FileLayer> = Vec::new();
+    let mut places = Vec::new();
     let count = values.plain()?;
     count.must(count.number <= MOST_LAYERS)?;
     for _ in 0..count.number {
@@ -71,14 +116,17 @@ pub fn decode_layers(file: &[u8]) -> Result<Vec<FileLayer>, Refusal> {
         }
         layers.push(FileLayer {
             height: height.number as i32,
-            contours: decode_contours(&mut values)?,
+            contours: decode_contours(&mut values, &mut places)?,
         });
     }
     values.end()?;
-    Ok(layers)
+    Ok((layers, places))
 }
 
-fn decode_contours(values: &mut Values) -> Result<Vec<Vec<[i32; 2]>>, Refusal> {
+fn decode_contours(
+    values: &mut Values,
+    places: &mut Vec<usize>,
+) -> Result<Vec<Vec<[i32; 2]>>, Refusal> {
     let mut contours = Vec::new();
     let mut in_all = 0;
     let count = values.plain()?;
@@ -87,6 +135,7 @@ fn decode_contours(values: &mut Values) -> Result<Vec<Vec<[i32; 2]>>, Refusal> {
         points.must(points.number >= FEWEST_POINTS)?;
         in_all += points.number;
         points.must(in_all <= MOST_POINTS)?;
+        places.push(points.place);
         contours.push(decode_points(values, points.number)?);
     }
     Ok(contours)

@@ -9,8 +9,10 @@
 mod all_layers;
 mod area;
 mod check;
+mod clean;
 mod contour;
 mod cut;
+mod given;
 mod layer_file;
 mod listing;
 mod mesh;
@@ -21,12 +23,15 @@ mod refusal;
 mod section;
 mod sweep;
 
-pub use all_layers::all_layers;
+pub use all_layers::{all_layers, all_layers_clean};
 pub use area::area;
 pub use check::check;
+pub use clean::{clean, clean_layer, is_clean};
 pub use contour::contour;
 pub use cut::{cut, Layer, Tables};
-pub use layer_file::{decode_layers, encode_layers, read_layer, FileLayer, LayerRead};
+pub use layer_file::{
+    decode_layers, encode_layers, read_layer, read_layer_clean, FileLayer, LayerRead,
+};
 pub use listing::listing;
 pub use numbers::{encode_plain, encode_signed};
 pub use part_file::{decode_part, encode_part, read_part, Part, PartRead};

@@ -11,7 +11,7 @@ const MOST_BYTES: usize = 5;
 #[derive(Clone, Copy)]
 pub(crate) struct Value {
     pub number: i128,
-    place: usize,
+    pub place: usize,
 }
 
 impl Value {

@@ -1,8 +1,6 @@
-use crate::mesh::{refuse_out_of_range, COORDINATES};
-use crate::refusal::{refuse_if, Refusal};
-
-const FEWEST_POINTS: usize = 2;
-const MOST_POINTS: usize = 98_304;
+use crate::given::given_contours;
+use crate::mesh::COORDINATES;
+use crate::refusal::Refusal;
 
 /// A call of a screen, with the bits of its floats.
 #[derive(Clone, Copy, Debug, PartialEq, Eq)]
@@ -62,8 +60,7 @@ fn calls(points: &[i32], ends: &[u32], origin: [u32; 2]) -> Result<Vec<PathCall>
             place: 0,
         });
     };
-    let contours = contours(points, ends)?;
-    refuse_out_of_range(points)?;
+    let contours = given_contours(points, ends)?;
 
     let mut calls = Vec::new();
     for contour in contours {
@@ -75,26 +72,6 @@ fn calls(points: &[i32], ends: &[u32], origin: [u32; 2]) -> Result<Vec<PathCall>
         calls.push(PathCall::Close);
     }
     Ok(calls)
-}
-
-/// The contours of the tables, or refusal 1.
-fn contours(points: &[i32], ends: &[u32]) -> Result<Vec<Vec<[i32; 2]>>, Refusal> {
-    refuse_if(1, !points.len().is_multiple_of(2))?;
-    refuse_if(1, points.len() / 2 > MOST_POINTS)?;
-    let mut left: Vec<[i32; 2]> = points.chunks_exact(2).map(|p| [p[0], p[1]]).collect();
-    let mut contours = Vec::new();
-    // From the last contour to the first, so that each is what is left above the end before it.
-    for (j, &end) in ends.iter().enumerate().rev() {
-        refuse_if(1, end as usize != left.len())?;
-        let previous_end = if j == 0 { 0 } else { ends[j - 1] as usize };
-        refuse_if(1, left.len() < previous_end)?;
-        let contour = left.split_off(previous_end);
-        refuse_if(1, contour.len() < FEWEST_POINTS)?;
-        contours.push(contour);
-    }
-    refuse_if(1, !left.is_empty())?;
-    contours.reverse();
-    Ok(contours)
 }
 
 /// The number that a float of 32 bits is, if it is whole and in the range of an origin.

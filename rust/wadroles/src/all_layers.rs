@@ -1,5 +1,6 @@
 use crate::answer::answer;
-use crate::raw::wadroles_all_layers;
+use crate::profile::Profile;
+use crate::raw::{wadroles_all_layers, wadroles_all_layers_clean};
 use crate::{OrderedMesh, PairedMesh, Refusal, WorkTables};
 
 /// Sweeps a mesh over all heights, writes the layer file of what that gives, and returns the length
@@ -68,13 +69,82 @@ pub fn all_layers(
     work: &mut WorkTables<'_>,
     output: &mut [u8],
 ) -> Result<usize, Refusal> {
+    file_in(Profile::Full, ordered, heights, work, output)
+}
+
+/// Sweeps a mesh over all heights, writes the layer file of what that gives in the clean profile, and
+/// returns the length of the file.
+///
+/// The file holds, byte by byte, what [`clean`](crate::clean()) leaves of the layers that
+/// [`cut`](crate::cut()) gives at each height. A layer whose contours are all dropped stays in the
+/// file, with no contour. [`read_layer`](crate::read_layer()) and
+/// [`read_layer_clean`](crate::read_layer_clean()) read them back. Output past the file stays.
+///
+/// Heights, the default, and the length that a file may have are as in [`all_layers`]; no clean file
+/// is longer than the full one.
+///
+/// # Errors
+///
+/// The reasons, their sequence and their places are those of [`all_layers`], where 14 is for the
+/// length of the clean file.
+///
+/// After success, 16 and 14 the work tables are zero in the entries asked for under 9; after the
+/// others they stay. After a refusal all of the output stays.
+///
+/// # Example
+///
+/// ```
+/// use wadroles::{all_layers_clean, CutTables, Mesh, OrderedMesh, PairedMesh, Refusal, WorkTables};
+///
+/// let mesh = Mesh {
+///     coords: &[0, 0, 0, 10, 0, 0, 0, 10, 0, 0, 0, 10],
+///     corners: &[0, 2, 1, 0, 1, 3, 0, 3, 2, 1, 2, 3],
+/// };
+/// let paired = PairedMesh { mesh, pairing: &[8, 9, 3, 2, 11, 6, 5, 10, 0, 1, 7, 4] };
+/// let ordered = OrderedMesh { paired, order: &[0, 1, 2, 3] };
+/// let cut = CutTables {
+///     names: &mut [0; 12],
+///     points: &mut [0; 24],
+///     ends: &mut [0; 12],
+///     marks: &mut [0; 12],
+/// };
+/// let mut work = WorkTables { cut, ring: &mut [0; 12] };
+/// let mut output = [0xFF; 17];
+///
+/// // At height 10 the plane touches the apex: three equal points, and so no contour.
+/// let length = all_layers_clean(ordered, &[0, 5, 10, 11], &mut work, &mut output)?;
+/// assert_eq!(length, 16);
+/// assert_eq!(output[3..12], [0x0A, 0x01, 0x03, 0x0A, 0x00, 0x09, 0x0A, 0x00, 0x09]);
+/// assert_eq!(output[12..], [0x14, 0x00, 0x16, 0x00, 0xFF]);
+/// # Ok::<(), Refusal>(())
+/// ```
+pub fn all_layers_clean(
+    ordered: OrderedMesh<'_>,
+    heights: &[i32],
+    work: &mut WorkTables<'_>,
+    output: &mut [u8],
+) -> Result<usize, Refusal> {
+    file_in(Profile::Clean, ordered, heights, work, output)
+}
+
+fn file_in(
+    profile: Profile,
+    ordered: OrderedMesh<'_>,
+    heights: &[i32],
+    work: &mut WorkTables<'_>,
+    output: &mut [u8],
+) -> Result<usize, Refusal> {
+    let write_file = match profile {
+        Profile::Full => wadroles_all_layers,
+        Profile::Clean => wadroles_all_layers_clean,
+    };
     let OrderedMesh { paired, order } = ordered;
     let PairedMesh { mesh, pairing } = paired;
     let WorkTables { cut, ring } = work;
     // SAFETY: the pointers and lengths are those of slices, the six written ones are borrowed
-    // exclusively, and `out` points to four words.
+    // exclusively, and `out` points to four words. Both functions ask no more.
     answer(|out| unsafe {
-        wadroles_all_layers(
+        write_file(
             mesh.coords.as_ptr(),
             mesh.coords.len(),
             mesh.corners.as_ptr(),

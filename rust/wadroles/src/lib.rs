@@ -14,7 +14,9 @@
 //! vertex, and [`layer()`] rises to a height and gives the layer there. [`all_layers()`] sweeps a mesh
 //! over many heights and writes their layer file. [`read_layer()`] takes a layer out of a layer
 //! file, and [`read_part()`] a mesh and heights out of a part file. [`preview()`] and
-//! [`preview_run()`] give the calls with which a screen draws a layer.
+//! [`preview_run()`] give the calls with which a screen draws a layer. [`clean()`] drops what is
+//! needless in a layer; [`all_layers_clean()`] writes the file of cleaned layers, and
+//! [`read_layer_clean()`] reads only such files.
 //!
 //! # Example
 //!
@@ -111,11 +113,13 @@ mod all_layers;
 mod answer;
 mod area;
 mod check;
+mod clean;
 mod contour;
 mod cut;
 mod layer;
 mod mesh;
 mod preview;
+mod profile;
 pub mod raw;
 mod read_layer;
 mod read_part;
@@ -125,15 +129,16 @@ mod step;
 mod sweep;
 mod tables;
 
-pub use all_layers::all_layers;
+pub use all_layers::{all_layers, all_layers_clean};
 pub use area::area;
 pub use check::{check, CheckTables};
+pub use clean::clean;
 pub use contour::contour;
 pub use cut::cut;
 pub use layer::layer;
 pub use mesh::{Mesh, OrderedMesh, PairedMesh};
 pub use preview::{preview, preview_run, CallTables, GivenLayer, Origin, PathCall};
-pub use read_layer::{read_layer, FlatLayer, Reading};
+pub use read_layer::{read_layer, read_layer_clean, FlatLayer, Reading};
 pub use read_part::{read_part, Part, PartCounts};
 pub use refusal::Refusal;
 pub use start::start;
@@ -151,10 +156,11 @@ pub const MAX_TRIANGLES: usize = 65_536;
 pub const MAX_COORDINATE: i32 = 1_048_576;
 
 /// The most points that [`area()`] takes, and that a layer may have: one of a layer file and one that
-/// [`preview()`] takes.
+/// [`preview()`] and [`clean()`] take.
 pub const MAX_POINTS: usize = 98_304;
 
-/// The most layers that a layer file may have, and the most heights that [`all_layers()`] takes.
+/// The most layers that a layer file may have, and the most heights that [`all_layers()`] and
+/// [`all_layers_clean()`] take.
 pub const MAX_LAYERS: usize = 4_096;
 
 /// The ring entry of a corner that is no crossing.

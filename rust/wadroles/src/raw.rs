@@ -247,4 +247,71 @@ extern "C" {
         xy_len: usize,
         out: *mut u64,
     ) -> u32;
+
+    /// Cleans a layer, as [`crate::clean()`] does. Success writes the counts of contours and of points
+    /// that are left.
+    ///
+    /// # Safety
+    ///
+    /// As [above](self#safety).
+    pub fn wadroles_clean(
+        points: *const i32,
+        points_len: usize,
+        ends: *const u32,
+        ends_len: usize,
+        clean_points: *mut i32,
+        clean_points_len: usize,
+        clean_ends: *mut u32,
+        clean_ends_len: usize,
+        out: *mut u64,
+    ) -> u32;
+
+    /// Writes the layer file of a mesh in the clean profile, as [`crate::all_layers_clean()`] does.
+    /// Success writes its length.
+    ///
+    /// # Safety
+    ///
+    /// As [above](self#safety).
+    pub fn wadroles_all_layers_clean(
+        coords: *const i32,
+        coords_len: usize,
+        corners: *const u32,
+        corners_len: usize,
+        pairing: *const u32,
+        pairing_len: usize,
+        order: *const u32,
+        order_len: usize,
+        heights: *const i32,
+        heights_len: usize,
+        names: *mut u32,
+        names_len: usize,
+        points: *mut i32,
+        points_len: usize,
+        ends: *mut u32,
+        ends_len: usize,
+        marks: *mut u32,
+        marks_len: usize,
+        ring: *mut u32,
+        ring_len: usize,
+        output: *mut u8,
+        output_len: usize,
+        out: *mut u64,
+    ) -> u32;
+
+    /// Reads a layer of a layer file in the clean profile, as [`crate::read_layer_clean()`] does.
+    /// Success writes what that of [`wadroles_read_layer`] writes.
+    ///
+    /// # Safety
+    ///
+    /// As [above](self#safety).
+    pub fn wadroles_read_layer_clean(
+        file: *const u8,
+        file_len: usize,
+        i: usize,
+        points: *mut i32,
+        points_len: usize,
+        ends: *mut u32,
+        ends_len: usize,
+        out: *mut u64,
+    ) -> u32;
 }

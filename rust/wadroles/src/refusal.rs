@@ -8,10 +8,11 @@ use std::fmt;
 ///
 /// - after [`DOUBLED`](Refusal::DOUBLED) and [`OPEN`](Refusal::OPEN), [`check`](crate::check()) has
 ///   zeroed the entries of pairing and order that success would fill;
-/// - after [`OUTPUT`](Refusal::OUTPUT), [`all_layers`](crate::all_layers()) has zeroed its work
-///   tables as far as it asks for them;
+/// - after [`OUTPUT`](Refusal::OUTPUT), [`all_layers`](crate::all_layers()) and
+///   [`all_layers_clean`](crate::all_layers_clean()) have zeroed their work tables as far as they
+///   ask for them;
 /// - after [`USED`](Refusal::USED), which never arises, the tables of the layer would be zero as far
-///   as they are asked for, and so would the work tables of [`all_layers`](crate::all_layers()).
+///   as they are asked for, and so would the work tables of these two.
 ///
 /// # Example
 ///
@@ -35,9 +36,10 @@ pub struct Refusal {
 
 impl Refusal {
     /// A table length not a multiple of three (of two for points), or a count above its limit:
-    /// vertices, triangles, points of [`area`](crate::area()) and [`preview`](crate::preview()), or
-    /// heights of [`all_layers`](crate::all_layers()), default ones counted. Or the ends of
-    /// [`preview`](crate::preview()) do not rise by two or more up to the number of points. Place 0.
+    /// vertices, triangles, points of [`area`](crate::area()) and of a layer that is handed in, or
+    /// heights of [`all_layers`](crate::all_layers()), default ones counted. Or the ends of a layer
+    /// that is handed in, to [`preview`](crate::preview()) or [`clean`](crate::clean()), do not rise by
+    /// two or more up to the number of points. Place 0.
     pub const SIZE: u32 = 1;
     /// A coordinate out of range. The place is its position in the table.
     pub const RANGE: u32 = 2;
@@ -79,6 +81,9 @@ impl Refusal {
     pub const USED: u32 = 16;
     /// An origin that is not whole or out of range. Place 0.
     pub const ORIGIN: u32 = 17;
+    /// A contour of a file that is not clean: [`clean`](crate::clean()) would alter it or drop it. The
+    /// place is the first byte of its point count.
+    pub const UNCLEAN: u32 = 18;
 
     /// The reason in the words of the specification.
     fn words(&self) -> &'static str {
@@ -111,6 +116,7 @@ impl Refusal {
             Self::LAYER => "no layer of that number",
             Self::USED => "a walk meeting a crossing already used that is not its start",
             Self::ORIGIN => "an origin that is not whole or out of range",
+            Self::UNCLEAN => "a contour of a file that is not clean",
             _ => "a reason that the specification does not number",
         }
     }
@@ -145,8 +151,8 @@ mod tests {
     #[test]
     fn each_number_has_words_of_its_own() {
         let words = |number| Refusal { number, place: 0 }.words();
-        let distinct: HashSet<_> = (0..=17).map(words).collect();
-        assert_eq!(distinct.len(), 18);
-        assert_eq!(words(0), words(18));
+        let distinct: HashSet<_> = (0..=18).map(words).collect();
+        assert_eq!(distinct.len(), 19);
+        assert_eq!(words(0), words(19));
     }
 }

@@ -39,7 +39,8 @@ pub struct CutTables<'a> {
     pub marks: &'a mut [u32],
 }
 
-/// The tables that [`all_layers`](crate::all_layers()) works in, zero afterwards.
+/// The tables that [`all_layers`](crate::all_layers()) and
+/// [`all_layers_clean`](crate::all_layers_clean()) work in, zero afterwards.
 #[derive(Debug)]
 pub struct WorkTables<'a> {
     /// Those of a layer.

@@ -25,8 +25,8 @@ startOf at-fine = at-fine .before .before .before .before .before .before .befor
 tested : (at-fine : tie.After-enum-told) → FileTested (meshOf (startOf at-fine)) (now (startOf at-fine .args .heights)) (workOf (startOf at-fine))
 tested at-fine =
     let start = startOf at-fine in
-    files-tested (meshOf start) (now (start .args .heights)) (workOf start) (now (start .args .output)) (at-fine .before .before .layers-test .ensures)
-    (ap tellVerdict (at-fine .enum-told .given .1))
+    files-tested (start .args .profile) (meshOf start) (now (start .args .heights)) (workOf start) (now (start .args .output))
+    (at-fine .before .before .layers-test .ensures) (ap tellVerdict (at-fine .enum-told .given .1))
 
 layers-test-requires : tie.Need-layers-test-requires
 layers-test-requires c κs = search needs
@@ -38,7 +38,7 @@ returns : tie.Need-returns
 returns c =
     let at-test = c .before .before .before in
     let start = at-test .before .before .before .before .before .before .before .before .before in
-    files-refused (meshOf start) (now (start .args .heights)) (workOf start) (now (start .args .output)) (at-test .layers-test .ensures)
+    files-refused (start .args .profile) (meshOf start) (now (start .args .heights)) (workOf start) (now (start .args .output)) (at-test .layers-test .ensures)
     (ap tellVerdict (c .before .v .given .1))
 
 enum-told : tie.Need-enum-told
@@ -89,8 +89,8 @@ returns-2 c =
     let at-fine = at-put .before .before .before .before .before .before .before .before .before in
     let start = startOf at-fine in
     let passed = ap tellVerdict (at-fine .enum-told .given .1) in
-    files-put (meshOf start) (now (start .args .heights)) (workOf start) (now (start .args .output)) (at-fine .before .before .layers-test .ensures) passed
-    (at-put .put-file .ensures .0) (at-put .put-file .ensures .1) (at-clear .clear-work .ensures)
+    files-put (start .args .profile) (meshOf start) (now (start .args .heights)) (workOf start) (now (start .args .output))
+    (at-fine .before .before .layers-test .ensures) passed (at-put .put-file .ensures .0) (at-put .put-file .ensures .1) (at-clear .clear-work .ensures)
 
 pub all-layers-spec : {M : Type 1} → statement M
 all-layers-spec =

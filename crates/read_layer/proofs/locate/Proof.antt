@@ -1,7 +1,11 @@
 -- `locate` meets its contract.
-use mathlib.Core.Path.{_≡_, sym, _∙_, subst}
+use mathlib.Core.Path.{_≡_, sym, ap, _∙_, subst}
 use mathlib.Core.List.{List}
 use Prim.Native.Nat.{ℕ}
+use Rattle.mesh.specs.Operation.{refuses}
+use Rattle.mesh.specs.Refusals.{toldOf}
+use Rattle.mesh.specs.declared.Refusal.{Refusal}
+use Rattle.cleaning.specs.declared.Profile.{Profile}
 use Rattle.file_formats.specs.Formats.{Parse}
 use Rattle.file_formats.specs.LayerFile.{Layer, mostLayers, lowest}
 use Rattle.file_formats.specs.Positions.{numberAt}
@@ -10,7 +14,7 @@ use Rattle.file_formats.specs.declared.Number.the-variants.{Value}
 use Rattle.read_layer.specs.ReadingLaws.{verdict-broken, verdict-absent}
 use Rattle.read_layer.specs.Places.{lastLayers, Searched}
 use Rattle.read_layer.specs.declared.FindLayerAnswer.{FindLayerAnswer}
-use Rattle.read_layer.proofs.Answering.{no-count, searched-broken, searched-missing, searched-found, LayerFound, refused-short, ready}
+use Rattle.read_layer.proofs.Answering.{no-count, searched-broken, searched-missing, searched-found, LayerFound, refused-broken, refused-short, ready}
 use borrow.Author.Needs.{needs}
 use Rattle.read_layer.proofs.locate.Statement.{statement}
 use Rattle.read_layer.proofs.locate.Tie as tie
@@ -27,13 +31,16 @@ enum-told c = search needs
 returns : tie.Need-returns
 returns c =
     let at-number = c .before .before in
-    let i = at-number .before .before .args .i in
-    verdict-broken _ i _ (no-count _ (sym (at-number .read-number .ensures) ∙ c .enum-told .given .1))
+    let a = at-number .before .before .args in
+    verdict-broken _ (a .i) _ (a .profile) (no-count _ (sym (at-number .read-number .ensures) ∙ c .enum-told .given .1))
 
 -- the layer count, and where the layers start
 module _ (c : tie.After-known-told) where
   abbrev entry : tie.Start
   entry = c .before .before .before .before .before
+
+  abbrev profile : Profile
+  profile = entry .args .profile
 
   abbrev file : List ℕ
   file = entry .args .file .now
@@ -49,7 +56,7 @@ module _ (c : tie.After-known-told) where
 
   -- the layers
   abbrev layers : Parse (List Layer)
-  layers = lastLayers number lowest file start
+  layers = lastLayers profile number lowest file start
 
 find-layer-requires : tie.Need-find-layer-requires
 find-layer-requires c κs = took (count c) .inside
@@ -64,8 +71,8 @@ module _ (c : tie.After-known-told2) where
   abbrev at-count : tie.After-known-told
   at-count = c .before .before .before .before
 
-  layer-held : LayerFound (file at-count) (count at-count) (entry at-count .args .i) (c .before .s .given .0 .0)
-  layer-held = searched-found _ (count at-count) _ (sought (c .before .before .before) (c .before .s .given .1))
+  layer-held : LayerFound (profile at-count) (file at-count) (count at-count) (entry at-count .args .i) (c .before .s .given .0 .0)
+  layer-held = searched-found (profile at-count) _ (count at-count) _ (sought (c .before .before .before) (c .before .s .given .1))
 
 enum-known-s : tie.Need-enum-known-s
 enum-known-s c = search needs
@@ -76,7 +83,7 @@ read-layer-room-for-requires c κs = search needs
 returns-2 : tie.Need-returns-2
 returns-2 c =
     let found = c .before .before in
-    ready _ (layer-held found) (sym (c .before .read-layer-room-for .ensures) ∙ c .if1 .taken)
+    ready (profile (at-count found)) _ (layer-held found) (sym (c .before .read-layer-room-for .ensures) ∙ c .if1 .taken)
 
 enum-told-2 : tie.Need-enum-told-2
 enum-told-2 c = search needs
@@ -84,21 +91,29 @@ enum-told-2 c = search needs
 enum-known-s-2 : tie.Need-enum-known-s-2
 enum-known-s-2 c = search needs
 
+refusal-at-requires : tie.Need-refusal-at-requires
+refusal-at-requires c κs = took (count (c .before .before .before .before)) .inside
+
 returns-3 : tie.Need-returns-3
 returns-3 c =
     let found = c .before .before in
-    refused-short _ (layer-held found) (sym (c .before .read-layer-room-for .ensures) ∙ c .if1 .left)
+    refused-short (profile (at-count found)) _ (layer-held found) (sym (c .before .read-layer-room-for .ensures) ∙ c .if1 .left)
 
 returns-4 : tie.Need-returns-4
 returns-4 c =
-    let q = searched-missing _ (count (c .before .before .before)) _ (sought (c .before .before) (c .enum-told2 .given .1)) in
-    verdict-absent _ _ _ (q .1) (q .2)
+    let at-search = c .before .before in
+    let at-number = at-search .before in
+    let q = searched-missing (profile at-number) _ (count at-number) _ (sought at-search (c .enum-told2 .given .1)) in
+    verdict-absent _ _ _ (profile at-number) (q .1) (q .2)
 
 returns-5 : tie.Need-returns-5
 returns-5 c =
-    let at-search = c .before .before .before in
-    let i = entry (at-search .before) .args .i in
-    verdict-broken _ i _ (searched-broken _ (count (at-search .before)) i (sought at-search (c .before .s2 .given .1)))
+    let at-s = c .before .before in
+    let at-search = at-s .before .before in
+    let at-number = at-search .before in
+    let i = entry at-number .args .i in
+    let h = searched-broken (profile at-number) _ (count at-number) i (sought at-search (at-s .s2 .given .1)) in
+    refused-broken (profile at-number) _ (count at-number) i _ h ∙ ap (λ (r : Refusal). refuses (toldOf r)) (sym (c .refusal-at .ensures))
 
 pub locate-spec : {M : Type 1} → statement M
 locate-spec =
@@ -114,6 +129,7 @@ locate-spec =
     returns-2
     enum-told-2
     enum-known-s-2
+    refusal-at-requires
     returns-3
     returns-4
     returns-5)

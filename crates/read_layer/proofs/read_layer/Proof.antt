@@ -8,6 +8,7 @@ use mir.Syntax.{w32, w64}
 use mir.Val.{toZ, ofZ}
 use Rattle.laws.specs.Machine.{same}
 use Rattle.polygons.specs.Flat.{FlatLayer, flat}
+use Rattle.cleaning.specs.declared.Profile.{Profile}
 use Rattle.read_layer.specs.Places.{Located, Ready}
 use Rattle.read_layer.specs.Reading.{entriesOf}
 use Rattle.read_layer.specs.declared.Location.{Location}
@@ -27,6 +28,9 @@ enum-known-a-2 c = search needs
 
 -- what the tests say
 module _ (c : tie.After-locate) where
+  abbrev profile : Profile
+  profile = c .before .before .before .args .profile
+
   abbrev file : List ℕ
   file = c .before .before .before .args .file .now
 
@@ -36,15 +40,16 @@ module _ (c : tie.After-locate) where
   abbrev tables : FlatLayer
   tables = flat (c .before .before .before .args .points .now) (c .before .before .before .args .ends .now)
 
-  told : {a : Location} → c .locate .result ≡ a → Located file index (entriesOf tables) a
-  told e = subst (Located file index (entriesOf tables)) e (c .locate .ensures)
+  told : {a : Location} → c .locate .result ≡ a → Located profile file index (entriesOf tables) a
+  told e = subst (Located profile file index (entriesOf tables)) e (c .locate .ensures)
 
 -- the layer that they found
 module _ (c : tie.After-known-told2) where
   abbrev at-locate : tie.After-locate
   at-locate = c .before .before .before
 
-  ready : Ready (file at-locate) (index at-locate) (entriesOf (tables at-locate)) (c .before .a2 .given .0 .0) (c .before .a2 .given .0 .1 .0)
+  ready : Ready (profile at-locate) (file at-locate) (index at-locate) (entriesOf (tables at-locate)) (c .before .a2 .given .0 .0)
+      (c .before .a2 .given .0 .1 .0)
   ready = told at-locate (c .before .a2 .given .1)
 
   -- its height as a number of 64 bits and of 32 bits
@@ -60,8 +65,8 @@ module _ (c : tie.After-known-told2) where
 fill-layer-requires : tie.Need-fill-layer-requires
 fill-layer-requires c κs = fill-ready (ready (c .before .before))
 
-cast-t22 : tie.Need-cast-t22
-cast-t22 c =
+cast-t23 : tie.Need-cast-t23
+cast-t23 c =
     let at-told2 = c .before .before .before .before .before .before .before .before in
     let found = at-told2 in
     rw (wide found) (record { sfits = height-fits (ready found) })
@@ -90,7 +95,7 @@ read-layer-spec =
     enum-known-a
     enum-known-a-2
     fill-layer-requires
-    cast-t22
+    cast-t23
     returns
     same-length
     same-length-2

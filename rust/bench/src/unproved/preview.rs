@@ -1,7 +1,7 @@
 //! Preview by the ends alone: the contour of a call is found by halves, and a run goes on from there.
 
-use super::tables::{refuse, test_range};
-use wadroles::{CallTables, GivenLayer, Origin, PathCall, Refusal, MAX_COORDINATE, MAX_POINTS};
+use super::tables::{refuse, test_layer};
+use wadroles::{CallTables, GivenLayer, Origin, PathCall, Refusal, MAX_COORDINATE};
 
 /// Does what `wadroles::preview` does.
 pub fn preview(
@@ -89,25 +89,10 @@ fn start(ends: &[u32], contour: usize) -> usize {
 }
 
 fn test(layer: GivenLayer<'_>, origin: Origin) -> Result<(), Refusal> {
-    let GivenLayer { points, ends } = layer;
     if !is_whole(origin.x) || !is_whole(origin.y) {
         return refuse(Refusal::ORIGIN, 0);
     }
-    if !points.len().is_multiple_of(2) || points.len() / 2 > MAX_POINTS {
-        return refuse(Refusal::SIZE, 0);
-    }
-    let mut before = 0;
-    for &end in ends {
-        let end = end as usize;
-        if end < before + 2 {
-            return refuse(Refusal::SIZE, 0);
-        }
-        before = end;
-    }
-    if before != points.len() / 2 {
-        return refuse(Refusal::SIZE, 0);
-    }
-    test_range(points)
+    test_layer(layer)
 }
 
 /// Whether a float is a whole number in the range of coordinates. −0.0 is one, and adds as 0.0 does.

@@ -1,7 +1,8 @@
 //! The tests that several operations make of their tables.
 
 use wadroles::{
-    CutTables, Mesh, OrderedMesh, PairedMesh, Refusal, MAX_COORDINATE, MAX_TRIANGLES, MAX_VERTICES,
+    CutTables, GivenLayer, Mesh, OrderedMesh, PairedMesh, Refusal, MAX_COORDINATE, MAX_POINTS,
+    MAX_TRIANGLES, MAX_VERTICES,
 };
 
 pub fn refuse<T>(number: u32, place: usize) -> Result<T, Refusal> {
@@ -57,6 +58,26 @@ pub fn test_range(numbers: &[i32]) -> Result<(), Refusal> {
         return refuse_first(Refusal::RANGE, numbers, is_far);
     }
     Ok(())
+}
+
+/// Refusals 1 and 2 of a layer that is handed in.
+pub fn test_layer(layer: GivenLayer<'_>) -> Result<(), Refusal> {
+    let GivenLayer { points, ends } = layer;
+    if !points.len().is_multiple_of(2) || points.len() / 2 > MAX_POINTS {
+        return refuse(Refusal::SIZE, 0);
+    }
+    let mut before = 0;
+    for &end in ends {
+        let end = end as usize;
+        if end < before + 2 {
+            return refuse(Refusal::SIZE, 0);
+        }
+        before = end;
+    }
+    if before != points.len() / 2 {
+        return refuse(Refusal::SIZE, 0);
+    }
+    test_range(points)
 }
 
 pub fn test_values(mesh: Mesh<'_>) -> Result<(), Refusal> {

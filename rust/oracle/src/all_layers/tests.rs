@@ -11,6 +11,9 @@ const FILE_P: [u8; 23] = [
     0x00, 0x00, 0x00, 0x00, 0x00, 0x16, 0x00,
 ];
 
+/// All layers in one of the profiles.
+type AllLayers = fn(Sweep, &[i32], Tables, &mut [u32], &mut [u8]) -> Result<usize, Refusal>;
+
 /// What All layers reads, and how long its tables are.
 #[derive(Clone)]
 struct Case {
@@ -51,6 +54,10 @@ impl Case {
     }
 
     fn run(&self) -> Outcome {
+        self.run_by(all_layers)
+    }
+
+    fn run_by(&self, all_layers: AllLayers) -> Outcome {
         let junk = |length| vec![u32::from(JUNK); length];
         let (mut names, mut ends) = (junk(self.work), junk(self.work));
         let (mut marks, mut ring) = (junk(self.work), junk(self.ring));
@@ -203,4 +210,52 @@ fn without_vertices_the_file_has_no_layer() {
         work: Work::AsBefore,
     };
     assert_eq!(case.run(), expected);
+}
+
+/// The layer file of part P in the clean profile: at height 10 its three points are one.
+const CLEAN_FILE_P: [u8; 16] = [
+    0x04, 0x00, 0x00, 0x0A, 0x01, 0x03, 0x0A, 0x00, 0x09, 0x0A, 0x00, 0x09, 0x14, 0x00, 0x16, 0x00,
+];
+
+#[test]
+fn a_layer_that_loses_its_contours_stays_in_the_clean_file() {
+    let part_p = Case::part_p();
+    let expected = Outcome {
+        answer: Ok(16),
+        output: [&CLEAN_FILE_P[..], &[JUNK; 9]].concat(),
+        work: Work::Zero,
+    };
+    assert_eq!(part_p.run_by(all_layers_clean), expected);
+    for output in 0..16 {
+        let short = Case {
+            output,
+            ..part_p.clone()
+        };
+        let expected = Outcome {
+            answer: Err((14, 0)),
+            output: vec![JUNK; output],
+            work: Work::Zero,
+        };
+        assert_eq!(short.run_by(all_layers_clean), expected);
+    }
+}
+
+#[test]
+fn both_profiles_refuse_alike() {
+    let changes: [fn(&mut Case); 7] = [
+        |case| case.heights = (0..4_097).collect(),
+        |case| case.ring = 11,
+        |case| case.mesh.coords[5] = 1_048_577,
+        |case| case.mesh.corners[8] = 0,
+        |case| case.pairing[11] = 11,
+        |case| case.order.swap(1, 2),
+        |case| case.heights[3] = 10,
+    ];
+    for change in changes {
+        let mut case = Case::part_p();
+        change(&mut case);
+        let full = case.run();
+        assert!(full.answer.is_err());
+        assert_eq!(case.run_by(all_layers_clean), full);
+    }
 }

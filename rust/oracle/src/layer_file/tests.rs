@@ -179,3 +179,69 @@ fn layers_are_read_back() {
         assert_eq!(decode_layers(&file), Ok(layers), "round {round}");
     }
 }
+
+/// The answer of the clean reading, into tables that are long enough.
+fn read_clean(layers: &[FileLayer], i: usize) -> Result<LayerRead, Refusal> {
+    let (mut points, mut ends) = ([JUNK; 40], [JUNK as u32; 10]);
+    read_layer_clean(&encode_layers(layers), i, &mut points, &mut ends)
+}
+
+const TRIANGLE: [[i32; 2]; 3] = [[5, 0], [0, 5], [0, 0]];
+
+#[test]
+fn clean_files_are_read_as_the_full_reading_reads_them() {
+    let layers = [
+        layer(0, &[]),
+        layer(5, &[&TRIANGLE, &[[1, 1], [2, 1], [1, 1], [1, 2]]]),
+    ];
+    let file = encode_layers(&layers);
+    for i in 0..2 {
+        let (mut points, mut ends) = (vec![JUNK; 15], vec![JUNK as u32; 3]);
+        let answer = read_layer_clean(&file, i, &mut points, &mut ends);
+        assert_eq!((answer, points, ends), read(&file, i, [15, 3]));
+    }
+}
+
+#[test]
+fn the_first_unclean_contour_of_any_layer_is_refused() {
+    let unclean: [&[[i32; 2]]; 4] = [
+        &[[5, 0], [5, 0], [0, 5], [0, 0]],
+        &[[5, 0], [0, 5], [0, 0], [5, 0]],
+        &[[5, 0], [0, 5], [5, 0], [0, 5]],
+        &[[5, 0]; 2],
+    ];
+    for contour in unclean {
+        let layers = [
+            layer(0, &[&TRIANGLE]),
+            layer(1, &[&TRIANGLE, contour, contour]),
+            layer(2, &[contour]),
+        ];
+        for i in [0, 1, 2, 3, usize::MAX] {
+            // A layer has two bytes before its contours, a triangle seven.
+            let refusal = Err(Refusal {
+                number: 18,
+                place: 1 + 9 + 2 + 7,
+            });
+            assert_eq!(read_clean(&layers, i), refusal);
+        }
+        let last = [layer(0, &[]), layer(1, &[&TRIANGLE, contour])];
+        let place = read_clean(&last, 0).unwrap_err().place;
+        assert_eq!(place, 1 + 2 + 2 + 7);
+    }
+}
+
+#[test]
+fn a_broken_file_is_refused_before_an_unclean_contour() {
+    let mut file = encode_layers(&[layer(0, &[&[[5, 0]; 2]])]);
+    let place = |file: &[u8]| {
+        let refusal = read_layer_clean(file, 9, &mut [], &mut []).unwrap_err();
+        (refusal.number, refusal.place)
+    };
+    assert_eq!(place(&file), (18, 3));
+    file.push(0);
+    assert_eq!(place(&file), (13, file.len() as u64 - 1));
+    assert_eq!(place(&[0]), (15, 0));
+    let triangle = encode_layers(&[layer(0, &[&TRIANGLE])]);
+    let refusal = read_layer_clean(&triangle, 0, &mut [0; 5], &mut [0; 1]);
+    assert_eq!(refusal.map_err(|refusal| refusal.number), Err(9));
+}

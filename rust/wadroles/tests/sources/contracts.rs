@@ -9,8 +9,9 @@
 use crate::tree;
 
 /// The crates whose top module has the operations, and the public functions that are there at least.
-const OPERATIONS: [(&str, &[&str]); 11] = [
+const OPERATIONS: [(&str, &[&str]); 12] = [
     ("check_mesh", &["check"]),
+    ("clean", &["clean"]),
     ("contours", &["area", "contour"]),
     ("cut", &["cut"]),
     ("all_layers", &["all_layers"]),
@@ -35,6 +36,9 @@ const OPERATIONS: [(&str, &[&str]); 11] = [
             "wadroles_read_part",
             "wadroles_preview",
             "wadroles_preview_run",
+            "wadroles_clean",
+            "wadroles_all_layers_clean",
+            "wadroles_read_layer_clean",
         ],
     ),
 ];

@@ -3,7 +3,7 @@
 use crate::tree;
 use std::collections::{BTreeMap, BTreeSet};
 
-const CUTTING: [&str; 14] = [
+const CUTTING: [&str; 18] = [
     "section",
     "cut_trace",
     "cut_points",
@@ -11,6 +11,10 @@ const CUTTING: [&str; 14] = [
     "contours",
     "preview_floats",
     "preview",
+    "cleaning",
+    "clean_contour",
+    "clean_layers",
+    "clean",
     "sweep",
     "sweep_layer",
     "all_active",

@@ -25,6 +25,7 @@ fn the_header_numbers_the_refusals_alike() {
         ("LAYER", Refusal::LAYER),
         ("USED", Refusal::USED),
         ("ORIGIN", Refusal::ORIGIN),
+        ("UNCLEAN", Refusal::UNCLEAN),
     ] {
         let line = format!("WADROLES_{name} = {number}");
         assert!(HEADER.contains(&line), "no {line:?} in the header");
@@ -69,7 +70,10 @@ fn the_header_declares_the_same_functions() {
             "wadroles_read_layer",
             "wadroles_read_part",
             "wadroles_preview",
-            "wadroles_preview_run"
+            "wadroles_preview_run",
+            "wadroles_clean",
+            "wadroles_all_layers_clean",
+            "wadroles_read_layer_clean"
         ]
     );
 }

@@ -6,11 +6,13 @@
 //! another number of rounds.
 
 mod all_layers;
+mod all_layers_clean;
 mod archive;
 mod area;
 mod c_functions;
 mod chains;
 mod check;
+mod clean;
 mod contour;
 mod cut;
 mod examples;
@@ -21,6 +23,7 @@ mod mesh_operations;
 mod operations;
 mod preview;
 mod read_layer;
+mod read_layer_clean;
 mod read_part;
 mod sweep;
 mod version;

@@ -32,7 +32,8 @@ is-short-requires c κs =
     let start = at-begin .before .before .before .before .before .before .before .before .before .before .before .before in
     let t = tested-held (toZ-ofZ w32 (start .args .low) (start .fits .low)) (start .pre .0) in
     let begun = at-begin .begin .ensures in
-    (tested-more t (works-begun (begun .1 .0)), (begun .0, file-bound _ (t .right) (t .listed) (begun .1 .1) (at-longest .longest .ensures)))
+    let bound = file-bound (start .args .profile) _ (t .right) (t .listed) (begun .1 .1) (at-longest .longest .ensures) in
+    (tested-more t (works-begun (begun .1 .0)), (begun .0, bound))
 
 same-length : tie.Need-same-length
 same-length c = search needs
@@ -104,7 +105,7 @@ same-length-12 c =
     let at-test = at-write .before .before .before .before .before .before .before .before in
     let at-short = at-test .before .before .before .before .before .before .before .before .before .before .before .before in
     let at-begin = at-short .before .before .before .before .before .before .before .before .before .before .before .before .before .before in
-    at-short .is-short .kept .1 .1 .1 .1 .1 .1 .1 .1 .1 .1 .1 .0 ∙ at-begin .begin .kept .1 .1 .1 .1 .1 .1 .1 .0
+    at-short .is-short .kept .1 .1 .1 .1 .1 .1 .1 .1 .1 .1 .1 .1 .0 ∙ at-begin .begin .kept .1 .1 .1 .1 .1 .1 .1 .0
 
 same-length-13 : tie.Need-same-length-13
 same-length-13 c = search needs

@@ -17,14 +17,16 @@ use Rattle.all_sweep.proofs.unchecked_sweep.layers_length.Statement.{st
 use Rattle.all_sweep.proofs.unchecked_sweep.layers_length.Tie as tie
 
 abbrev Inv-loop : tie.InvT-loop
-Inv-loop coords corners pairing low heights count names₀ points₀ ends₀ marks₀ ring₀ heads total₀ active₀ k₀ names points ends marks ring total active k =
+Inv-loop profile coords corners pairing low heights count names₀ points₀ ends₀ marks₀ ring₀ heads total₀ active₀ k₀
+    names points ends marks ring total active k =
     let taken = takenHeights (toZ w32 low) heights count in
-    LayersMeasured (paired coords corners pairing) taken k total
+    LayersMeasured profile (paired coords corners pairing) taken k total
     × (Works (length corners) (work names₀ points₀ ends₀ marks₀ ring₀) (work names points ends marks ring)
     × Sweeping (mesh coords corners) taken k (cornerLists ring heads marks active))
 
 abbrev μ-loop : tie.MeasureT-loop
-μ-loop coords corners pairing low heights count names₀ points₀ ends₀ marks₀ ring₀ heads total₀ active₀ k₀ names points ends marks ring total active k =
+μ-loop profile coords corners pairing low heights count names₀ points₀ ends₀ marks₀ ring₀ heads total₀ active₀ k₀
+    names points ends marks ring total active k =
     count - k
 
 -- what the tests establish, with the lowest z as the loop has it
@@ -41,7 +43,7 @@ number-length-requires c κs = tt
 loop-holds : tie.Need-loop-holds Inv-loop μ-loop
 loop-holds c =
     let start = c .before .before .before .before .before .before .before .before in (
-      measured-start _ (tested start .listed) (c .number-length .ensures),
+      measured-start _ _ (tested start .listed) (c .number-length .ensures),
       (works-none, sweeping-held (toZ-ofZ w32 (start .args .low) (start .fits .low)) (start .pre .1)),
     )
 
@@ -70,7 +72,7 @@ add-total c =
     let at-test = at-next .before .before .before .before .before .before in
     let ready = tested (at-test .before .before .before .before .before .before .before .before .before .before) in
     record {
-      fits = measured-fits _ (ready .listed) (ready .right) (at-test .before .loop .inv .0) (at-test .loop-test .taken) (at-height .taken-height .ok)
+      fits = measured-fits _ _ (ready .listed) (ready .right) (at-test .before .loop .inv .0) (at-test .loop-test .taken) (at-height .taken-height .ok)
           (at-height .taken-height .ensures) (at-next .next-layer .ensures .0) (c .layer-length .ensures);
     }
 
@@ -95,7 +97,7 @@ loop-again c =
     let inv = at-test .before .loop .inv in
     let ready = tested (at-test .before .before .before .before .before .before .before .before .before .before) in
     let done = at-next .next-layer .ensures in (
-      measured-next _ (ready .listed) (ready .right) (inv .0) (at-test .loop-test .taken) (at-height .taken-height .ok) (at-height .taken-height .ensures)
+      measured-next _ _ (ready .listed) (ready .right) (inv .0) (at-test .loop-test .taken) (at-height .taken-height .ok) (at-height .taken-height .ensures)
           (done .0) (c .layer-length .ensures),
       (works-more (inv .1 .0) (done .1 .0), done .1 .1),
     )
@@ -119,7 +121,7 @@ returns : tie.Need-returns Inv-loop μ-loop
 returns c =
     let inv = c .before .loop .inv in
     let start = c .before .before .before .before .before .before .before .before .before .before in
-    (measured-end _ (tested start .listed) (inv .0) (c .loop-test .left), inv .1 .0)
+    (measured-end _ _ (tested start .listed) (inv .0) (c .loop-test .left), inv .1 .0)
 
 pub layers-length-spec : {M : Type 1} → statement M
 layers-length-spec =

@@ -1,4 +1,5 @@
--- `unchecked_sweep::next_layer` meets its contract: the height is read once, and every later place has it.
+-- `unchecked_sweep::next_layer` meets its contract: the height is read once, and every later place has it; the layer that was cut is brought into the
+-- profile.
 use mathlib.Core.Path.{refl}
 use denote.Ref.{now}
 use mir.Syntax.{w32}
@@ -9,7 +10,7 @@ use Rattle.all_sweep.specs.Works.{takenHeights}
 use Rattle.all_sweep.specs.Sweeps.{cornerLists}
 use Rattle.all_sweep.specs.SweepLaws.{AtHeight, advancing, outlinable}
 use Rattle.all_sweep.specs.PassLaws.{held, held-word}
-use Rattle.all_sweep.specs.StepLaws.{height-held, points-asked, points-climb, level-holds, level-works, level-sweeps}
+use Rattle.all_sweep.specs.StepLaws.{height-held, points-asked, points-climb, level-tables, level-brought, level-holds, level-works, level-sweeps}
 use borrow.Author.Needs.{needs}
 use Rattle.all_sweep.proofs.unchecked_sweep.next_layer.Statement.{statement}
 use Rattle.all_sweep.proofs.unchecked_sweep.next_layer.Tie as tie
@@ -73,6 +74,14 @@ put-points-requires c κs =
       points-climb (level at-height) (now (start .args .points)) (start .pre .1 .0) contours,
     )
 
+bring-into-requires : tie.Need-bring-into-requires
+bring-into-requires c κs =
+    let at-points = c .before .before .before in
+    let at-outline = at-points .before .before .before .before .before .before .before .before .before in
+    let at-height = at-outline .before .before .before .before .before .before .before .before .before .before .before in
+    let start = startOf at-height in
+    level-tables (level at-height) (now (start .args .points)) (start .pre .1 .0) (at-outline .outline-crossings .ensures .0) (at-points .put-points .ensures)
+
 same-length : tie.Need-same-length
 same-length c = search needs
 
@@ -90,17 +99,21 @@ same-length-5 c = search needs
 
 returns : tie.Need-returns
 returns c =
-    let at-outline = c .before .before .before .before .before .before .before .before .before .before in
+    let at-brought = c .before .before .before in
+    let at-points = at-brought .before .before .before .before in
+    let at-outline = at-points .before .before .before .before .before .before .before .before .before in
     let at-advance = at-outline .before .before .before .before .before .before .before in
     let at-height = at-advance .before .before .before .before in
     let v = level at-height in
-    let points = now (startOf at-height .args .points) in
-    let long = startOf at-height .pre .1 .0 in
+    let start = startOf at-height in
+    let points = now (start .args .points) in
+    let long = start .pre .1 .0 in
     let o = at-outline .outline-crossings .ensures in
-    let written = c .before .put-points .ensures in
-    let list = at-advance .advance .ensures in (
-      level-holds v points long (o .0) written list (o .1),
-      (level-works v points long (o .0) written list (o .1), level-sweeps v points long (o .0) written list (o .1)),
+    let written = at-points .put-points .ensures in
+    let list = at-advance .advance .ensures in
+    let left = level-brought v points long (o .0) written (start .args .profile) (at-brought .bring-into .ensures) in (
+      level-holds v points long (o .0) written list (o .1) left,
+      (level-works v points long (o .0) written list (o .1) left, level-sweeps v points long (o .0) written list (o .1) left),
     )
 
 pub next-layer-spec : {M : Type 1} → statement M
@@ -116,6 +129,7 @@ next-layer-spec =
     cast-s
     outline-crossings-requires
     put-points-requires
+    bring-into-requires
     same-length
     same-length-2
     same-length-3

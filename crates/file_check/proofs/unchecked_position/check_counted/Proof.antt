@@ -19,7 +19,7 @@ enum-told : tie.Need-enum-told
 enum-told c = search needs
 
 returns : tie.Need-returns
-returns c = no-contours _ _ (c .before .before .before .before .pre) (sym (c .before .before .read-number .ensures) ∙ c .enum-told .given .1)
+returns c = no-contours _ _ _ (c .before .before .before .before .pre) (sym (c .before .before .read-number .ensures) ∙ c .enum-told .given .1)
 
 -- the count read
 count : (c : tie.After-known-told)
@@ -34,12 +34,12 @@ check-contours-requires c κs = took (count c) .inside
 enum-known-c : tie.Need-enum-known-c
 enum-known-c c = search needs
 
-sub-t11 : tie.Need-sub-t11
-sub-t11 c =
+sub-t12 : tie.Need-sub-t12
+sub-t12 c =
     let at-check-contours = c .before .before .before in
     let at-told = at-check-contours .before in
     let start = at-told .before .before .before .before .before in
-    room-low _ _ (start .pre) (count at-told) (sym (at-check-contours .check-contours .ensures) ∙ c .before .c .given .1)
+    room-low (start .args .profile) _ _ (start .pre) (count at-told) (sym (at-check-contours .check-contours .ensures) ∙ c .before .c .given .1)
 
 enum-known-c-2 : tie.Need-enum-known-c-2
 enum-known-c-2 c = search needs
@@ -49,14 +49,14 @@ returns-2 c =
     let at-check-contours = c .before .before .before in
     let at-told = at-check-contours .before in
     let start = at-told .before .before .before .before .before in
-    contours-pass _ _ (start .pre) (count at-told) (sym (at-check-contours .check-contours .ensures) ∙ c .before .c .given .1)
+    contours-pass _ _ _ (start .pre) (count at-told) (sym (at-check-contours .check-contours .ensures) ∙ c .before .c .given .1)
 
 returns-3 : tie.Need-returns-3
 returns-3 c =
     let at-check-contours = c .before .before .before in
     let at-told = at-check-contours .before in
     let start = at-told .before .before .before .before .before in
-    contours-stop _ _ (start .pre) (count at-told) (sym (at-check-contours .check-contours .ensures) ∙ c .before .c2 .given .1)
+    contours-stop _ _ _ (start .pre) (count at-told) (sym (at-check-contours .check-contours .ensures) ∙ c .before .c2 .given .1)
 
 pub check-counted-spec : {M : Type 1} → statement M
 check-counted-spec =
@@ -68,7 +68,7 @@ check-counted-spec =
     returns
     check-contours-requires
     enum-known-c
-    sub-t11
+    sub-t12
     enum-known-c-2
     returns-2
     returns-3)

@@ -11,11 +11,13 @@ use Rattle.file_check.proofs.unchecked_position.check_last.Tie as tie
 
 -- what `check_layers` answered, of `low` as it was given
 answer : (c : tie.After-check-layers)
-    → levelsAt (c .before .before .args .count) (c .before .before .args .low) (c .before .before .args .file .now) (c .before .before .args .at)
+    → levelsAt (c .before .before .args .profile) (c .before .before .args .count) (c .before .before .args .low) (c .before .before .args .file .now)
+    (c .before .before .args .at)
     ≡ c .check-layers .result
 answer c =
     sym (c .check-layers .ensures ∙ ap
-    (λ (z : ℤ). levelsAt (c .before .before .args .count) z (c .before .before .args .file .now) (c .before .before .args .at))
+    (λ (z : ℤ). levelsAt (c .before .before .args .profile) (c .before .before .args .count) z (c .before .before .args .file .now)
+    (c .before .before .args .at))
     (toZ-ofZ w64 (c .before .before .args .low) (c .before .before .fits .low)))
 
 check-layers-requires : tie.Need-check-layers-requires
@@ -29,7 +31,7 @@ returns c =
     let at-c = c .before .before in
     let at-check-layers = at-c .before .before in
     let start = at-check-layers .before .before in
-    left-over (start .args .count) (start .args .low) _ _ (start .pre) (answer at-check-layers ∙ at-c .c .given .1) (c .if1 .taken)
+    left-over (start .args .profile) (start .args .count) (start .args .low) _ _ (start .pre) (answer at-check-layers ∙ at-c .c .given .1) (c .if1 .taken)
 
 enum-known-c-2 : tie.Need-enum-known-c-2
 enum-known-c-2 c = search needs
@@ -39,13 +41,13 @@ returns-2 c =
     let at-c = c .before .before in
     let at-check-layers = at-c .before .before in
     let start = at-check-layers .before .before in
-    all-passed (start .args .count) (start .args .low) _ _ (start .pre) (answer at-check-layers ∙ at-c .c .given .1) (c .if1 .left)
+    all-passed (start .args .profile) (start .args .count) (start .args .low) _ _ (start .pre) (answer at-check-layers ∙ at-c .c .given .1) (c .if1 .left)
 
 returns-3 : tie.Need-returns-3
 returns-3 c =
     let at-check-layers = c .before .before .before in
     let start = at-check-layers .before .before in
-    layers-stop (start .args .count) (start .args .low) _ _ (answer at-check-layers ∙ c .before .c2 .given .1)
+    layers-stop (start .args .profile) (start .args .count) (start .args .low) _ _ (answer at-check-layers ∙ c .before .c2 .given .1)
 
 pub check-last-spec : {M : Type 1} → statement M
 check-last-spec =

@@ -6,7 +6,7 @@ use mir.Syntax.{w64}
 use mir.Val.{toZ, ofZ}
 use mir.ValLaws.{toZ-ofZ}
 use Rattle.laws.specs.Machine.{same}
-use Rattle.file_formats.specs.LayerFile.{layerFormat, heightOf}
+use Rattle.file_formats.specs.LayerFile.{layerFormatIn, heightOf}
 use Rattle.file_check.specs.Answers.{heightToldAt, levelsAt}
 use Rattle.file_check.specs.declared.Height.the-variants.{Above}
 use Rattle.file_check.specs.declared.LevelsExtent.{LevelsExtent}
@@ -18,19 +18,19 @@ use Rattle.file_check.proofs.unchecked_position.check_layers.Statement.
 use Rattle.file_check.proofs.unchecked_position.check_layers.Tie as tie
 
 abbrev Inv-loop : tie.InvT-loop
-Inv-loop file at count low last₀ i₀ left₀ last i left = LayerRun file (levelsAt count (toZ w64 low) file at) (toZ w64 last) i left
+Inv-loop profile file at count low last₀ i₀ left₀ last i left = LayerRun profile file (levelsAt profile count (toZ w64 low) file at) (toZ w64 last) i left
 
 abbrev μ-loop : tie.MeasureT-loop
-μ-loop file at count low last₀ i₀ left₀ last i left = left
+μ-loop profile file at count low last₀ i₀ left₀ last i left = left
 
 loop-holds : tie.Need-loop-holds Inv-loop μ-loop
-loop-holds c = running layerFormat heightOf (λ z next. End next z) Refused _ _ _ _ (c .before .pre)
+loop-holds c = running (layerFormatIn (c .before .args .profile)) heightOf (λ z next. End next z) Refused _ _ _ _ (c .before .pre)
 
 -- `low` is what it was
 as-given : (c : tie.Start Inv-loop μ-loop) {t : LevelsExtent}
-    → t ≡ levelsAt (c .args .count) (toZ w64 (ofZ w64 (c .args .low))) (c .args .file .now) (c .args .at)
-    → t ≡ levelsAt (c .args .count) (c .args .low) (c .args .file .now) (c .args .at)
-as-given c e = e ∙ ap (λ (z : ℤ). levelsAt (c .args .count) z (c .args .file .now) (c .args .at)) (toZ-ofZ w64 (c .args .low) (c .fits .low))
+    → t ≡ levelsAt (c .args .profile) (c .args .count) (toZ w64 (ofZ w64 (c .args .low))) (c .args .file .now) (c .args .at)
+    → t ≡ levelsAt (c .args .profile) (c .args .count) (c .args .low) (c .args .file .now) (c .args .at)
+as-given c e = e ∙ ap (λ (z : ℤ). levelsAt (c .args .profile) (c .args .count) z (c .args .file .now) (c .args .at)) (toZ-ofZ w64 (c .args .low) (c .fits .low))
 
 read-height-requires : tie.Need-read-height-requires Inv-loop μ-loop
 read-height-requires c κs = search needs
@@ -47,7 +47,7 @@ returns c =
     let at-test = at-read-height .before in
     let at-loop = at-test .before in
     let start = at-loop .before .before in
-    as-given start (height-stops (at-loop .loop .inv) (at-test .loop-test .taken) (sym (at-read-height .read-height .ensures) ∙ c .enum-told .given .1))
+    as-given start (height-stops _ (at-loop .loop .inv) (at-test .loop-test .taken) (sym (at-read-height .read-height .ensures) ∙ c .enum-told .given .1))
 
 -- the height read
 height : (c : tie.After-known-told Inv-loop μ-loop)
@@ -61,7 +61,7 @@ check-counted-requires : tie.Need-check-counted-requires Inv-loop μ-loop
 check-counted-requires c κs =
     let at-test = c .before .before .before .before in
     let at-loop = at-test .before in
-    height-in (at-loop .loop .inv) (at-test .loop-test .taken) (height c)
+    height-in _ (at-loop .loop .inv) (at-test .loop-test .taken) (height c)
 
 enum-known-c : tie.Need-enum-known-c Inv-loop μ-loop
 enum-known-c c = search needs
@@ -77,7 +77,7 @@ returns-2 c =
     let at-loop = at-test .before in
     let start = at-loop .before .before in
     as-given start
-    (contours-stop (at-loop .loop .inv) (at-test .loop-test .taken) (height at-told)
+    (contours-stop _ (at-loop .loop .inv) (at-test .loop-test .taken) (height at-told)
     (sym (at-check-counted .check-counted .ensures) ∙ c .before .c2 .given .1))
 
 sub-left : tie.Need-sub-left Inv-loop μ-loop
@@ -94,11 +94,13 @@ loop-again c =
     let at-test = at-h .before .before .before in
     let at-loop = at-test .before in
     rw (same w64 (at-h .h .given .0 .0) (omega arith))
-    (layer-passes (at-loop .loop .inv) (at-test .loop-test .taken) (height at-told)
+    (layer-passes _ (at-loop .loop .inv) (at-test .loop-test .taken) (height at-told)
     (sym (at-check-counted .check-counted .ensures) ∙ c .before .c .given .1))
 
 returns-3 : tie.Need-returns-3 Inv-loop μ-loop
-returns-3 c = as-given (c .before .before .before) (run-end layerFormat heightOf (λ z next. End next z) Refused _ _ (c .before .loop .inv) (c .loop-test .left))
+returns-3 c =
+    as-given (c .before .before .before)
+    (run-end (layerFormatIn (c .before .before .before .args .profile)) heightOf (λ z next. End next z) Refused _ _ (c .before .loop .inv) (c .loop-test .left))
 
 pub check-layers-spec : {M : Type 1} → statement M
 check-layers-spec =

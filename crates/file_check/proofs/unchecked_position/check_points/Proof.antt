@@ -1,116 +1,40 @@
 -- `check_points` meets its contract.
-use mathlib.Core.Path.{_≡_, sym, _∙_}
+use mathlib.Core.Path.{_≡_, sym, ap, _∙_}
 use borrow.Author.Needs.{needs}
-use mir.Syntax.{w32}
-use mir.Val.{toZ}
-use Rattle.laws.specs.Machine.{same-in}
-use Rattle.mesh.specs.Corners.{largest}
-use Rattle.file_formats.specs.SequenceLaws.{check-end}
-use Rattle.file_check.specs.Answers.{coordinateAt}
-use Rattle.file_check.specs.declared.Coordinate.the-variants.{At}
-use Rattle.file_check.proofs.PointSteps.{PointsChecked, points-checked, no-x, no-y, x-near, y-near, next-point}
+use Rattle.cleaning.specs.declared.Profile.{Profile}
+use Rattle.file_check.specs.Answers.{pointsAt}
 use Rattle.file_check.proofs.unchecked_position.check_points.Statement.{statement}
 use Rattle.file_check.proofs.unchecked_position.check_points.Tie as tie
 
-abbrev Inv-loop : tie.InvT-loop
-Inv-loop file at count x₀ y₀ i₀ left₀ x y i left = PointsChecked file at count (toZ w32 x) (toZ w32 y) i left
-
-abbrev μ-loop : tie.MeasureT-loop
-μ-loop file at count x₀ y₀ i₀ left₀ x y i left = left
-
-loop-holds : tie.Need-loop-holds Inv-loop μ-loop
-loop-holds c = points-checked _ _ _ (c .before .pre)
-
-read-coordinate-requires : tie.Need-read-coordinate-requires Inv-loop μ-loop
-read-coordinate-requires c κs = c .before .loop .inv .x-in
-
-enum-known-a : tie.Need-enum-known-a Inv-loop μ-loop
-enum-known-a c = search needs
-
-enum-told : tie.Need-enum-told Inv-loop μ-loop
+enum-told : tie.Need-enum-told
 enum-told c = search needs
 
-returns : tie.Need-returns Inv-loop μ-loop
-returns c =
-    let at-read-coordinate = c .before .before in
-    let at-test = at-read-coordinate .before in
-    let at-loop = at-test .before in
-    no-x (at-loop .loop .inv) (at-test .loop-test .taken) (sym (at-read-coordinate .read-coordinate .ensures) ∙ c .enum-told .given .1)
+check-full-points-requires : tie.Need-check-full-points-requires
+check-full-points-requires c κs = search needs
 
--- the first coordinate read
-first : (c : tie.After-known-told Inv-loop μ-loop)
-    → let at-loop = c .before .before .before .before .before in
-    let start = at-loop .before .before in
-    coordinateAt (toZ w32 (at-loop .loop .x)) (start .args .file .now) (at-loop .loop .i)
-    ≡ At (c .before .a .given .0 .0) (c .before .a .given .0 .1 .0)
-first c = sym (c .before .before .before .read-coordinate .ensures) ∙ c .before .a .given .1
-
-read-coordinate-requires-2 : tie.Need-read-coordinate-requires-2 Inv-loop μ-loop
-read-coordinate-requires-2 c κs =
-    let at-loop = c .before .before .before .before .before in
-    at-loop .loop .inv .y-in
-
-enum-known-b : tie.Need-enum-known-b Inv-loop μ-loop
-enum-known-b c = search needs
-
-enum-told-2 : tie.Need-enum-told-2 Inv-loop μ-loop
+enum-told-2 : tie.Need-enum-told-2
 enum-told-2 c = search needs
 
-returns-2 : tie.Need-returns-2 Inv-loop μ-loop
+check-clean-points-requires : tie.Need-check-clean-points-requires
+check-clean-points-requires c κs = search needs
+
+returns : tie.Need-returns
+returns c =
+    let a = c .before .before .before .before .args in
+    c .check-full-points .ensures ∙ ap (λ (p : Profile). pointsAt p (a .count) (a .file .now) (a .at)) (sym (c .before .enum-told .given .1))
+
+returns-2 : tie.Need-returns-2
 returns-2 c =
-    let at-read-coordinate2 = c .before .before in
-    let at-told = at-read-coordinate2 .before in
-    let at-test = at-told .before .before .before .before in
-    let at-loop = at-test .before in
-    no-y (at-loop .loop .inv) (at-test .loop-test .taken) (first at-told)
-    (sym (at-read-coordinate2 .read-coordinate2 .ensures) ∙ c .enum-told2 .given .1)
-
-sub-left : tie.Need-sub-left Inv-loop μ-loop
-sub-left c = search needs
-
-loop-less : tie.Need-loop-less Inv-loop μ-loop
-loop-less c = search needs
-
--- the second coordinate read
-second : (c : tie.After-known-told2 Inv-loop μ-loop)
-    → let at-a = c .before .before .before .before .before in
-    let at-loop = at-a .before .before .before .before in
-    let start = at-loop .before .before in
-    coordinateAt (toZ w32 (at-loop .loop .y)) (start .args .file .now) (at-a .a .given .0 .1 .0)
-    ≡ At (c .before .b .given .0 .0) (c .before .b .given .0 .1 .0)
-second c = sym (c .before .before .before .read-coordinate2 .ensures) ∙ c .before .b .given .1
-
-loop-again : tie.Need-loop-again Inv-loop μ-loop
-loop-again c =
-    let at-told = c .before .before .before .before in
-    let at-a = at-told .before in
-    let at-test = at-a .before .before .before in
-    let at-loop = at-test .before in
-    simp (
-      same-in w32 (at-a .a .given .0 .0) largest (x-near (at-loop .loop .inv) (at-test .loop-test .taken) (first at-told)) tt,
-      same-in w32 (c .before .b .given .0 .0) largest (y-near (at-loop .loop .inv) (at-test .loop-test .taken) (first at-told) (second c)) tt,
-    )
-    (next-point (at-loop .loop .inv) (at-test .loop-test .taken) (first at-told) (second c))
-
-returns-3 : tie.Need-returns-3 Inv-loop μ-loop
-returns-3 c = check-end _ (c .before .loop .inv .check) (c .loop-test .left)
+    let a = c .before .before .before .before .args in
+    c .check-clean-points .ensures ∙ ap (λ (p : Profile). pointsAt p (a .count) (a .file .now) (a .at)) (sym (c .before .enum-told2 .given .1))
 
 pub check-points-spec : {M : Type 1} → statement M
 check-points-spec =
     tie.close
     (tie.spec
-    Inv-loop
-    μ-loop
-    loop-holds
-    read-coordinate-requires
-    enum-known-a
     enum-told
-    returns
-    read-coordinate-requires-2
-    enum-known-b
+    check-full-points-requires
     enum-told-2
-    returns-2
-    sub-left
-    loop-less
-    loop-again
-    returns-3)
+    check-clean-points-requires
+    returns
+    returns-2)

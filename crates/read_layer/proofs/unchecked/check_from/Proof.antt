@@ -34,7 +34,8 @@ returns : tie.Need-returns
 returns c =
     let at-read-height = c .before .before in
     let start = at-read-height .before .before in
-    first-stops (start .args .more) (start .args .low) _ _ (layer-no-height _ _ _ (start .pre) (answer at-read-height ∙ c .enum-told .given .1))
+    first-stops (start .args .profile) (start .args .more) (start .args .low) _ _
+    (layer-no-height (start .args .profile) _ _ _ (start .pre) (answer at-read-height ∙ c .enum-told .given .1))
 
 -- the height read
 height : (c : tie.After-known-told)
@@ -46,7 +47,7 @@ height c = answer (c .before .before .before) ∙ c .before .h .given .1
 check-counted-requires : tie.Need-check-counted-requires
 check-counted-requires c κs =
     let start = c .before .before .before .before .before in
-    height-inside _ _ _ (start .pre) _ _ (height c)
+    height-inside (start .args .profile) _ _ _ (start .pre) _ _ (height c)
 
 enum-known-c : tie.Need-enum-known-c
 enum-known-c c = search needs
@@ -58,7 +59,7 @@ enum-known-c-2 c = search needs
 counts : (c : tie.After-known-told3)
     → let at-h = c .before .before .before .before .before in
     let start = at-h .before .before .before .before in
-    countsAt (start .args .file .now) (at-h .h .given .0 .1 .0)
+    countsAt (start .args .profile) (start .args .file .now) (at-h .h .given .0 .1 .0)
     ≡ End (c .before .c2 .given .0 .0) (c .before .c2 .given .0 .1 .0) (c .before .c2 .given .0 .1 .1 .0)
 counts c = sym (c .before .before .before .check-counted .ensures) ∙ c .before .c2 .given .1
 
@@ -66,7 +67,7 @@ check-last-requires : tie.Need-check-last-requires
 check-last-requires c κs =
     let at-told = c .before .before .before .before in
     let start = at-told .before .before .before .before .before in
-    next-inside (start .args .more) _ _ _ (start .pre) (height at-told) (counts c)
+    next-inside (start .args .profile) (start .args .more) _ _ _ (start .pre) (height at-told) (counts c)
 
 enum-known-rest : tie.Need-enum-known-rest
 enum-known-rest c = search needs
@@ -79,8 +80,9 @@ returns-2 c =
     let at-check-counted = c .before .before .before in
     let at-told = at-check-counted .before in
     let start = at-told .before .before .before .before .before in
-    first-stops (start .args .more) (start .args .low) _ _
-    (layer-no-contours _ _ _ (start .pre) _ _ (height at-told) _ (sym (at-check-counted .check-counted .ensures) ∙ c .before .c .given .1))
+    first-stops (start .args .profile) (start .args .more) (start .args .low) _ _
+    (layer-no-contours (start .args .profile) _ _ _ (start .pre) _ _ (height at-told) _
+    (sym (at-check-counted .check-counted .ensures) ∙ c .before .c .given .1))
 
 returns-3 : tie.Need-returns-3
 returns-3 c =
@@ -89,7 +91,7 @@ returns-3 c =
     let at-told = at-told3 .before .before .before .before in
     let at-h = at-told .before in
     let start = at-h .before .before .before .before in
-    last-stops (start .args .more) _ _ _ (start .pre) (height at-told) (counts at-told3)
+    last-stops (start .args .profile) (start .args .more) _ _ _ (start .pre) (height at-told) (counts at-told3)
     (same w64 (at-h .h .given .0 .0) (omega arith)) (sym (at-check-last .check-last .ensures) ∙ c .before .rest .given .1)
 
 returns-4 : tie.Need-returns-4
@@ -99,7 +101,7 @@ returns-4 c =
     let at-told = at-told3 .before .before .before .before in
     let at-h = at-told .before in
     let start = at-h .before .before .before .before in
-    last-passes (start .args .more) _ _ _ (start .pre) (height at-told) (counts at-told3)
+    last-passes (start .args .profile) (start .args .more) _ _ _ (start .pre) (height at-told) (counts at-told3)
     (same w64 (at-h .h .given .0 .0) (omega arith)) (sym (at-check-last .check-last .ensures) ∙ c .enum-told2 .given .1)
 
 pub check-from-spec : {M : Type 1} → statement M

@@ -4,7 +4,7 @@
 use crate::cut::contours;
 use crate::harness::{Case, Operation, Rounds};
 use crate::inputs::random_mesh;
-use crate::operations::{AllLayers, Given};
+use crate::operations::{AllLayersIn, Given};
 use meshes::{rising_heights, Random};
 use oracle::{encode_layers, FileLayer};
 use wadroles::{contour, read_layer, FlatLayer};
@@ -24,7 +24,7 @@ fn default_heights(z: &[i32]) -> Vec<i32> {
 }
 
 /// The layers that the product cuts at each height by itself.
-fn single_cuts(given: &Given, heights: &[i32]) -> Vec<FileLayer> {
+pub fn single_cuts(given: &Given, heights: &[i32]) -> Vec<FileLayer> {
     heights
         .iter()
         .map(|&height| FileLayer {
@@ -34,16 +34,16 @@ fn single_cuts(given: &Given, heights: &[i32]) -> Vec<FileLayer> {
         .collect()
 }
 
-/// The file that the product writes.
-fn file(given: &Given) -> Vec<u8> {
-    let mut case = Case::<AllLayers>::exact(given.clone());
-    let length = case.run(AllLayers::product).unwrap();
+/// The file that the product writes in one of the profiles.
+pub fn product_file<const CLEAN: bool>(given: &Given) -> Vec<u8> {
+    let mut case = Case::<AllLayersIn<CLEAN>>::exact(given.clone());
+    let length = case.run(AllLayersIn::<CLEAN>::product).unwrap();
     assert_eq!(length, case.tables.output.view().len());
     case.tables.output.view().to_vec()
 }
 
 /// A mesh of small height, with a right pairing and heights that rise, or none.
-fn random_given(random: &mut Random) -> Given {
+pub fn random_given(random: &mut Random) -> Given {
     let mut mesh = random_mesh(random);
     if random.one_in(2) {
         let heights = mesh.coords.iter_mut().skip(2).step_by(3);
@@ -57,7 +57,8 @@ fn random_given(random: &mut Random) -> Given {
     Given::paired(mesh, random).over(&heights)
 }
 
-fn heights_taken(given: &Given) -> Vec<i32> {
+/// The heights that All layers takes, given or by default.
+pub fn heights_taken(given: &Given) -> Vec<i32> {
     let coords = given.mesh.coords.iter();
     let z: Vec<i32> = coords.skip(2).step_by(3).copied().collect();
     match given.heights.as_slice() {
@@ -71,7 +72,7 @@ fn the_file_is_that_of_single_cuts() {
     let share = Rounds::one_in(50, "all layers, single cuts").share(|random| {
         let given = random_given(random);
         let layers = single_cuts(&given, &heights_taken(&given));
-        assert_eq!(file(&given), encode_layers(&layers));
+        assert_eq!(product_file::<false>(&given), encode_layers(&layers));
         layers.iter().any(|layer| !layer.contours.is_empty())
     });
     assert!(share > 0.4, "too few files have a contour: {share}");
@@ -83,7 +84,7 @@ fn the_layers_are_read_back() {
         let given = random_given(random);
         let heights = heights_taken(&given);
         let layers = single_cuts(&given, &heights);
-        let file = file(&given);
+        let file = product_file::<false>(&given);
         let room = given.corners();
         for (i, layer) in layers.iter().enumerate() {
             let (mut points, mut ends) = (vec![0; 2 * room], vec![0; room]);

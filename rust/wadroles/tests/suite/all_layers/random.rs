@@ -32,7 +32,7 @@ fn damage(given: &mut Given, random: &mut Random) {
 }
 
 /// A mesh near the limits at few heights.
-fn near_the_limits(random: &mut Random) -> Given {
+pub fn near_the_limits(random: &mut Random) -> Given {
     let mesh = large_mesh(random);
     let mut heights = [(); 3].map(|()| random_height(&mesh, random)).to_vec();
     heights.sort();

@@ -3,7 +3,7 @@
 use super::{file, with_output};
 use crate::harness::{assert_answer, Case};
 use crate::inputs::{octahedra, part_p, LAYER_FILE_P};
-use crate::operations::Given;
+use crate::operations::{AllLayers, Given};
 use meshes::shapes::cuboid;
 use meshes::Mesh;
 use wadroles::{read_layer, Counts, FlatLayer, Reading};
@@ -20,7 +20,7 @@ fn part_p_has_the_file_of_the_document() {
 
 #[test]
 fn part_p_is_as_long_as_its_output_need_be() {
-    let exact = Case::exact(part_p());
+    let exact = Case::<AllLayers>::exact(part_p());
     assert_answer(&exact, Ok(23));
     assert_answer(&with_output(exact.clone(), 40), Ok(23));
     assert_answer(&with_output(exact, 22), Err((14, 0)));

@@ -1,6 +1,7 @@
 //! The C functions themselves, worked by hand: the number returned, the words of output, and null for
 //! empty tables. The harness compares all of them on every other case too.
 
+mod cleaning;
 mod files;
 mod meshes;
 mod previews;

@@ -29,10 +29,10 @@ pub fn compare_chains(rounds: &Rounds, versions: Versions) -> Result<Tallies, St
     Ok(tallies)
 }
 
-struct Chain<'a> {
-    versions: Versions,
-    random: &'a mut Random,
-    tallies: &'a mut Tallies,
+pub(super) struct Chain<'a> {
+    pub(super) versions: Versions,
+    pub(super) random: &'a mut Random,
+    pub(super) tallies: &'a mut Tallies,
 }
 
 impl Chain<'_> {
@@ -44,15 +44,16 @@ impl Chain<'_> {
             self.cut(given.clone().at(height))?;
         }
         self.sweep(&given)?;
-        match self.all_layers(&given)? {
-            Some(file) => self.read_layers(&given, &file),
-            None => Ok(()),
+        let file = self.all_layers(&given)?;
+        if let Some(file) = &file {
+            self.read_layers(&given, file)?;
         }
+        self.clean_file(&given, file.as_deref())
     }
 
     /// Makes a call with tables that are mostly long enough, and notes its answer. What it leaves is
     /// in the case.
-    fn call<O: Operation>(
+    pub(super) fn call<O: Operation>(
         &mut self,
         input: O::Input,
         version: Version<O>,
@@ -109,7 +110,8 @@ impl Chain<'_> {
         Ok(given)
     }
 
-    /// Cuts at a height, takes the contours out of the layer, measures them and previews the layer.
+    /// Cuts at a height, takes the contours out of the layer, measures them, and previews and cleans the
+    /// layer.
     fn cut(&mut self, given: Given) -> Result<(), String> {
         let (answer, case) = self.call::<Cut>(given, self.versions.cut)?;
         if let Ok((contours, points)) = answer {
@@ -122,15 +124,16 @@ impl Chain<'_> {
                 self.area(&points[first..first + length])?;
             }
             self.preview(points, ends)?;
+            self.clean(points, ends)?;
         }
         Ok(())
     }
 
     /// Previews a layer by a call and by a run, now and then one with something wrong.
-    fn preview(&mut self, points: &[i32], ends: &[u32]) -> Result<(), String> {
+    pub(super) fn preview(&mut self, points: &[i32], ends: &[u32]) -> Result<(), String> {
         let mut drawing = Drawing::new(points, ends, [0.0; 2]);
         if self.random.one_in(8) {
-            spoil_layer(&mut drawing, self.random);
+            spoil_layer(&mut drawing.points, &mut drawing.ends, self.random);
         }
         drawing.origin = random_origin(self.random);
         drawing.number = random_number(drawing.calls(), self.random);
@@ -226,28 +229,37 @@ impl Chain<'_> {
 
     /// A layer that was read must be the one that a cut at its height gives.
     fn compare_with_cut(&mut self, given: &Given, layer: &FlatLayer) -> Result<(), String> {
-        let height = layer.height;
+        layer.must_be(&self.cut_at(given, layer.height)?)
+    }
+
+    /// The layer that a cut gives after All layers.
+    pub(super) fn cut_at(&mut self, given: &Given, height: i32) -> Result<FlatLayer, String> {
         let mut case = Case::<Cut>::exact(given.clone().at(height));
         let cut = self.versions.cut.unwrap_or(Cut::product);
         let (contours, points) = case
             .run(cut)
             .map_err(|refusal| format!("cut at {height}: {refusal:?} after all layers"))?;
-        let cut = FlatLayer {
+        Ok(FlatLayer {
             height,
             points: case.tables.points.view()[..2 * points].to_vec(),
             ends: case.tables.ends.view()[..contours].to_vec(),
-        };
-        match cut == *layer {
-            true => Ok(()),
-            false => Err(format!("read back: {layer:?}, not {cut:?}")),
-        }
+        })
     }
 }
 
 /// A layer that was read from a file.
 #[derive(Debug, PartialEq, Eq)]
-struct FlatLayer {
-    height: i32,
-    points: Vec<i32>,
-    ends: Vec<u32>,
+pub(super) struct FlatLayer {
+    pub(super) height: i32,
+    pub(super) points: Vec<i32>,
+    pub(super) ends: Vec<u32>,
+}
+
+impl FlatLayer {
+    pub(super) fn must_be(&self, expected: &FlatLayer) -> Result<(), String> {
+        match self == expected {
+            true => Ok(()),
+            false => Err(format!("read back: {self:?}, not {expected:?}")),
+        }
+    }
 }

@@ -3,9 +3,10 @@
 use super::chain::compare_chains;
 use crate::harness::{assert_told, Answer, Operation, Rounds};
 use crate::operations::{
-    AllLayers, Area, CallTables, Check, CheckTables, Contour, Cut, CutTables, Drawing, Ends,
-    FileTables, FlatLayer, Given, Layer, LayerFile, Part, Preview, PreviewRun, ReadLayer, ReadPart,
-    Ring, Start, Step, Versions, WorkTables, Xy,
+    AllLayers, AllLayersClean, Area, CallTables, Check, CheckTables, Clean, Contour, Cut,
+    CutTables, Drawing, Ends, FileTables, FlatLayer, Given, GivenLayer, Layer, LayerFile, Part,
+    Preview, PreviewRun, ReadLayer, ReadLayerClean, ReadPart, Ring, Start, Step, Versions,
+    WorkTables, Xy,
 };
 
 fn last_height_left(file: &Vec<u8>, tables: &mut Part) -> Answer<(usize, usize, usize)> {
@@ -89,10 +90,27 @@ fn last_kind_left(input: &Drawing, tables: &mut CallTables) -> Answer<usize> {
     Ok(filled)
 }
 
+fn last_end_left(layer: &GivenLayer, tables: &mut FlatLayer) -> Answer<(usize, usize)> {
+    let before = tables.ends.clone();
+    let counts = Clean::product(layer, tables)?;
+    if let Some(last) = counts.0.checked_sub(1) {
+        tables.ends.table()[last] = before.view()[last];
+    }
+    Ok(counts)
+}
+
+fn full_file_written(given: &Given, tables: &mut FileTables) -> Answer<usize> {
+    AllLayers::product(given, tables)
+}
+
+fn unclean_taken(input: &LayerFile, tables: &mut FlatLayer) -> Answer<(usize, i32, usize, usize)> {
+    ReadLayer::product(input, tables)
+}
+
 /// The product but for one operation, and that operation.
-fn faulty() -> [(Versions, &'static str); 12] {
+fn faulty() -> [(Versions, &'static str); 15] {
     let right = Versions::default();
-    let faults: [(fn(&mut Versions), _); 12] = [
+    let faults: [(fn(&mut Versions), _); 15] = [
         (|v| v.read_part = Some(last_height_left), ReadPart::NAME),
         (|v| v.check = Some(order_from_above), Check::NAME),
         (|v| v.cut = Some(point_moved), Cut::NAME),
@@ -108,6 +126,15 @@ fn faulty() -> [(Versions, &'static str); 12] {
         ),
         (|v| v.preview = Some(moves_told_as_lines), Preview::NAME),
         (|v| v.preview_run = Some(last_kind_left), PreviewRun::NAME),
+        (|v| v.clean = Some(last_end_left), Clean::NAME),
+        (
+            |v| v.all_layers_clean = Some(full_file_written),
+            AllLayersClean::NAME,
+        ),
+        (
+            |v| v.read_layer_clean = Some(unclean_taken),
+            ReadLayerClean::NAME,
+        ),
     ];
     faults.map(|(spoil, name)| {
         let mut versions = right;

@@ -3,7 +3,7 @@ use std::collections::{BTreeMap, BTreeSet};
 use std::fmt;
 
 /// The refusals whose place is a position, a corner or a byte. That of 12 is one in All layers only.
-const PLACED: [u32; 9] = [2, 3, 4, 5, 6, 7, 8, 11, 13];
+const PLACED: [u32; 10] = [2, 3, 4, 5, 6, 7, 8, 11, 13, 18];
 
 /// How often each answer was met, and where: a refusal by its number, success as 0.
 #[derive(Default)]

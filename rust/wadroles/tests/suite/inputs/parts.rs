@@ -17,6 +17,11 @@ pub const LAYER_FILE_P: [u8; 23] = [
     0x00, 0x00, 0x00, 0x00, 0x00, 0x16, 0x00,
 ];
 
+/// The layer file of part P in the clean profile: at height 10 no contour is left.
+pub const CLEAN_FILE_P: [u8; 16] = [
+    0x04, 0x00, 0x00, 0x0A, 0x01, 0x03, 0x0A, 0x00, 0x09, 0x0A, 0x00, 0x09, 0x14, 0x00, 0x16, 0x00,
+];
+
 /// Part P of the specification with its heights, of which 5 is the one to cut at.
 pub fn part_p() -> Given {
     let given = Given::new(tetrahedron(10)).at(5).over(&[0, 5, 10, 11]);

@@ -1,6 +1,7 @@
 //! Random inputs of the operations on a mesh.
 
 use crate::operations::Given;
+use meshes::shapes::{ball, torus};
 use meshes::{
     closed_mesh, random_height, rising_heights, shared_edges, vertex_order, Damage, Mesh, Random,
 };
@@ -12,6 +13,17 @@ pub fn random_mesh(random: &mut Random) -> Mesh {
     } else {
         closed_mesh(random)
     }
+}
+
+/// The same, or a finer solid, so small in x and y that many of its edges are shorter than a unit
+/// there.
+pub fn shrunk(random: &mut Random) -> Mesh {
+    let mesh = match random.below(4) {
+        0 => torus(12, 9, 2_000, 700),
+        1 => ball(2, 1_000),
+        _ => random_mesh(random),
+    };
+    mesh.smaller(random.choose(&[20, 100, 300, 1_000]))
 }
 
 /// A mesh with a right pairing, the right order and a height. Both tables are longer than they need be

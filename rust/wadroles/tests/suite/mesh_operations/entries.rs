@@ -3,7 +3,7 @@
 use super::{changed_p, of_each, OnMesh};
 use crate::harness::{agree, assert_answer, Case};
 use crate::inputs::{part_p, PAIRING_P};
-use crate::operations::{AllLayers, Check, Cut, Given, Layer, Start, Step};
+use crate::operations::{AllLayers, AllLayersClean, Check, Cut, Given, Layer, Start, Step};
 use meshes::shapes::{octahedron, pillow};
 
 /// Asserts that part P after a change is refused.
@@ -23,7 +23,7 @@ fn lengths<O: OnMesh>() {
 
 #[test]
 fn lengths_that_are_no_multiple_of_three_are_refused() {
-    of_each!(lengths: Check, Cut, Start, Step, Layer, AllLayers);
+    of_each!(lengths: Check, Cut, Start, Step, Layer, AllLayers, AllLayersClean);
 }
 
 fn coordinates<O: OnMesh>() {
@@ -43,7 +43,7 @@ fn coordinates<O: OnMesh>() {
 
 #[test]
 fn coordinates_pass_up_to_the_limit_at_every_position() {
-    of_each!(coordinates: Check, Cut, Step, Layer, AllLayers);
+    of_each!(coordinates: Check, Cut, Step, Layer, AllLayers, AllLayersClean);
 }
 
 fn corners<O: OnMesh>() {
@@ -56,7 +56,7 @@ fn corners<O: OnMesh>() {
 
 #[test]
 fn every_corner_must_name_a_vertex() {
-    of_each!(corners: Check, Cut, Step, Layer, AllLayers);
+    of_each!(corners: Check, Cut, Step, Layer, AllLayers, AllLayersClean);
 }
 
 fn triangles<O: OnMesh>() {
@@ -73,7 +73,7 @@ fn triangles<O: OnMesh>() {
 
 #[test]
 fn a_vertex_named_twice_is_refused_at_the_first_corner_of_the_triangle() {
-    of_each!(triangles: Check, Cut, Step, Layer, AllLayers);
+    of_each!(triangles: Check, Cut, Step, Layer, AllLayers, AllLayersClean);
 }
 
 fn no_vertices<O: OnMesh>() {
@@ -82,7 +82,7 @@ fn no_vertices<O: OnMesh>() {
 
 #[test]
 fn triangles_without_vertices_name_none() {
-    of_each!(no_vertices: Check, Cut, Step, Layer, AllLayers);
+    of_each!(no_vertices: Check, Cut, Step, Layer, AllLayers, AllLayersClean);
 }
 
 fn wrong_pairs<O: OnMesh>() {
@@ -97,7 +97,7 @@ fn wrong_pairs<O: OnMesh>() {
 
 #[test]
 fn a_wrong_entry_is_refused_at_its_corner_or_its_partner_if_that_is_less() {
-    of_each!(wrong_pairs: Cut, Step, Layer, AllLayers);
+    of_each!(wrong_pairs: Cut, Step, Layer, AllLayers, AllLayersClean);
 }
 
 fn missing_pairs<O: OnMesh>() {
@@ -118,7 +118,7 @@ fn missing_pairs<O: OnMesh>() {
 
 #[test]
 fn a_missing_entry_is_refused_and_so_is_what_is_paired_with_it() {
-    of_each!(missing_pairs: Cut, Step, Layer, AllLayers);
+    of_each!(missing_pairs: Cut, Step, Layer, AllLayers, AllLayersClean);
 }
 
 fn missing_pair_of_corner_0<O: OnMesh>() {
@@ -130,7 +130,7 @@ fn missing_pair_of_corner_0<O: OnMesh>() {
 
 #[test]
 fn a_missing_entry_is_not_read_as_corner_0() {
-    of_each!(missing_pair_of_corner_0: Cut, Step, Layer, AllLayers);
+    of_each!(missing_pair_of_corner_0: Cut, Step, Layer, AllLayers, AllLayersClean);
 }
 
 fn flipped<O: OnMesh>() {
@@ -139,7 +139,7 @@ fn flipped<O: OnMesh>() {
 
 #[test]
 fn a_flipped_triangle_lacks_the_reverse_edges() {
-    of_each!(flipped: Cut, Step, Layer, AllLayers);
+    of_each!(flipped: Cut, Step, Layer, AllLayers, AllLayersClean);
 }
 
 fn orders<O: OnMesh>() {
@@ -169,7 +169,7 @@ fn orders<O: OnMesh>() {
 
 #[test]
 fn an_order_must_be_right_at_every_position() {
-    of_each!(orders: Step, Layer, AllLayers);
+    of_each!(orders: Step, Layer, AllLayers, AllLayersClean);
 }
 
 /// The answer where pairing and order have more entries than needed.
@@ -193,5 +193,6 @@ fn entries_beyond_those_needed_are_ignored() {
         assert_eq!(answer_with_more::<Step>(4, 5, beyond), None);
         assert_eq!(answer_with_more::<Layer>(4, 11, beyond), (4, 0, 0));
         assert_eq!(answer_with_more::<AllLayers>(0, 5, beyond), 23);
+        assert_eq!(answer_with_more::<AllLayersClean>(0, 5, beyond), 16);
     }
 }

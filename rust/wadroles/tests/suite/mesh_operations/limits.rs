@@ -3,7 +3,7 @@
 use super::{of_each, OnMesh};
 use crate::harness::{agree, assert_answer, Answer, Case, Tables};
 use crate::inputs::largest_torus;
-use crate::operations::{AllLayers, Check, Cut, Given, Layer, Start, Step};
+use crate::operations::{AllLayers, AllLayersClean, Check, Cut, Given, Layer, Start, Step};
 use meshes::{Mesh, Random, MAX_TRIANGLES, MAX_VERTICES};
 use std::fmt::Debug;
 
@@ -33,7 +33,7 @@ fn both_limits<O: OnMesh>() {
 
 #[test]
 fn counts_at_both_limits_pass() {
-    of_each!(both_limits: Check, Cut, Start, Step, Layer, AllLayers);
+    of_each!(both_limits: Check, Cut, Start, Step, Layer, AllLayers, AllLayersClean);
 }
 
 fn unused_vertices<O: OnMesh>() {
@@ -50,7 +50,7 @@ fn unused_vertices<O: OnMesh>() {
 
 #[test]
 fn unused_vertices_pass_up_to_the_limit() {
-    of_each!(unused_vertices: Check, Cut, Start, Step, Layer, AllLayers);
+    of_each!(unused_vertices: Check, Cut, Start, Step, Layer, AllLayers, AllLayersClean);
 }
 
 fn one_too_many<O: OnMesh>() {
@@ -68,7 +68,7 @@ fn one_too_many<O: OnMesh>() {
 
 #[test]
 fn one_vertex_or_triangle_too_many_is_refused() {
-    of_each!(one_too_many: Check, Cut, Start, Step, Layer, AllLayers);
+    of_each!(one_too_many: Check, Cut, Start, Step, Layer, AllLayers, AllLayersClean);
 }
 
 fn one_too_short<O: OnMesh>() {
@@ -81,7 +81,7 @@ fn one_too_short<O: OnMesh>() {
 
 #[test]
 fn tables_one_too_short_for_the_largest_mesh_are_refused() {
-    of_each!(one_too_short: Check, Cut, Start, Step, Layer, AllLayers);
+    of_each!(one_too_short: Check, Cut, Start, Step, Layer, AllLayers, AllLayersClean);
 }
 
 type Damaging = fn(&mut Given);
@@ -122,7 +122,7 @@ fn last_places<O: OnMesh>() {
 
 #[test]
 fn the_last_places_of_the_largest_mesh_are_tested() {
-    of_each!(last_places: Check, Cut, Step, Layer, AllLayers);
+    of_each!(last_places: Check, Cut, Step, Layer, AllLayers, AllLayersClean);
 }
 
 #[test]

@@ -7,7 +7,7 @@ mod refusals;
 
 use crate::harness::{Case, Operation};
 use crate::inputs::part_p;
-use crate::operations::{AllLayers, Check, Cut, Given, Layer, Start, Step};
+use crate::operations::{AllLayersIn, Check, Cut, Given, Layer, Start, Step};
 
 /// An operation on a mesh.
 trait OnMesh: Operation<Input = Given> {
@@ -38,7 +38,7 @@ impl OnMesh for Layer {
     }
 }
 
-impl OnMesh for AllLayers {
+impl<const CLEAN: bool> OnMesh for AllLayersIn<CLEAN> {
     fn short(table: usize, _length: usize) -> (u32, u64) {
         match table {
             5 => (14, 0),

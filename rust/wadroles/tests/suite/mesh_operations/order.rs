@@ -4,7 +4,9 @@
 use super::OnMesh;
 use crate::harness::{assert_earlier_wins, assert_least_named, Case, Tables};
 use crate::inputs::octahedra;
-use crate::operations::{AllLayers, Check, Cut, Given, Layer, Start, Step};
+use crate::operations::{
+    AllLayers, AllLayersClean, AllLayersIn, Check, Cut, Given, Layer, Start, Step,
+};
 
 const SHELL_VERTICES: usize = 6;
 const SHELL_TRIANGLES: usize = 8;
@@ -59,7 +61,7 @@ fn spoil_rings(case: &mut Case<Layer>, refusal: u32, way: usize) {
 }
 
 /// Heights are too many or fail to rise, and the output is too short.
-fn spoil_heights(case: &mut Case<AllLayers>, refusal: u32, way: usize) {
+fn spoil_heights<const CLEAN: bool>(case: &mut Case<AllLayersIn<CLEAN>>, refusal: u32, way: usize) {
     let heights = &mut case.input.heights;
     match refusal {
         1 if way.is_multiple_of(2) => heights.splice(..0, -5_000..0).for_each(drop),
@@ -87,6 +89,7 @@ fn the_earlier_refusal_wins_wherever_the_faults_lie() {
     });
     assert_earlier_wins::<Layer>(two_shells, 4, spoil_rings);
     assert_earlier_wins::<AllLayers>(two_shells, 5, spoil_heights);
+    assert_earlier_wins::<AllLayersClean>(two_shells, 5, spoil_heights);
 }
 
 #[test]
@@ -101,6 +104,7 @@ fn the_least_of_two_places_is_named() {
     assert_least_named::<Layer>(two_shells, &with(&[of_pair, (8, 2)]), spoil);
     let of_files = with(&[of_pair, (8, 2), (12, 2)]);
     assert_least_named::<AllLayers>(two_shells, &of_files, spoil_heights);
+    assert_least_named::<AllLayersClean>(two_shells, &of_files, spoil_heights);
     assert_least_named::<Layer>(two_shells, &[(11, 7)], |case, _, way| {
         let ring = case.tables.ring.table();
         for corner in [[40, 7], [30, 41]][way] {

@@ -3,7 +3,7 @@
 use super::OnMesh;
 use crate::harness::{assert_refusals, Case, Refused, Tables};
 use crate::inputs::part_p;
-use crate::operations::{AllLayers, Check, Cut, Given, Layer, Start, Step};
+use crate::operations::{AllLayersIn, Check, Cut, Given, Layer, Start, Step};
 
 type Change = fn(&mut Given);
 
@@ -96,9 +96,8 @@ fn every_refusal_of_layer() {
     assert_refusals(right, &all);
 }
 
-#[test]
-fn every_refusal_of_all_layers() {
-    let mut all = common::<AllLayers>();
+fn refusals_of_all_layers<const CLEAN: bool>() {
+    let mut all = common::<AllLayersIn<CLEAN>>();
     let changes: [(Change, u32, u64); 6] = [
         (|p| p.heights = (0..4_097).collect(), 1, 0),
         (|p| p.heights[1] = 0, 12, 1),
@@ -109,4 +108,14 @@ fn every_refusal_of_all_layers() {
     ];
     all.extend(changes.map(input));
     assert_refusals(right, &all).require_places(12);
+}
+
+#[test]
+fn every_refusal_of_all_layers() {
+    refusals_of_all_layers::<false>();
+}
+
+#[test]
+fn every_refusal_of_all_layers_clean() {
+    refusals_of_all_layers::<true>();
 }

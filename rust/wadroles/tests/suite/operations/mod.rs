@@ -3,6 +3,7 @@
 mod all_layers;
 mod area;
 mod check;
+mod clean;
 mod contour;
 mod cut;
 mod given;
@@ -11,14 +12,15 @@ mod read_layer;
 mod read_part;
 mod sweep;
 
-pub use all_layers::{AllLayers, FileTables};
+pub use all_layers::{AllLayers, AllLayersClean, AllLayersIn, FileTables};
 pub use area::Area;
 pub use check::{Check, CheckTables};
+pub use clean::{Clean, GivenLayer};
 pub use contour::{Contour, Ends};
 pub use cut::{Cut, CutTables};
 pub use given::Given;
 pub use preview::{CallTables, Drawing, Preview, PreviewRun, Xy};
-pub use read_layer::{FlatLayer, LayerFile, ReadLayer};
+pub use read_layer::{FlatLayer, LayerFile, ReadLayer, ReadLayerClean};
 pub use read_part::{Part, ReadPart};
 pub use sweep::{Layer, Ring, Start, Step, WorkTables};
 
@@ -39,4 +41,7 @@ pub struct Versions {
     pub read_layer: Version<ReadLayer>,
     pub preview: Version<Preview>,
     pub preview_run: Version<PreviewRun>,
+    pub clean: Version<Clean>,
+    pub all_layers_clean: Version<AllLayersClean>,
+    pub read_layer_clean: Version<ReadLayerClean>,
 }

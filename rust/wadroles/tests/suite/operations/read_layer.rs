@@ -1,16 +1,31 @@
 use crate::harness::{call_c, lent_tables, refused, Answer, Lent, Operation};
 use oracle::{encode_layers, FileLayer};
-use wadroles::raw::wadroles_read_layer;
+use wadroles::raw::{wadroles_read_layer, wadroles_read_layer_clean};
+
+/// The operation "Read layer i", in the full profile or the clean one.
+pub struct ReadLayerIn<const CLEAN: bool>;
 
 /// The operation "Read layer i".
-pub struct ReadLayer;
+pub type ReadLayer = ReadLayerIn<false>;
+
+/// The operation "Read layer clean".
+pub type ReadLayerClean = ReadLayerIn<true>;
 
 lent_tables! {
-    /// The tables lent to Read layer.
+    /// The tables lent to Read layer and to Clean.
     FlatLayer { points: Lent<i32>, ends: Lent<u32> }
 }
 
-/// What Read layer reads: a file, and the number of the layer.
+impl FlatLayer {
+    pub fn lend(&mut self) -> wadroles::FlatLayer<'_> {
+        wadroles::FlatLayer {
+            points: self.points.table(),
+            ends: self.ends.table(),
+        }
+    }
+}
+
+/// What both read: a file, and the number of the layer.
 #[derive(Clone, Debug, PartialEq, Eq)]
 pub struct LayerFile {
     pub file: Vec<u8>,
@@ -29,9 +44,17 @@ impl LayerFile {
     }
 }
 
-impl Operation for ReadLayer {
-    const NAME: &'static str = "read layer";
-    const REFUSALS: &'static [u32] = &[13, 15, 9];
+impl<const CLEAN: bool> Operation for ReadLayerIn<CLEAN> {
+    const NAME: &'static str = if CLEAN {
+        "read layer clean"
+    } else {
+        "read layer"
+    };
+    const REFUSALS: &'static [u32] = if CLEAN {
+        &[13, 18, 15, 9]
+    } else {
+        &[13, 15, 9]
+    };
     type Input = LayerFile;
     type Tables = FlatLayer;
     /// The number of layers, the height, and the counts of contours and points.
@@ -50,17 +73,21 @@ impl Operation for ReadLayer {
     }
 
     fn product(input: &LayerFile, tables: &mut FlatLayer) -> Answer<Self::Values> {
-        let mut lent = wadroles::FlatLayer {
-            points: tables.points.table(),
-            ends: tables.ends.table(),
+        let read_layer = match CLEAN {
+            false => wadroles::read_layer,
+            true => wadroles::read_layer_clean,
         };
-        let reading = wadroles::read_layer(&input.file, input.i, &mut lent).map_err(refused)?;
+        let reading = read_layer(&input.file, input.i, &mut tables.lend()).map_err(refused)?;
         let wadroles::Counts { contours, points } = reading.counts;
         Ok((reading.layers, reading.height, contours, points))
     }
 
     fn call_c(input: &LayerFile, tables: &mut FlatLayer, out: &mut [u64; 4]) -> u32 {
-        call_c!(wadroles_read_layer(
+        let read_layer = match CLEAN {
+            false => wadroles_read_layer,
+            true => wadroles_read_layer_clean,
+        };
+        call_c!(read_layer(
             read input.file,
             number input.i,
             lend tables.points,
@@ -70,7 +97,11 @@ impl Operation for ReadLayer {
 
     fn oracle(input: &LayerFile, tables: &mut FlatLayer) -> Answer<Self::Values> {
         let (points, ends) = (tables.points.table(), tables.ends.table());
-        oracle::read_layer(&input.file, input.i, points, ends)
+        let read_layer = match CLEAN {
+            false => oracle::read_layer,
+            true => oracle::read_layer_clean,
+        };
+        read_layer(&input.file, input.i, points, ends)
             .map(|read| (read.layers, read.height, read.contours, read.points))
             .map_err(|r| (r.number, r.place))
     }

@@ -9,7 +9,7 @@ mod refusals;
 mod runs;
 mod worked;
 
-pub use random::{random_number, random_origin, spoil_layer};
+pub use random::{random_end, random_number, random_origin, spoil_layer};
 
 use crate::harness::{agree, Answer, Case};
 use crate::operations::{Drawing, Preview, PreviewRun};

@@ -57,8 +57,7 @@ pub fn random_number(calls: usize, random: &mut Random) -> usize {
 }
 
 /// Breaks a rule of a layer at a random place, if it has one.
-pub fn spoil_layer(drawing: &mut Drawing, random: &mut Random) {
-    let Drawing { points, ends, .. } = drawing;
+pub fn spoil_layer(points: &mut Vec<i32>, ends: &mut Vec<u32>, random: &mut Random) {
     match random.below(6) {
         0 => points.truncate(points.len().saturating_sub(1 + random.below(2))),
         1 => points.extend(vec![0; 1 + random.below(3)]),
@@ -77,7 +76,7 @@ pub fn spoil_layer(drawing: &mut Drawing, random: &mut Random) {
 }
 
 /// An end near those of a small layer as a rule.
-fn random_end(numbers: usize, random: &mut Random) -> u32 {
+pub fn random_end(numbers: usize, random: &mut Random) -> u32 {
     match random.below(6) {
         0 => random.word() as u32,
         1 => random.choose(&[u32::MAX, 1 << 31, 0, 1]),
@@ -102,7 +101,7 @@ fn right(random: &mut Random) -> Drawing {
 fn spoiled(random: &mut Random) -> Drawing {
     let mut drawing = right(random);
     for _ in 0..random.choose(&[1, 1, 2]) {
-        spoil_layer(&mut drawing, random);
+        spoil_layer(&mut drawing.points, &mut drawing.ends, random);
     }
     drawing
 }
@@ -138,7 +137,7 @@ fn near_the_limit(random: &mut Random) -> Drawing {
     let layer = large_layers(random).pop().expect("there are some");
     let mut drawing = of_contours(&layer.contours, random);
     match random.below(4) {
-        0 => spoil_layer(&mut drawing, random),
+        0 => spoil_layer(&mut drawing.points, &mut drawing.ends, random),
         1 => {
             // One contour more.
             drawing.points.extend([0; 6]);

@@ -8,6 +8,9 @@ mod refusal_order;
 mod rules;
 mod worked;
 
+pub use promises::{layers_by, product_layers, spoiled};
+pub use random::{against_the_rules, meaningless, near_the_limits, of_layers, right};
+
 use crate::harness::{agree, Case};
 use crate::operations::{LayerFile, ReadLayer};
 

@@ -8,13 +8,22 @@ use files::{random_layers, Damage};
 use meshes::{random_height, Random};
 use oracle::{encode_layers, FileLayer};
 use std::collections::BTreeSet;
+use wadroles::{Reading, Refusal};
 
 /// The layers that the product reads out of a file, or a refusal's number and place.
-fn product_layers(file: &[u8]) -> Answer<Vec<FileLayer>> {
+pub fn product_layers(file: &[u8]) -> Answer<Vec<FileLayer>> {
+    layers_by(wadroles::read_layer, file)
+}
+
+/// A reading of the product.
+type Read = fn(&[u8], usize, &mut wadroles::FlatLayer) -> Result<Reading, Refusal>;
+
+/// The same by one of the readings.
+pub fn layers_by(read: Read, file: &[u8]) -> Answer<Vec<FileLayer>> {
     let mut layers = Vec::new();
     loop {
         let i = layers.len();
-        match product_layer(file, i) {
+        match layer_by(read, file, i) {
             Ok((layer, count)) if i + 1 < count => layers.push(layer),
             Ok((layer, _)) => {
                 layers.push(layer);
@@ -28,29 +37,29 @@ fn product_layers(file: &[u8]) -> Answer<Vec<FileLayer>> {
 }
 
 /// A layer that the product reads, and the number of layers in the file.
-fn product_layer(file: &[u8], i: usize) -> Answer<(FileLayer, usize)> {
+fn layer_by(read: Read, file: &[u8], i: usize) -> Answer<(FileLayer, usize)> {
     // Each value takes a byte at least.
     let (mut points, mut ends) = (vec![0; file.len()], vec![0; file.len()]);
     let mut tables = wadroles::FlatLayer {
         points: &mut points,
         ends: &mut ends,
     };
-    let read = wadroles::read_layer(file, i, &mut tables).map_err(refused)?;
-    let counts = read.counts;
+    let reading = read(file, i, &mut tables).map_err(refused)?;
+    let counts = reading.counts;
     let ends = &ends[..counts.contours];
     assert_eq!(ends.last().map_or(0, |&end| end as usize), counts.points);
     let contours = (0..counts.contours)
         .map(|j| wadroles::contour(&points, ends, j))
         .map(|part| part.chunks(2).map(|p| [p[0], p[1]]).collect());
     let layer = FileLayer {
-        height: read.height,
+        height: reading.height,
         contours: contours.collect(),
     };
-    Ok((layer, read.layers))
+    Ok((layer, reading.layers))
 }
 
 /// The file of random layers after some damage.
-fn spoiled(random: &mut Random) -> Vec<u8> {
+pub fn spoiled(random: &mut Random) -> Vec<u8> {
     let mut file = encode_layers(&random_layers(random));
     for _ in 0..random.choose(&[1, 1, 2]) {
         Damage::any(random).apply(&mut file, random);

@@ -15,17 +15,18 @@ fn random_layer(layers: usize, random: &mut Random) -> usize {
     }
 }
 
-fn of_layers(layers: &[FileLayer], random: &mut Random) -> LayerFile {
+/// The file of these layers.
+pub fn of_layers(layers: &[FileLayer], random: &mut Random) -> LayerFile {
     LayerFile::of(layers, random_layer(layers.len(), random))
 }
 
 /// The file of some layers.
-fn right(random: &mut Random) -> LayerFile {
+pub fn right(random: &mut Random) -> LayerFile {
     of_layers(&random_layers(random), random)
 }
 
 /// A file of values in the right form that break a rule.
-fn against_the_rules(random: &mut Random) -> LayerFile {
+pub fn against_the_rules(random: &mut Random) -> LayerFile {
     let mut layers = random_layers(random);
     for _ in 0..random.choose(&[1, 1, 2]) {
         LayerDamage::any(random).apply(&mut layers, random);
@@ -49,7 +50,7 @@ pub fn perhaps_broken(random: &mut Random) -> LayerFile {
 }
 
 /// Bytes that look like a file at most for a while.
-fn meaningless(random: &mut Random) -> LayerFile {
+pub fn meaningless(random: &mut Random) -> LayerFile {
     let mut file = random_bytes(random);
     if let Some(count) = file.first_mut() {
         *count %= 4;
@@ -61,7 +62,7 @@ fn meaningless(random: &mut Random) -> LayerFile {
 }
 
 /// A file near the limits, right or not.
-fn near_the_limits(random: &mut Random) -> LayerFile {
+pub fn near_the_limits(random: &mut Random) -> LayerFile {
     let mut layers = large_layers(random);
     if random.one_in(4) {
         LayerDamage::any(random).apply(&mut layers, random);
