@@ -59,7 +59,7 @@ extern "C" {
 /* The version. Until 1.0 a change of behaviour or of a file raises the minor
  * number. */
 #define WADROLES_VERSION_MAJOR 0
-#define WADROLES_VERSION_MINOR 4
+#define WADROLES_VERSION_MINOR 5
 #define WADROLES_VERSION_PATCH 0
 
 /* The most vertices and triangles a mesh may have. */
@@ -77,6 +77,9 @@ extern "C" {
 /* The most layers that a layer file has, and heights that wadroles_all_layers
  * and wadroles_all_layers_clean take. */
 #define WADROLES_MAX_LAYERS 4096
+
+/* The greatest thickness that wadroles_ink takes, in micrometres. */
+#define WADROLES_MAX_THICKNESS 1000
 
 /* An entry of a ring table whose corner is no crossing. */
 #define WADROLES_NO_CORNER 4294967295u
@@ -123,7 +126,9 @@ enum wadroles_refusal {
     /* An origin that is not whole or out of range. */
     WADROLES_ORIGIN = 17,
     /* A contour of a file that is not clean. */
-    WADROLES_UNCLEAN = 18
+    WADROLES_UNCLEAN = 18,
+    /* A thickness out of range. */
+    WADROLES_THICKNESS = 19
 };
 
 /*
@@ -780,6 +785,36 @@ uint32_t wadroles_read_layer_clean(const uint8_t *file, size_t file_len,
                                    int32_t *points, size_t points_len,
                                    uint32_t *ends, size_t ends_len,
                                    uint64_t out[4]);
+
+/*
+ * Finds what a job is charged for ink, in whole nanolitres; a nanolitre is
+ * 1,000,000 cubic micrometres. The job is a layer file, and all of its layers
+ * are equally thick:
+ *
+ *   file       the one that wadroles_read_layer reads; a file in the clean
+ *              profile is one too
+ *   thickness  in micrometres, from 1 to WADROLES_MAX_THICKNESS
+ *
+ * The charge of a layer is s thickness / 2,000,000, rounded up to a whole
+ * number; s is the sum of the doubled areas of its contours, as wadroles_area
+ * gives them, so holes are taken off. A layer with s below zero is charged
+ * nothing. The charge of the job is the sum over its layers, each rounded up by
+ * itself. It is exact for every file.
+ *
+ * On success out[0] is the charge of the job. No table is written.
+ *
+ * The tests, in this sequence; the first that fails is the refusal:
+ *
+ *   WADROLES_FILE      a value of the file is missing, cut short, longer than
+ *                      it need be, over 32 bits or breaks a rule of the file;
+ *                      or bytes are left over after the last value; place as
+ *                      wadroles_read_layer's
+ *   WADROLES_THICKNESS thickness is 0, or more than WADROLES_MAX_THICKNESS;
+ *                      place 0
+ */
+uint32_t wadroles_ink(const uint8_t *file, size_t file_len,
+                      uint32_t thickness,
+                      uint64_t out[4]);
 
 #ifdef __cplusplus
 }

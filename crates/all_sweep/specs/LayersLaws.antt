@@ -144,19 +144,23 @@ module _ {p : Profile} {m : OrderedMesh} {heights : List ℤ} {w w′ : WorkTabl
     unfolding unlessRefused
     all-layers-output = ap (λ (t : WorkTables × List ℕ). t .1) (left-given f e) ∙ ap (λ (file : List ℕ). overwrite file output) all-layers-cut
 
-    -- the file of tables of 32-bit numbers is read back as the layers that it was written from
-    pub all-layers-reads-back : Words (m .paired .mesh .coords) → Words heights
-        → layersOfIn p (sweptFile p m (w .ring) (heightsTaken (m .paired .mesh .coords) heights))
-        ≡ holds (map (cutIn p (m .paired)) (heightsTaken (m .paired .mesh .coords) heights))
-    all-layers-reads-back c k =
-        let hs = heightsTaken (m .paired .mesh .coords) heights in
-        let t = all-layers-tested in
-        let words = taken-fit (m .paired .mesh .coords) c heights k in
-        ap (layersOfIn p) all-layers-cut
-        ∙ read-back-in p (map (cutIn p (m .paired)) hs)
-        (record {
-          few = omega (arith, t .few, length-map hs (cutIn p (m .paired)));
-          rises = rise-rules p (m .paired) (t .right) lowest hs (λ l. above-lowest _ (words 0 l)) (t .rises);
-          each = each-rules p (m .paired) (t .right) hs words;
-        })
-        (cuts-stay p (m .paired) hs)
+    -- of tables of 32-bit numbers the file of the single cuts is read back in either profile as the layers that it was written from, and so is the swept one
+    module _ (c : Words (m .paired .mesh .coords)) (k : Words heights) where
+      pub cuts-read-back : (q : Profile)
+          → layersOfIn q (cutFile q (m .paired) (heightsTaken (m .paired .mesh .coords) heights))
+          ≡ holds (map (cutIn q (m .paired)) (heightsTaken (m .paired .mesh .coords) heights))
+      cuts-read-back q =
+          let hs = heightsTaken (m .paired .mesh .coords) heights in
+          let t = all-layers-tested in
+          let words = taken-fit (m .paired .mesh .coords) c heights k in
+          read-back-in q (map (cutIn q (m .paired)) hs)
+          (record {
+            few = omega (arith, t .few, length-map hs (cutIn q (m .paired)));
+            rises = rise-rules q (m .paired) (t .right) lowest hs (λ l. above-lowest _ (words 0 l)) (t .rises);
+            each = each-rules q (m .paired) (t .right) hs words;
+          })
+          (cuts-stay q (m .paired) hs)
+
+      pub all-layers-reads-back : layersOfIn p (sweptFile p m (w .ring) (heightsTaken (m .paired .mesh .coords) heights))
+          ≡ holds (map (cutIn p (m .paired)) (heightsTaken (m .paired .mesh .coords) heights))
+      all-layers-reads-back = ap (layersOfIn p) all-layers-cut ∙ cuts-read-back p

@@ -11,7 +11,6 @@ use lib.Dec.{leb}
 use lib.ListN.{length, getD, take}
 use lib.IntN.{ℤ, pos, natAbs}
 use Rattle.laws.specs.Booleans.{and-parts}
-use Rattle.laws.specs.TableLaws.{overwrite-front}
 use Rattle.mesh.specs.Corners.{largest}
 use Rattle.mesh.specs.Operation.{gives, refuses, fine, verdict, unlessRefused}
 use Rattle.mesh.specs.OperationLaws.{First, None, more, done, fine-none, none-fine, join-fine, Recovers, given-verdict, refused-exactly, given-exactly}
@@ -21,12 +20,12 @@ use Rattle.mesh.specs.RefusalLaws.{refusalOf, refusal-once}
 use Rattle.mesh.specs.Tests.{outOfRange}
 use Rattle.polygons.specs.Flat.{Point, fewestPoints, pointTotal, Each, FlatLayer, flat, flatOf, numbersOf, endsRise, lastEnd, endBefore, polygonsOf, layerTests}
 use Rattle.polygons.specs.FlatLaws.{FlatTested, layer-parts, layer-of, end-rises, each-at, each-join, each-parts, polygons-flat, flat-polygons, layer-polygons}
-use Rattle.polygons.specs.FlatLaws.{polygons-tested, length-points, length-ends}
+use Rattle.polygons.specs.FlatLaws.{polygons-tested, length-points, length-ends, front-holding}
 use Rattle.file_write.specs.LayerTables.{EndsWithin}
 use Rattle.cleaning.specs.Cleaning.{cleaned}
 use Rattle.cleaning.specs.CleaningLaws.{AllClean, cleaned-clean, cleaned-twice}
 use Rattle.cleaning.specs.SizeLaws.{each-cleaned, cleaned-polygons}
-use Rattle.cleaning.specs.Areas.{layerArea}
+use Rattle.polygons.specs.ContourAreas.{layerArea}
 use Rattle.cleaning.specs.AreaLaws.{area-cleaned}
 use Rattle.clean_layers.specs.Layers.{CleanTables, holding, layerFront}
 use Rattle.clean.specs.declared.CleanAnswer.{CleanAnswer}
@@ -74,10 +73,6 @@ clean-recovers = record {
 }
 
 -- ---- what Clean leaves is a layer
-
-pub front-holding : (cs : List (List Point)) (u : FlatLayer) → layerFront (length cs, pointTotal cs) (holding cs u) ≡ flatOf cs
-front-holding cs u =
-    λ i. flat (overwrite-front (flatOf cs .points) (u .points) (length-points cs) i) (overwrite-front (flatOf cs .ends) (u .ends) (length-ends 0 cs) i)
 
 -- every number of a row, every number of its points
 module _ (P : ℤ → Type 0) where

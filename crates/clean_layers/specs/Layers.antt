@@ -1,10 +1,10 @@
 -- What cleaning a layer asks of its tables, and what it leaves in those that it fills.
-use Prim.Native.Nat.{ℕ, _*_, _≤_}
+use Prim.Native.Nat.{ℕ, _≤_}
 use mathlib.Core.Path.{_≡_}
 use mathlib.Core.List.{List}
 use lib.ListN.{length, take}
-use Rattle.laws.specs.Tables.{overwrite}
-use Rattle.polygons.specs.Flat.{Point, pointTotal, FlatLayer, flat, flatOf, polygonsOf}
+use Rattle.polygons.specs.Flat.{Point, pointTotal, FlatLayer, flat, polygonsOf}
+pub use Rattle.polygons.specs.Flat.{holding, layerFront}
 use Rattle.file_write.specs.LayerTables.{EndsWithin}
 use Rattle.cleaning.specs.Cleaning.{cleaned}
 use Rattle.cleaning.specs.declared.Profile.{Profile}
@@ -15,14 +15,6 @@ pub record CleanTables (t u : FlatLayer) : Type 0 where
   pub rise : EndsWithin (length (t .points)) 0 (t .ends)
   pub points-room : length (t .points) ≤ length (u .points)
   pub ends-room : length (t .ends) ≤ length (u .ends)
-
--- contours in the first entries of two tables, all else as before
-abbrev pub holding : List (List Point) → FlatLayer → FlatLayer
-holding cs t = let filled = flatOf cs in flat (overwrite (filled .points) (t .points)) (overwrite (filled .ends) (t .ends))
-
--- and back: the layer of so many contours and points in the first entries of two tables
-abbrev pub layerFront : ℕ × ℕ → FlatLayer → FlatLayer
-layerFront = λ (contours, points) t. flat (take (2 * points) (t .points)) (take contours (t .ends))
 
 -- they stand there, and how many contours and points they are
 pub record Fills (cs : List (List Point)) (t : FlatLayer) (contours points : ℕ) (t′ : FlatLayer) : Type 0 where

@@ -8,9 +8,8 @@ use borrow.Author.Tests.{leb-false}
 use lib.IntN.{ℤ, pos, _+ℤ_, _-ℤ_, _*ℤ_, +ℤ-idl, +ℤ-idr}
 use Rattle.laws.specs.Ring.{ring, x, #, _⊕_, _⊖_, _⊗_}
 use Rattle.polygons.specs.Flat.{Point}
-use Rattle.polygons.specs.ContourAreas.{crossPoints, areaFrom, contourArea}
+use Rattle.polygons.specs.ContourAreas.{crossPoints, areaFrom, contourArea, layerArea}
 use Rattle.cleaning.specs.Cleaning.{samePoint, unrepeated, trimmed, neat, variety, fewestDifferent, kept, cleaned}
-use Rattle.cleaning.specs.Areas.{layerArea}
 use Rattle.cleaning.specs.Tests.{others}
 use Rattle.cleaning.specs.PointLaws.{decide, cons-apart, same-is, unrepeated-same, unrepeated-new, Trims, goes, stays, trims}
 use Rattle.cleaning.specs.CleaningLaws.{cleaned-kept, cleaned-dropped}

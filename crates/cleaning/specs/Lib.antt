@@ -1,7 +1,6 @@
 -- Cleaning contours and layers, the two profiles, and the laws of cleaning.
 pub mod Cleaning
 pub mod Profiles
-pub mod Areas
 pub mod Tests
 pub mod PointLaws
 pub mod VarietyLaws

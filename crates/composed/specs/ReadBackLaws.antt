@@ -12,12 +12,12 @@ use Rattle.mesh.specs.Meshes.{PairedMesh, OrderedMesh}
 use Rattle.mesh.specs.Operation.{gives, fine, after}
 use Rattle.mesh.specs.OperationLaws.{given-verdict, left-given}
 use Rattle.polygons.specs.Flat.{FlatLayer, flat, flatOf, numbersOf, endsOf, pointTotal, polygonsOf}
-use Rattle.polygons.specs.FlatLaws.{length-points, length-ends, polygons-flat}
+use Rattle.polygons.specs.FlatLaws.{length-points, length-ends, polygons-flat, front-holding}
 use Rattle.cleaning.specs.Cleaning.{cleaned}
 use Rattle.cleaning.specs.declared.Profile.{Profile}
 use Rattle.cleaning.specs.declared.Profile.the-variants.{Full, Clean}
 use Rattle.clean_layers.specs.Layers.{layerFront}
-use Rattle.clean.specs.CleanLaws.{front-holding, clean-holds}
+use Rattle.clean.specs.CleanLaws.{clean-holds}
 use Rattle.cut.specs.declared.CutAnswer.{CutAnswer}
 use Rattle.cut_points.specs.Points.{pointOf}
 use Rattle.cut.specs.Cut.{CutTables, section, contoursOf, tellCut, Cuts}

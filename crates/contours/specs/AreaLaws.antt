@@ -19,6 +19,7 @@ use Rattle.mesh.specs.Refusals.{Told}
 use Rattle.mesh.specs.RefusalLaws.{refusalOf, refusal-once}
 use Rattle.mesh.specs.Tests.{outOfRange}
 use Rattle.mesh.specs.TestLaws.{in-range}
+use Rattle.polygons.specs.AreaBoundLaws.{cross-le}
 use Rattle.contours.specs.declared.AreaAnswer.{AreaAnswer}
 use Rattle.contours.specs.declared.AreaAnswer.the-variants.{Area, Refused}
 use Rattle.contours.specs.Areas.{mostPoints, pointCount, xOf, yOf, crossOf, nextPoint, sumOf, areaOf, runFits, measuring, tellArea, Measures}
@@ -73,13 +74,6 @@ area-closed points last e =
     count = omega arith
 
 -- ---- tested points
-
--- a cross product of four coordinates
-pub cross-le : (x y u v : ℤ) → natAbs x ≤ largest → natAbs y ≤ largest → natAbs u ≤ largest → natAbs v ≤ largest → natAbs (x *ℤ v -ℤ u *ℤ y) ≤ largestCross
-cross-le x y u v hx hy hu hv =
-    let a : natAbs x * natAbs v ≤ largest * largest = mul-le-mul hx hv in
-    let b : natAbs u * natAbs y ≤ largest * largest = mul-le-mul hu hy in
-    omega (arith, abs-sub (x *ℤ v) (u *ℤ y), abs-mul x v, abs-mul u y)
 
 pub cross-bound : (points : List ℤ) → PointRun points → (i k : ℕ) → natAbs (crossOf points i k) ≤ largestCross
 unfolding crossOf

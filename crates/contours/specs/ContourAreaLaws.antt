@@ -15,7 +15,7 @@ use Rattle.contours.specs.Contours.{contourOf}
 use Rattle.contours.specs.PolygonLaws.{contour-polygon}
 use Rattle.polygons.specs.ContourAreas.{crossPoints, areaFrom, contourArea}
 
-sum-front : (n : ℕ) (f : ℕ → ℤ) → sumOf (suc n) f ≡ f zero +ℤ sumOf n (λ i. f (suc i))
+pub sum-front : (n : ℕ) (f : ℕ → ℤ) → sumOf (suc n) f ≡ f zero +ℤ sumOf n (λ i. f (suc i))
 unfolding sumOf
 sum-front zero f = +ℤ-idl (f zero) ∙ sym (+ℤ-idr (f zero))
 sum-front (suc n) f =

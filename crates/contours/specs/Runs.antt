@@ -1,15 +1,12 @@
--- A run of points that Area does not refuse, and how large a cross product of its points can be.
-use Prim.Native.Nat.{ℕ, _*_, _%_, _≤_}
+-- A run of points that Area does not refuse.
+use Prim.Native.Nat.{ℕ, _%_, _≤_}
 use mathlib.Core.Path.{_≡_}
 use mathlib.Core.List.{List}
 use lib.ListN.{length, getD}
 use lib.IntN.{ℤ, pos, natAbs}
 use Rattle.mesh.specs.Corners.{largest}
+pub use Rattle.polygons.specs.ContourAreas.{largestCross}
 use Rattle.contours.specs.Areas.{mostPoints, pointCount}
-
--- the largest cross product of two points in range
-abbrev pub largestCross : ℕ
-largestCross = 2 * (largest * largest)
 
 -- an even length, not too many points, every number in range
 pub record PointRun (points : List ℤ) : Type 0 where

@@ -1,18 +1,8 @@
 // The doubled area of points that the tests have passed, by trapezoids.
 ghost use mathlib.Core.Path.{_≡_};
-ghost use Prim.Native.Nat.{_*_, _≤_};
-ghost use lib.IntN.{natAbs, _+ℤ_, _-ℤ_, _*ℤ_};
-ghost use Rattle.mesh.specs.Corners.{largest};
 ghost use Rattle.contours.specs.Areas.{areaOf};
-ghost use Rattle.contours.specs.Runs.{largestCross, PointRun};
-
-// Twice the signed area between the x axis and the edge from (x, y) to (u, v), and that it is small.
-fn trapezoid(x: i64, y: i64, u: i64, v: i64) -> i64
-    requires { ⌜ (natAbs x ≤ largest) × (natAbs y ≤ largest) × (natAbs u ≤ largest) × (natAbs v ≤ largest) ⌝ }
-    ensures result { λ r. ⌜ (r ≡ (x -ℤ u) *ℤ (y +ℤ v)) × (natAbs r ≤ 2 * largestCross) ⌝ }
-{
-    (x - u) * (y + v)
-}
+ghost use Rattle.contours.specs.Runs.{PointRun};
+use area_sum::unchecked::trapezoid;
 
 // The doubled signed area of points that Area does not refuse.
 pub fn doubled_area(points: &[i32]) -> i64

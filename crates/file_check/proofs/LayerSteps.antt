@@ -1,5 +1,5 @@
--- Layers one by one, and the end of the file: a lemma for each return of `read_height`, `check_layers` and `check_last`.
-use mathlib.Core.Path.{_≡_, ap}
+-- Layers one by one, and the end of the file: a lemma for each return of `read_height`, `check_layer`, `check_layers` and `check_last`.
+use mathlib.Core.Path.{_≡_, sym, ap, _∙_, subst}
 use mathlib.Core.Bool.{true, false}
 use mathlib.Core.List.{List}
 use Prim.Native.Nat.{ℕ, _-_, _<_, _≤_}
@@ -10,6 +10,7 @@ use lib.Signed.{ltZ}
 use Rattle.cleaning.specs.declared.Profile.{Profile}
 use Rattle.file_formats.specs.Formats.{Format, sequence}
 use Rattle.file_formats.specs.Numbers.{largestWord, unzigzag}
+use Rattle.polygons.specs.ContourAreas.{layerArea}
 use Rattle.file_formats.specs.LayerFile.{heightAbove, layerFormatIn, heightOf}
 use Rattle.file_formats.specs.LayerFileLaws.{height-bad, height-low, height-above}
 use Rattle.file_formats.specs.Positions.{numberAt, extentAt}
@@ -18,12 +19,13 @@ use Rattle.file_formats.specs.declared.Number.the-variants.{Value, Bad as Numbe
 use Rattle.file_formats.specs.declared.Extent.the-variants.{End as ExtentEnd, Refused as ExtentRefused}
 use Rattle.file_check.specs.declared.Height.the-variants.{Above, Bad as HeightBad}
 use Rattle.file_check.specs.declared.CountsExtent.the-variants.{End as CountsEnd, Refused as CountsRefused}
+use Rattle.file_check.specs.declared.LayerExtent.the-variants.{End as LayerEnd, Refused as LayerRefused}
 use Rattle.file_check.specs.declared.LevelsExtent.{LevelsExtent}
 use Rattle.file_check.specs.declared.LevelsExtent.the-variants.{End, Refused}
-use Rattle.file_check.specs.Answers.{heightToldAt, countsAt, levelsAt, final}
-use Rattle.file_check.specs.AnswerLaws.{told-parsed, told-refused, Off, counts-read, levels-read, levels-off, final-off, final-over, final-whole}
-use Rattle.file_check.specs.AnswerLaws.{layer-no-height, height-inside, layer-no-contours, layer-read}
-use Rattle.file_check.proofs.Runs.{Running, run-off, run-next}
+use Rattle.file_check.specs.Answers.{heightToldAt, countsAt, layerToldAt, levelsAt, final}
+use Rattle.file_check.specs.AnswerLaws.{told-parsed, told-refused, told-off, Off, counts-read, levels-read, levels-off, final-off, final-over}
+use Rattle.file_check.specs.AnswerLaws.{final-whole, layer-told, layer-off, layer-no-height, height-inside, layer-no-contours, layer-read}
+use Rattle.file_check.specs.RunLaws.{Running, run-off, run-next}
 
 -- ---- a height
 
@@ -43,28 +45,45 @@ module _ (low : ℤ) (file : List ℕ) (at : ℕ) where
         told-parsed Above (λ q. HeightBad) (heightAbove low) file at (unzigzag m) next
         (record { inside = w .inside; parses = height-above low (drop at file) m (drop next file) (w .parses) t })
 
+-- ---- a layer, by its height and its contours
+
+module _ (p : Profile) (low : ℤ) (file : List ℕ) (at : ℕ) (h : at ≤ length file) where
+  layer-refused : {i : ℕ} → Off (layerFormatIn p low) file at i → LayerRefused i ≡ layerToldAt p low file at
+  layer-refused o = told-off (λ l next. LayerEnd next (l .height) (layerArea (l .contours))) LayerRefused (layerFormatIn p low) file at o
+
+  pub height-stops : heightToldAt low file at ≡ HeightBad → LayerRefused at ≡ layerToldAt p low file at
+  height-stops e = layer-refused (layer-no-height p low file at h e)
+
+  module _ {z : ℤ} {j : ℕ} (e : heightToldAt low file at ≡ Above z j) where
+    pub height-in : j ≤ length file
+    height-in = height-inside p low file at h z j e
+
+    pub contours-stop : {i : ℕ} → countsAt p file j ≡ CountsRefused i → LayerRefused i ≡ layerToldAt p low file at
+    contours-stop {i} f = layer-refused (layer-no-contours p low file at h z j e i f)
+
+    pub contours-pass : {next k m : ℕ} {sum : ℤ} → countsAt p file j ≡ CountsEnd next k m sum → {y : ℤ} → y ≡ z → {s : ℤ} → s ≡ sum
+        → LayerEnd next y s ≡ layerToldAt p low file at
+    contours-pass {next} {k} {m} {sum} f z-is sum-is =
+        let q = counts-read p file j height-in next k m sum f in
+        (λ i. LayerEnd next (z-is i) ((sum-is ∙ sym (q .1 .area-is)) i))
+        ∙ told-parsed (λ l next. LayerEnd next (l .height) (layerArea (l .contours))) LayerRefused (layerFormatIn p low) file at
+        (record { height = z; contours = q .0 }) next (layer-read p low file at h z j e (q .0) next k m sum (q .1))
+
 -- ---- the loop over the layers
 
 abbrev pub LayerRun : Profile → List ℕ → LevelsExtent → ℤ → ℕ → ℕ → Type 0
 LayerRun p file total low i left = Running (layerFormatIn p) heightOf (λ z next. End next z) Refused file total low i left
 
 module _ (p : Profile) {file : List ℕ} {total : LevelsExtent} {low : ℤ} {i left : ℕ} (w : LayerRun p file total low i left) (h : 0 < left) where
-  pub height-stops : heightToldAt low file i ≡ HeightBad → Refused i ≡ total
-  height-stops e = run-off (layerFormatIn p) heightOf (λ z next. End next z) Refused file left w h i (layer-no-height p low file i (w .inside) e)
+  pub layer-stops : {e : ℕ} → layerToldAt p low file i ≡ LayerRefused e → Refused e ≡ total
+  layer-stops {e} f = run-off (layerFormatIn p) heightOf (λ z next. End next z) Refused file left w h e (layer-off p low file i f)
 
-  module _ {z : ℤ} {j : ℕ} (e : heightToldAt low file i ≡ Above z j) where
-    pub height-in : j ≤ length file
-    height-in = height-inside p low file i (w .inside) z j e
-
-    pub contours-stop : {k : ℕ} → countsAt p file j ≡ CountsRefused k → Refused k ≡ total
-    contours-stop {k} f =
-        run-off (layerFormatIn p) heightOf (λ z next. End next z) Refused file left w h k (layer-no-contours p low file i (w .inside) z j e k f)
-
-    pub layer-passes : {next c m : ℕ} → countsAt p file j ≡ CountsEnd next c m → LayerRun p file total z next (left - 1)
-    layer-passes {next} {c} {m} f =
-        let q = counts-read p file j height-in next c m f in
-        run-next (layerFormatIn p) heightOf (λ z next. End next z) Refused file left w h (record { height = z; contours = q .0 }) next
-        (layer-read p low file i (w .inside) z j e (q .0) next c m (q .1))
+  pub layer-passes : {next : ℕ} {z sum : ℤ} → layerToldAt p low file i ≡ LayerEnd next z sum → {y : ℤ} → y ≡ z
+      → LayerRun p file total y next (left - 1)
+  layer-passes {next} f same =
+      let q = layer-told p low file i (w .inside) f in
+      subst (λ (z : ℤ). LayerRun p file total z next (left - 1)) (q .1 .height-is ∙ sym same)
+      (run-next (layerFormatIn p) heightOf (λ z next. End next z) Refused file left w h (q .0) next (q .1 .stands))
 
 -- ---- the end of the file
 

@@ -1,16 +1,19 @@
 -- A coordinate by its number, and the points of a contour one by one: a lemma for each return of `read_coordinate`, `check_full_points` and
 -- `check_clean_points`.
-use mathlib.Core.Path.{_≡_, refl, sym, _∙_, subst}
+use mathlib.Core.Path.{_≡_, refl, sym, _∙_}
 use mathlib.Core.Bool.{Bool, true}
 use mathlib.Core.List.{List, [], _∷_}
-use Prim.Native.Nat.{ℕ, zero, suc, _-_, _<_, _≤_}
+use Prim.Native.Nat.{ℕ, _-_, _<_, _≤_}
 use native.Mathlib.Omega.{arith}
 use lib.ListN.{length, drop}
 use lib.IntN.{ℤ, pos, negsuc, natAbs, _+ℤ_}
 use lib.Signed.{_≤ℤ_, _<ℤ_}
 use borrow.Author.Tests.{le-leb, lt-leb}
+use mir.Syntax.{w32}
+use mir.Val.{toZ, ofZ}
+use Rattle.laws.specs.Machine.{same-in}
 use Rattle.laws.specs.Integers.{abs-is, one-zero, le-in, lt-in}
-use Rattle.mesh.specs.Corners.{largest}
+use Rattle.mesh.specs.Corners.{largest, mostPoints}
 use Rattle.polygons.specs.Flat.{Point, point}
 use Rattle.cleaning.specs.Profiles.{fitsIn}
 use Rattle.cleaning.specs.declared.Profile.{Profile}
@@ -18,7 +21,11 @@ use Rattle.cleaning.specs.declared.Profile.the-variants.{Full, Clean}
 use Rattle.clean_test.specs.Seeing.{unseen, seeing, seenClean, seenAll}
 use Rattle.clean_test.specs.SeeingLaws.{seen-clean}
 use Rattle.clean_test.specs.declared.ContourSeen.{ContourSeen}
-use Rattle.file_formats.specs.Formats.{Format, andThen, mapped, parseAll, stateAfter, sequence}
+use Rattle.polygons.specs.ContourAreas.{contourArea}
+use Rattle.area_sum.specs.Summing.{unsummed, summing, closing, summedAll, SumOf, SumSmall}
+use Rattle.area_sum.specs.SummingLaws.{summed-area, sum-start, sum-next, sum-within}
+use Rattle.area_sum.specs.declared.AreaSum.{AreaSum}
+use Rattle.file_formats.specs.Formats.{Format, stateAfter}
 use Rattle.file_formats.specs.Numbers.{largestWord, unzigzag}
 use Rattle.file_formats.specs.LayerFile.{coordinateFormat, pointFormat, origin, latest}
 use Rattle.file_formats.specs.LayerFileLaws.{coordinate-bad, coordinate-far, coordinate-near, coordinate-in, point-no-x, point-no-y, point-both}
@@ -26,11 +33,11 @@ use Rattle.file_formats.specs.Positions.{numberAt}
 use Rattle.file_formats.specs.PositionLaws.{took, not-took, place-drop, ParsedAt}
 use Rattle.file_formats.specs.declared.Number.the-variants.{Value, Bad as NumberBad}
 use Rattle.file_check.specs.declared.Coordinate.the-variants.{At, Bad}
-use Rattle.file_check.specs.Answers.{answeredBy, toldAt, coordinateAt, pointsAt}
+use Rattle.file_check.specs.Answers.{coordinateAt, pointsAt}
 use Rattle.file_check.specs.AnswerLaws.{told-parsed, told-refused, Off, coordinate-read, coordinate-off}
 use Rattle.file_check.specs.declared.PointsExtent.{PointsExtent}
 use Rattle.file_check.specs.declared.PointsExtent.the-variants.{End as PointsEnd, Refused as PointsRefused}
-use Rattle.file_check.proofs.Runs.{Running, running, run-off, run-next, run-end}
+use Rattle.file_check.specs.RunLaws.{Running, run-off, run-next, run-end, running-of}
 
 -- ---- coordinate range
 
@@ -42,6 +49,13 @@ too-high z h = omega (arith, lt-in h, abs-is z, one-zero z)
 
 pub coordinate-in-range : (z : ℤ) → negsuc 1048575 ≤ℤ z → z ≤ℤ pos 1048576 → natAbs z ≤ largest
 coordinate-in-range z h g = omega (arith, le-in h, le-in g, abs-is z, one-zero z)
+
+-- as the 32 bits that stand for it
+pub bits-is : (z : ℤ) → natAbs z ≤ largest → toZ w32 (ofZ w32 z) ≡ z
+bits-is z h = same-in w32 z largest h tt
+
+pub bits-near : (z : ℤ) → natAbs z ≤ largest → natAbs (toZ w32 (ofZ w32 z)) ≤ largest
+bits-near z h = rw (bits-is z h) h
 
 -- ---- a coordinate
 
@@ -61,17 +75,18 @@ module _ (p : ℤ) (file : List ℕ) (at : ℕ) where
         told-parsed At (λ q. Bad) (coordinateFormat p) file at (p +ℤ unzigzag m) next
         (record { inside = w .inside; parses = coordinate-near p (drop at file) m (drop next file) (w .parses) (le-leb (natAbs (p +ℤ unzigzag m)) largest h) })
 
--- ---- the points in turn: the one before, and what all before have shown
+-- ---- the points in turn: the one before, and what all before have shown and come to
 
 pub record Sight : Type 0 where
   pub prior : Point
   pub seen : ContourSeen
+  pub sum : AreaSum
+
+abbrev pub sight : ℤ → ℤ → ContourSeen → AreaSum → Sight
+sight x y seen sum = record { prior = point x y; seen = seen; sum = sum }
 
 abbrev pub begun : Sight
-begun = record { prior = origin; seen = unseen }
-
-abbrev pub pointAfter : Sight → Format Point
-pointAfter s = pointFormat (s .prior)
+begun = record { prior = origin; seen = unseen; sum = unsummed }
 
 -- after one more point q, where p came before: only the clean profile asks
 abbrev pub seeingIn : Profile → ContourSeen → Point → Point → ContourSeen
@@ -83,20 +98,17 @@ abbrev pub seenFits : Profile → ContourSeen → Point → Bool
 seenFits Full s p = true
 seenFits Clean s p = seenClean s p
 
+abbrev pub pointAfter : Sight → Format Point
+pointAfter s = pointFormat (s .prior)
+
 module _ (p : Profile) where
   abbrev pub passing : Sight → Point → Sight
-  passing s q = record { prior = q; seen = seeingIn p (s .seen) (s .prior) q }
+  passing s q = record { prior = q; seen = seeingIn p (s .seen) (s .prior) q; sum = summing (s .sum) (s .prior) q }
 
   abbrev pub shown : Sight → ℕ → PointsExtent
-  shown s next = PointsEnd next (seenFits p (s .seen) (s .prior))
+  shown s next = PointsEnd next (seenFits p (s .seen) (s .prior)) (closing (s .sum) (s .prior))
 
-  -- they are parsed as without what was seen
-  as-points : (n : ℕ) (s : Sight) (l : List ℕ) → parseAll pointAfter passing n s l ≡ parseAll pointFormat latest n (s .prior) l
-  unfolding parseAll
-  as-points zero s l = refl
-  as-points (suc n) s l = λ i. andThen ((pointFormat (s .prior)) .parse l) (λ q r. mapped (λ rest. q ∷ rest) (as-points n (passing s q) r i))
-
--- and after all of them it is known whether the contour may stand in the profile
+-- after all of them it is known whether the contour may stand in the profile, and its area
 shown-clean : (s : Sight) (c : List Point)
     → let t = stateAfter pointAfter (passing Clean) s c in
     seenClean (t .seen) (t .prior) ≡ seenAll (s .seen) (s .prior) c
@@ -110,39 +122,56 @@ shown-fits : (p : Profile) (c : List Point)
 shown-fits Full c = refl
 shown-fits Clean c = shown-clean begun c ∙ seen-clean origin c
 
-told-points : (p : Profile) (n : ℕ) (file : List ℕ) (at : ℕ)
-    → toldAt (λ c next. shown p (stateAfter pointAfter (passing p) begun c) next) PointsRefused (sequence pointAfter (passing p) n begun) file at
-    ≡ pointsAt p n file at
-unfolding toldAt
-told-points p n file at =
-    λ i. answeredBy (λ c next. PointsEnd next (shown-fits p c i)) PointsRefused (length file) (as-points p n begun (drop at file) i)
+shown-sum : (p : Profile) (s : Sight) (c : List Point)
+    → let t = stateAfter pointAfter (passing p) s c in
+    closing (t .sum) (t .prior) ≡ summedAll (s .sum) (s .prior) c
+unfolding summedAll
+shown-sum p s [] = refl
+shown-sum p s (q ∷ c) = shown-sum p (passing p s q) c
+
+shown-area : (p : Profile) (c : List Point)
+    → let t = stateAfter pointAfter (passing p) begun c in
+    closing (t .sum) (t .prior) ≡ contourArea c
+shown-area p c = shown-sum p begun c ∙ summed-area c
 
 -- ---- the loop over the points: x and y are those of the point before
 
-pub record PointsChecked (p : Profile) (file : List ℕ) (at count : ℕ) (seen : ContourSeen) (x y : ℤ) (i left : ℕ) : Type 0 where
+pub record PointsChecked (p : Profile) (file : List ℕ) (at count : ℕ) (seen : ContourSeen) (sum : AreaSum) (x y : ℤ) (i left : ℕ) : Type 0 where
+  pub few : count ≤ mostPoints
+  pub left-in : left ≤ count
   pub x-in : natAbs x ≤ largest
   pub y-in : natAbs y ≤ largest
-  pub run : Running pointAfter (passing p) (shown p) PointsRefused file (pointsAt p count file at) (record { prior = point x y; seen = seen }) i left
+  pub sum-in : SumOf (count - left) sum
+  pub run : Running pointAfter (passing p) (shown p) PointsRefused file (pointsAt p count file at) (sight x y seen sum) i left
 
-pub points-checked : (p : Profile) (file : List ℕ) (at count : ℕ) {s : ContourSeen} → s ≡ unseen → at ≤ length file
-    → PointsChecked p file at count s (pos 0) (pos 0) at count
-points-checked p file at count e h =
-    let from-start = running pointAfter (passing p) (shown p) PointsRefused file begun at count h in
+points-begun : (p : Profile) (file : List ℕ) (at count : ℕ) → (at ≤ length file) × (count ≤ mostPoints)
+    → PointsChecked p file at count unseen unsummed (pos 0) (pos 0) at count
+points-begun p file at count h =
     record {
+      few = h .1;
+      left-in = omega arith;
       x-in = omega arith;
       y-in = omega arith;
+      sum-in = sum-within sum-start (omega arith);
       run =
-          subst (λ (s : ContourSeen). Running pointAfter (passing p) (shown p) PointsRefused file (pointsAt p count file at)
-          (record { prior = origin; seen = s }) at
-          count)
-          (sym e)
-          (subst (λ (total : PointsExtent). Running pointAfter (passing p) (shown p) PointsRefused file total begun at count) (told-points p count file at)
-          from-start);
+          running-of pointFormat (λ s. s .prior) (passing p) latest (λ s q. refl) (shown p)
+          (λ c next. PointsEnd next (fitsIn p c) (contourArea c)) PointsRefused file begun at count
+          (λ c next i. PointsEnd next (shown-fits p c i) (shown-area p c i)) (h .0);
     }
 
-module _ {p : Profile} {file : List ℕ} {at count : ℕ} {seen : ContourSeen} {x y : ℤ} {i left : ℕ} (w : PointsChecked p file at count seen x y i left) where
-  pub points-end : left ≤ 0 → PointsEnd i (seenFits p seen (point x y)) ≡ pointsAt p count file at
-  points-end h = run-end pointAfter (passing p) (shown p) PointsRefused file left (w .run) h
+pub points-checked : (p : Profile) (file : List ℕ) (at count : ℕ) {seen : ContourSeen} {sum : AreaSum} → seen ≡ unseen → sum ≡ unsummed
+    → (at ≤ length file) × (count ≤ mostPoints)
+    → PointsChecked p file at count seen sum (pos 0) (pos 0) at count
+points-checked p file at count e f h = rw (e, f) (points-begun p file at count h)
+
+module _ {p : Profile} {file : List ℕ} {at count : ℕ} {seen : ContourSeen} {sum : AreaSum} {x y : ℤ} {i left : ℕ}
+    (w : PointsChecked p file at count seen sum x y i left) where
+  pub sum-small : SumSmall sum
+  sum-small = sum-within (w .sum-in) (omega (arith, w .few))
+
+  pub points-end : left ≤ 0 → {b : Bool} → b ≡ seenFits p seen (point x y) → {area : ℤ} → area ≡ closing sum (point x y)
+      → PointsEnd i b area ≡ pointsAt p count file at
+  points-end h e f = (λ j. PointsEnd i (e j) (f j)) ∙ run-end pointAfter (passing p) (shown p) PointsRefused file left (w .run) h
 
   module _ (h : 0 < left) where
     stops : (e : ℕ) → Off (pointFormat (point x y)) file i e → PointsRefused e ≡ pointsAt p count file at
@@ -180,17 +209,23 @@ module _ {p : Profile} {file : List ℕ} {at count : ℕ} {seen : ContourSeen} {
         pub y-near : natAbs ny ≤ largest
         y-near = coordinate-in y (drop j file) ny (drop k file) (second .parses)
 
-        pub next-point : {next : ContourSeen} → next ≡ seeingIn p seen (point x y) (point nx ny) → PointsChecked p file at count next nx ny k (left - 1)
-        next-point g =
+        point-passed : PointsChecked p file at count (seeingIn p seen (point x y) (point nx ny)) (summing sum (point x y) (point nx ny)) nx ny k (left - 1)
+        point-passed =
             record {
+              few = w .few;
+              left-in = omega (arith, w .left-in);
               x-in = x-near;
               y-in = y-near;
+              sum-in = sum-within (sum-next (point x y) (point nx ny) (w .sum-in) (w .x-in, w .y-in) (x-near, y-near)) (omega (arith, w .left-in));
               run =
-                  subst (λ (s : ContourSeen). Running pointAfter (passing p) (shown p) PointsRefused file (pointsAt p count file at)
-                  (record { prior = point nx ny; seen = s }) k (left - 1)) (sym g)
-                  (run-next pointAfter (passing p) (shown p) PointsRefused file left (w .run) h (point nx ny) k
+                  run-next pointAfter (passing p) (shown p) PointsRefused file left (w .run) h (point nx ny) k
                   (record {
                     inside = second .inside;
                     parses = point-both (point x y) (drop i file) nx (drop j file) (first .parses) ny (drop k file) (second .parses);
-                  }));
+                  });
             }
+
+        pub next-point : {seen′ : ContourSeen} {sum′ : AreaSum} → seen′ ≡ seeingIn p seen (point x y) (point nx ny)
+            → sum′ ≡ summing sum (point x y) (point nx ny)
+            → PointsChecked p file at count seen′ sum′ nx ny k (left - 1)
+        next-point g s = rw (g, s) point-passed

@@ -20,13 +20,21 @@ use Rattle.file_formats.specs.LayerFile.{Point, Layer, mostPoints, coordinateFo
 use Rattle.file_formats.specs.LayerFileLaws.{coordinate-tails, coordinate-single, contour-in, contour-in-tails, contour-within, contourList-tails}
 use Rattle.file_formats.specs.LayerFileLaws.{heightAbove-tails, height-single, layer-tails, layer-bad, layer-contours}
 use Rattle.file_formats.specs.LayerRules.{pointTotal}
+use Rattle.polygons.specs.ContourAreas.{contourArea, layerArea}
 use Rattle.file_formats.specs.declared.Number.the-variants.{Value}
 use Rattle.file_check.specs.declared.Coordinate.the-variants.{At, Bad}
 use Rattle.file_check.specs.declared.Height.the-variants.{Above, Bad as HeightBad}
 use Rattle.file_check.specs.declared.ContoursExtent.the-variants.{End, Refused}
 use Rattle.file_check.specs.declared.CountsExtent.the-variants.{End as CountsEnd, Refused as CountsRefused}
+use Rattle.file_check.specs.declared.LayerExtent.the-variants.{End as LayerEnd, Refused as LayerRefused}
 use Rattle.file_check.specs.declared.LevelsExtent.the-variants.{End as LevelsEnd, Refused as LevelsRefused}
-use Rattle.file_check.specs.Answers.{toldAt, coordinateAt, heightToldAt, contourToldAt, contoursAt, countsAt, levelsAt, final}
+use Rattle.file_check.specs.Answers.{toldAt, coordinateAt, heightToldAt, contourToldAt, contoursAt, countsAt, layerToldAt, levelsAt, final}
+
+-- part of a file is refused at the position i
+pub record Off {A : Type 0} (F : Format A) (file : List ℕ) (at i : ℕ) : Type 0 where
+  pub rest : List ℕ
+  pub parses : F .parse (drop at file) ≡ refused rest
+  pub place : i ≡ length file - length rest
 
 module _ {A B : Type 0} (good : A → ℕ → B) (bad : ℕ → B) (F : Format A) (file : List ℕ) (at : ℕ) where
   -- ---- from parsing to an answer
@@ -39,17 +47,14 @@ module _ {A B : Type 0} (good : A → ℕ → B) (bad : ℕ → B) (F : Format A
   unfolding toldAt
   told-refused r e = simp e
 
+  pub told-off : {i : ℕ} → Off F file at i → bad i ≡ toldAt good bad F file at
+  told-off o = ap bad (o .place) ∙ told-refused (o .rest) (o .parses)
+
   -- refused from the first byte on
   pub told-bad : at ≤ length file → F .parse (drop at file) ≡ refused (drop at file) → bad at ≡ toldAt good bad F file at
   told-bad h e = ap bad (sym (place-drop file at h)) ∙ told-refused (drop at file) e
 
 -- ---- and back
-
--- part of a file is refused at the position i
-pub record Off {A : Type 0} (F : Format A) (file : List ℕ) (at i : ℕ) : Type 0 where
-  pub rest : List ℕ
-  pub parses : F .parse (drop at file) ≡ refused rest
-  pub place : i ≡ length file - length rest
 
 -- answers of two kinds, by a key of the value and the position after it, or by a refused position
 pub record Kinds {K B : Type 0} (good : K → ℕ → B) (bad : ℕ → B) : Type 0 where
@@ -120,56 +125,113 @@ height-word low l z r e =
     let k = tested-in (λ n. leb n largestWord) l (parseNumber l) (j .0) r (j .1) in
     sent-word z (omega (arith, leb-true (j .0) largestWord (k .1), ap zigzag (j .2), zigzag-unzigzag (j .0)))
 
--- ---- contours, by the room after them
+-- ---- contours, by the room after them and their areas
 
-contours-kinds : Kinds (λ r next. End next r) Refused
-contours-kinds = record { apart = λ e. let n : _≡_ {A = ℕ} 0 1 = cc in omega arith; key-told = λ e. cc; next-told = λ e. cc }
+contours-kinds : Kinds (λ (k : ℕ × ℤ) next. End next (k .0) (k .1)) Refused
+contours-kinds = record { apart = λ e. let n : _≡_ {A = ℕ} 0 1 = cc in omega arith; key-told = λ e. both-told _ _ _ _ e; next-told = λ e. cc }
+  where
+    both-told : (k l : ℕ × ℤ) (n m : ℕ) → End n (k .0) (k .1) ≡ End m (l .0) (l .1) → k ≡ l
+    both-told k l n m e =
+        let a : k .0 ≡ l .0 = cc in
+        let b : k .1 ≡ l .1 = cc in
+        λ i. (a i, b i)
 
 module _ (p : Profile) (file : List ℕ) (at : ℕ) where
   module _ (room : ℕ) where
-    pub contour-read : at ≤ length file → (next r : ℕ) → contourToldAt p room file at ≡ End next r
-        → (c : List Point) × ParsedAt (contourIn p room) file at c next × (roomAfter room c ≡ r)
-    contour-read h next r e = from-good contours-kinds (roomAfter room) (contourIn p room) file at (contour-in-tails p room) h r next e
+    abbrev contourKey : List Point → ℕ × ℤ
+    contourKey c = (roomAfter room c, contourArea c)
+
+    pub record ContourTold (c : List Point) (next r : ℕ) (area : ℤ) : Type 0 where
+      pub stands : ParsedAt (contourIn p room) file at c next
+      pub room-after : roomAfter room c ≡ r
+      pub area-is : contourArea c ≡ area
+
+    pub contour-read : at ≤ length file → (next r : ℕ) (area : ℤ) → contourToldAt p room file at ≡ End next r area
+        → (c : List Point) × ContourTold c next r area
+    contour-read h next r area e =
+        let g = from-good contours-kinds contourKey (contourIn p room) file at (contour-in-tails p room) h (r, area) next e in
+        (g .0, record { stands = g .1; room-after = ap (λ q. q .0) (g .2); area-is = ap (λ q. q .1) (g .2) })
 
     pub contour-off : (i : ℕ) → contourToldAt p room file at ≡ Refused i → Off (contourIn p room) file at i
-    contour-off i e = from-off contours-kinds (roomAfter room) (contourIn p room) file at (λ j k f. cc) i e
+    contour-off i e = from-off contours-kinds contourKey (contourIn p room) file at (λ j k f. cc) i e
 
   module _ (n : ℕ) where
-    pub contours-read : at ≤ length file → (next r : ℕ) → contoursAt p n file at ≡ End next r
-        → (cs : List (List Point)) × ParsedAt (sequence (contourIn p) roomAfter n mostPoints) file at cs next
-        × (stateAfter (contourIn p) roomAfter mostPoints cs ≡ r)
-    contours-read h next r e =
-        from-good contours-kinds (stateAfter (contourIn p) roomAfter mostPoints) (sequence (contourIn p) roomAfter n mostPoints) file at
-        (sequence-tails (contourIn p) roomAfter (contour-in-tails p) n mostPoints) h r next e
+    abbrev contoursKey : List (List Point) → ℕ × ℤ
+    contoursKey cs = (stateAfter (contourIn p) roomAfter mostPoints cs, layerArea cs)
+
+    pub record ContoursTold (cs : List (List Point)) (next r : ℕ) (sum : ℤ) : Type 0 where
+      pub stands : ParsedAt (sequence (contourIn p) roomAfter n mostPoints) file at cs next
+      pub room-after : stateAfter (contourIn p) roomAfter mostPoints cs ≡ r
+      pub area-is : layerArea cs ≡ sum
+
+    pub contours-read : at ≤ length file → (next r : ℕ) (sum : ℤ) → contoursAt p n file at ≡ End next r sum
+        → (cs : List (List Point)) × ContoursTold cs next r sum
+    contours-read h next r sum e =
+        let g = from-good contours-kinds contoursKey (sequence (contourIn p) roomAfter n mostPoints) file at
+        (sequence-tails (contourIn p) roomAfter (contour-in-tails p) n mostPoints) h (r, sum) next e in
+        (g .0, record { stands = g .1; room-after = ap (λ q. q .0) (g .2); area-is = ap (λ q. q .1) (g .2) })
 
     pub contours-off : (i : ℕ) → contoursAt p n file at ≡ Refused i → Off (sequence (contourIn p) roomAfter n mostPoints) file at i
-    contours-off i e = from-off contours-kinds (stateAfter (contourIn p) roomAfter mostPoints) (sequence (contourIn p) roomAfter n mostPoints) file at
-        (λ j k f. cc) i e
+    contours-off i e = from-off contours-kinds contoursKey (sequence (contourIn p) roomAfter n mostPoints) file at (λ j k f. cc) i e
 
--- ---- the contours of a layer, by their counts
+-- ---- the contours of a layer, by their counts and their areas
 
-both-counts : (k l : ℕ × ℕ) (n m : ℕ) → CountsEnd n (k .0) (k .1) ≡ CountsEnd m (l .0) (l .1) → k ≡ l
-both-counts k l n m e =
-    let a : k .0 ≡ l .0 = cc in
-    let b : k .1 ≡ l .1 = cc in
-    λ i. (a i, b i)
+counts-kinds : Kinds (λ (k : ℕ × ℕ × ℤ) next. CountsEnd next (k .0) (k .1) (k .2)) CountsRefused
+counts-kinds = record { apart = λ e. let n : _≡_ {A = ℕ} 0 1 = cc in omega arith; key-told = λ e. all-told _ _ _ _ e; next-told = λ e. cc }
+  where
+    all-told : (k l : ℕ × ℕ × ℤ) (n m : ℕ) → CountsEnd n (k .0) (k .1) (k .2) ≡ CountsEnd m (l .0) (l .1) (l .2) → k ≡ l
+    all-told k l n m e =
+        let a : k .0 ≡ l .0 = cc in
+        let b : k .1 ≡ l .1 = cc in
+        let c : k .2 ≡ l .2 = cc in
+        λ i. (a i, b i, c i)
 
-counts-kinds : Kinds (λ (k : ℕ × ℕ) next. CountsEnd next (k .0) (k .1)) CountsRefused
-counts-kinds = record { apart = λ e. let n : _≡_ {A = ℕ} 0 1 = cc in omega arith; key-told = λ e. both-counts _ _ _ _ e; next-told = λ e. cc }
+abbrev countsKey : List (List Point) → ℕ × ℕ × ℤ
+countsKey cs = (length cs, pointTotal cs, layerArea cs)
 
 module _ (p : Profile) (file : List ℕ) (at : ℕ) where
-  pub record ContoursCounted (cs : List (List Point)) (next k m : ℕ) : Type 0 where
+  pub record ContoursCounted (cs : List (List Point)) (next k m : ℕ) (sum : ℤ) : Type 0 where
     pub stands : ParsedAt (contourListIn p) file at cs next
     pub contours : length cs ≡ k
     pub points : pointTotal cs ≡ m
+    pub area-is : layerArea cs ≡ sum
 
-  pub counts-read : at ≤ length file → (next k m : ℕ) → countsAt p file at ≡ CountsEnd next k m → (cs : List (List Point)) × ContoursCounted cs next k m
-  counts-read h next k m e =
-      let g = from-good counts-kinds (λ cs. (length cs, pointTotal cs)) (contourListIn p) file at (contourList-tails p) h (k, m) next e in
-      (g .0, record { stands = g .1; contours = ap (λ q. q .0) (g .2); points = ap (λ q. q .1) (g .2) })
+  pub counts-read : at ≤ length file → (next k m : ℕ) (sum : ℤ) → countsAt p file at ≡ CountsEnd next k m sum
+      → (cs : List (List Point)) × ContoursCounted cs next k m sum
+  counts-read h next k m sum e =
+      let g = from-good counts-kinds countsKey (contourListIn p) file at (contourList-tails p) h (k, m, sum) next e in
+      (g .0, record { stands = g .1; contours = ap (λ q. q .0) (g .2); points = ap (λ q. q .1) (g .2); area-is = ap (λ q. q .2) (g .2) })
 
   pub counts-off : (i : ℕ) → countsAt p file at ≡ CountsRefused i → Off (contourListIn p) file at i
-  counts-off i e = from-off counts-kinds (λ cs. (length cs, pointTotal cs)) (contourListIn p) file at (λ j k f. cc) i e
+  counts-off i e = from-off counts-kinds countsKey (contourListIn p) file at (λ j k f. cc) i e
+
+-- ---- a layer, by its height and its areas
+
+layer-kinds : Kinds (λ (k : ℤ × ℤ) next. LayerEnd next (k .0) (k .1)) LayerRefused
+layer-kinds = record { apart = λ e. let n : _≡_ {A = ℕ} 0 1 = cc in omega arith; key-told = λ e. both-told _ _ _ _ e; next-told = λ e. cc }
+  where
+    both-told : (k l : ℤ × ℤ) (n m : ℕ) → LayerEnd n (k .0) (k .1) ≡ LayerEnd m (l .0) (l .1) → k ≡ l
+    both-told k l n m e =
+        let a : k .0 ≡ l .0 = cc in
+        let b : k .1 ≡ l .1 = cc in
+        λ i. (a i, b i)
+
+abbrev layerKey : Layer → ℤ × ℤ
+layerKey l = (l .height, layerArea (l .contours))
+
+module _ (p : Profile) (low : ℤ) (file : List ℕ) (at : ℕ) where
+  pub record LayerTold (l : Layer) (next : ℕ) (z sum : ℤ) : Type 0 where
+    pub stands : ParsedAt (layerFormatIn p low) file at l next
+    pub height-is : l .height ≡ z
+    pub area-is : layerArea (l .contours) ≡ sum
+
+  pub layer-told : at ≤ length file → {next : ℕ} {z sum : ℤ} → layerToldAt p low file at ≡ LayerEnd next z sum → (l : Layer) × LayerTold l next z sum
+  layer-told h {next} {z} {sum} e =
+      let g = from-good layer-kinds layerKey (layerFormatIn p low) file at (layer-tails p low) h (z, sum) next e in
+      (g .0, record { stands = g .1; height-is = ap (λ q. q .0) (g .2); area-is = ap (λ q. q .1) (g .2) })
+
+  pub layer-off : {i : ℕ} → layerToldAt p low file at ≡ LayerRefused i → Off (layerFormatIn p low) file at i
+  layer-off {i} e = from-off layer-kinds layerKey (layerFormatIn p low) file at (λ j k f. cc) i e
 
 -- ---- layers, by the height of the last
 
@@ -248,8 +310,8 @@ module _ (p : Profile) (low : ℤ) (file : List ℕ) (at : ℕ) (h : at ≤ leng
         let q = o .parses in
         record { rest = o .rest; parses = by-contours ∙ simp q; place = o .place }
 
-    pub layer-read : (cs : List (List Point)) (next k m : ℕ) → ContoursCounted p file j cs next k m
+    pub layer-read : (cs : List (List Point)) (next k m : ℕ) (sum : ℤ) → ContoursCounted p file j cs next k m sum
         → ParsedAt (layerFormatIn p low) file at (record { height = z; contours = cs }) next
-    layer-read cs next k m c =
+    layer-read cs next k m sum c =
         let q = c .stands .parses in
         record { inside = c .stands .inside; parses = by-contours ∙ simp q }

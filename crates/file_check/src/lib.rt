@@ -14,21 +14,27 @@ pub enum Height {
     Bad,
 }
 
-// The position after the points of a contour, and whether it may stand in the profile; or the first refused position.
+// The position after the points of a contour, whether it may stand in the profile, and its doubled area; or the first refused position.
 pub enum PointsExtent {
-    End(usize, bool),
+    End(usize, bool, i64),
     Refused(usize),
 }
 
-// The position after contours, and for how many points their layer has room then; or the first refused position.
+// The position after contours, for how many points their layer has room then, and the sum of their doubled areas; or the first refused position.
 pub enum ContoursExtent {
-    End(usize, u64),
+    End(usize, u64, i64),
     Refused(usize),
 }
 
-// The position after the contours of a layer, and the counts of contours and points; or the first refused position.
+// The position after the contours of a layer, the counts of contours and points, and the sum of the doubled areas; or the first refused position.
 pub enum CountsExtent {
-    End(usize, u64, u64),
+    End(usize, u64, u64, i64),
+    Refused(usize),
+}
+
+// The position after a layer, its height, and the sum of its doubled areas; or the first refused position.
+pub enum LayerExtent {
+    End(usize, i64, i64),
     Refused(usize),
 }
 

@@ -3,18 +3,22 @@ ghost use mathlib.Core.Path.{_≡_};
 ghost use Prim.Native.Nat.{_≤_};
 ghost use lib.ListN.{length};
 ghost use lib.IntN.{natAbs};
-ghost use Rattle.mesh.specs.Corners.{largest};
+ghost use Rattle.mesh.specs.Corners.{largest, mostPoints};
 ghost use Rattle.cleaning.specs.declared.Profile.the-variants.{Full, Clean};
 ghost use Rattle.file_formats.specs.Formats.{sequence};
 ghost use Rattle.file_formats.specs.LayerFile.{layerFormatIn, heightOf};
 ghost use Rattle.file_formats.specs.Positions.{extentAt};
-ghost use Rattle.file_check.specs.Answers.{coordinateAt, pointsAt, heightToldAt, contourToldAt, contoursAt, countsAt, levelsAt, final};
+ghost use Rattle.file_check.specs.Answers.{coordinateAt, pointsAt, heightToldAt, contourToldAt, contoursAt, countsAt, layerToldAt, levelsAt, final};
 use crate::ContoursExtent;
 use crate::Coordinate;
 use crate::CountsExtent;
 use crate::Height;
+use crate::LayerExtent;
 use crate::LevelsExtent;
 use crate::PointsExtent;
+use area_sum::unchecked::sum_closed;
+use area_sum::unchecked::sum_none;
+use area_sum::unchecked::sum_point;
 use clean_test::ContourSeen;
 use clean_test::see;
 use clean_test::see_none;
@@ -48,11 +52,12 @@ pub fn read_coordinate(file: &[u8], at: usize, before: i32) -> Coordinate
     Coordinate::At(z as i32, next)
 }
 
-// Checks so many points of a contour of the full profile, in which any may stand.
+// Checks so many points of a contour of the full profile, in which any may stand, and adds up its area.
 fn check_full_points(file: &[u8], at: usize, count: u64) -> PointsExtent
-    requires { ⌜ at ≤ length (now file) ⌝ }
+    requires { ⌜ (at ≤ length (now file)) × (count ≤ mostPoints) ⌝ }
     ensures value { λ r. ⌜ r ≡ pointsAt Full count (file .entry .now) at ⌝ }
 {
+    let mut sum = sum_none();
     let mut x: i32 = 0;
     let mut y: i32 = 0;
     let mut i = at;
@@ -66,20 +71,22 @@ fn check_full_points(file: &[u8], at: usize, count: u64) -> PointsExtent
         let Coordinate::At(ny, k) = b else {
             return PointsExtent::Refused(j);
         };
+        sum = sum_point(sum, x, y, nx, ny);
         x = nx;
         y = ny;
         i = k;
         left -= 1;
     }
-    PointsExtent::End(i, true)
+    PointsExtent::End(i, true, sum_closed(sum, x, y))
 }
 
 // The same in the clean profile, where it is kept in mind what the points show. A loop of its own: a test of the profile at each point would slow the other.
 fn check_clean_points(file: &[u8], at: usize, count: u64) -> PointsExtent
-    requires { ⌜ at ≤ length (now file) ⌝ }
+    requires { ⌜ (at ≤ length (now file)) × (count ≤ mostPoints) ⌝ }
     ensures value { λ r. ⌜ r ≡ pointsAt Clean count (file .entry .now) at ⌝ }
 {
     let mut seen = see_none();
+    let mut area = sum_none();
     let mut x: i32 = 0;
     let mut y: i32 = 0;
     let mut i = at;
@@ -94,17 +101,18 @@ fn check_clean_points(file: &[u8], at: usize, count: u64) -> PointsExtent
             return PointsExtent::Refused(k);
         };
         seen = see(seen, x, y, nx, ny);
+        area = sum_point(area, x, y, nx, ny);
         x = nx;
         y = ny;
         i = next;
         left -= 1;
     }
-    PointsExtent::End(i, seen_clean(seen, x, y))
+    PointsExtent::End(i, seen_clean(seen, x, y), sum_closed(area, x, y))
 }
 
-// Checks so many points of a contour, and tells whether it may stand in a file of the profile.
+// Checks so many points of a contour, and tells whether it may stand in a file of the profile, and its area.
 pub fn check_points(profile: Profile, file: &[u8], at: usize, count: u64) -> PointsExtent
-    requires { ⌜ at ≤ length (now file) ⌝ }
+    requires { ⌜ (at ≤ length (now file)) × (count ≤ mostPoints) ⌝ }
     ensures value { λ r. ⌜ r ≡ pointsAt profile count (file .entry .now) at ⌝ }
 {
     match profile {
@@ -115,7 +123,7 @@ pub fn check_points(profile: Profile, file: &[u8], at: usize, count: u64) -> Poi
 
 // Checks a contour, where its layer has room for so many points. One that may not stand in the profile is refused at its first byte.
 pub fn check_contour(profile: Profile, file: &[u8], at: usize, room: u64) -> ContoursExtent
-    requires { ⌜ at ≤ length (now file) ⌝ }
+    requires { ⌜ (at ≤ length (now file)) × (room ≤ mostPoints) ⌝ }
     ensures value { λ r. ⌜ r ≡ contourToldAt profile room (file .entry .now) at ⌝ }
 {
     let n = read_number(file, at, room);
@@ -127,9 +135,9 @@ pub fn check_contour(profile: Profile, file: &[u8], at: usize, room: u64) -> Con
     }
     let p = check_points(profile, file, next, count);
     match p {
-        PointsExtent::End(e, fits) => {
+        PointsExtent::End(e, fits, area) => {
             if fits {
-                return ContoursExtent::End(e, room - count);
+                return ContoursExtent::End(e, room - count, area);
             }
             ContoursExtent::Refused(at)
         }
@@ -143,14 +151,16 @@ pub fn check_contours(profile: Profile, file: &[u8], at: usize, count: u64) -> C
     ensures value { λ r. ⌜ r ≡ contoursAt profile count (file .entry .now) at ⌝ }
 {
     let mut room: u64 = MOST_POINTS_64;
+    let mut sum: i64 = 0;
     let mut i = at;
     let mut left = count;
     while 0 < left {
         let c = check_contour(profile, file, i, room);
         match c {
-            ContoursExtent::End(next, r) => {
+            ContoursExtent::End(next, r, area) => {
                 i = next;
                 room = r;
+                sum += area;
             }
             ContoursExtent::Refused(e) => {
                 return ContoursExtent::Refused(e);
@@ -158,7 +168,7 @@ pub fn check_contours(profile: Profile, file: &[u8], at: usize, count: u64) -> C
         }
         left -= 1;
     }
-    ContoursExtent::End(i, room)
+    ContoursExtent::End(i, room, sum)
 }
 
 // Checks the contours of a layer with their count.
@@ -172,7 +182,12 @@ pub fn check_counted(profile: Profile, file: &[u8], at: usize) -> CountsExtent
     };
     let c = check_contours(profile, file, next, count);
     match c {
-        ContoursExtent::End(e, room) => CountsExtent::End(e, count, MOST_POINTS_64 - room),
+        ContoursExtent::End(e, room, sum) => CountsExtent::End(
+            e,
+            count,
+            MOST_POINTS_64 - room,
+            sum,
+        ),
         ContoursExtent::Refused(e) => CountsExtent::Refused(e),
     }
 }
@@ -192,6 +207,22 @@ pub fn read_height(file: &[u8], at: usize, low: i64) -> Height
     Height::Bad
 }
 
+// Checks a layer, which must lie above low.
+pub fn check_layer(profile: Profile, file: &[u8], at: usize, low: i64) -> LayerExtent
+    requires { ⌜ at ≤ length (now file) ⌝ }
+    ensures value { λ r. ⌜ r ≡ layerToldAt profile low (file .entry .now) at ⌝ }
+{
+    let h = read_height(file, at, low);
+    let Height::Above(z, j) = h else {
+        return LayerExtent::Refused(at);
+    };
+    let c = check_counted(profile, file, j);
+    match c {
+        CountsExtent::End(next, _, _, sum) => LayerExtent::End(next, z, sum),
+        CountsExtent::Refused(e) => LayerExtent::Refused(e),
+    }
+}
+
 // Checks so many layers, of which the first must lie above low.
 pub fn check_layers(profile: Profile, file: &[u8], at: usize, count: u64, low: i64) -> LevelsExtent
     requires { ⌜ at ≤ length (now file) ⌝ }
@@ -201,17 +232,13 @@ pub fn check_layers(profile: Profile, file: &[u8], at: usize, count: u64, low: i
     let mut i = at;
     let mut left = count;
     while 0 < left {
-        let h = read_height(file, i, last);
-        let Height::Above(z, j) = h else {
-            return LevelsExtent::Refused(i);
-        };
-        let c = check_counted(profile, file, j);
-        match c {
-            CountsExtent::End(next, _, _) => {
+        let l = check_layer(profile, file, i, last);
+        match l {
+            LayerExtent::End(next, z, _) => {
                 i = next;
                 last = z;
             }
-            CountsExtent::Refused(e) => {
+            LayerExtent::Refused(e) => {
                 return LevelsExtent::Refused(e);
             }
         }

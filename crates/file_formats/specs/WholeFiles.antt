@@ -1,12 +1,13 @@
 -- What operations that read a file share: what the file holds, and refusals 13 (READ-6 to READ-8) and 18 (READCLEAN-3).
 use Prim.Native.Nat.{ℕ, suc}
 use mathlib.Core.Bool.{Bool, false}
-use mathlib.Core.List.{List}
+use mathlib.Core.List.{List, []}
 use lib.Dec.{eqb}
 use lib.ListN.{length}
 use Rattle.mesh.specs.Operation.{Condition}
 use Rattle.mesh.specs.Refusals.{Told, refusal}
 use Rattle.file_formats.specs.Formats.{Decoded, holds, broken}
+use Rattle.file_formats.specs.LayerFile.{Layer, layersOf}
 
 module _ {A : Type 0} where
   -- a decoded file is refused at this place
@@ -32,3 +33,7 @@ module _ {A : Type 0} where
   unfoldable pub heldOr : A → Decoded A → A
   heldOr none (holds a) = a
   heldOr none (broken place) = none
+
+-- the layers of a file; where the bytes are no layer file there are none, which decides nothing, as 13 comes first
+abbrev pub layersIn : List ℕ → List Layer
+layersIn file = heldOr [] (layersOf file)

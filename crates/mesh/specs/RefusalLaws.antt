@@ -8,14 +8,14 @@ use Rattle.mesh.specs.OperationLaws.{Recovers}
 use Rattle.mesh.specs.Refusals.{Told, toldOf, tellVerdict}
 use Rattle.mesh.specs.declared.Refusal.{Refusal}
 use Rattle.mesh.specs.declared.Refusal.the-variants.{Size, Range, Vertex, Triangle, Doubled, Open, Pairing, Order, Room, Passed, Ring, Height, File}
-use Rattle.mesh.specs.declared.Refusal.the-variants.{Output, Layer, Used, Origin, Unclean}
+use Rattle.mesh.specs.declared.Refusal.the-variants.{Output, Layer, Used, Origin, Unclean, Thickness}
 use Rattle.mesh.specs.declared.Verdict.{Verdict}
 use Rattle.mesh.specs.declared.Verdict.the-variants.{Fine, Refused}
 
 -- the case of each number from 0 on; there is no 0
 kinds : List (ℕ → Refusal)
 kinds = Size ∷ Size ∷ Range ∷ Vertex ∷ Triangle ∷ Doubled ∷ Open ∷ Pairing ∷ Order ∷ Room ∷ Passed ∷ Ring ∷ Height ∷ File ∷ Output ∷ Layer ∷ Used
-    ∷ Origin ∷ Unclean ∷ []
+    ∷ Origin ∷ Unclean ∷ Thickness ∷ []
 
 pub refusalOf : Told → Refusal
 refusalOf t = getD kinds (t .number) Size (t .place)
@@ -40,6 +40,7 @@ refusal-once (Layer p) = refl
 refusal-once (Used p) = refl
 refusal-once (Origin p) = refl
 refusal-once (Unclean p) = refl
+refusal-once (Thickness p) = refl
 
 pub verdict-recovers : Recovers tellVerdict
 verdict-recovers = record {

@@ -1,4 +1,4 @@
--- Refusals by number and place (CALL-4, REFUSAL-1 to REFUSAL-18), and what an enum's cases tell (FORM-8).
+-- Refusals by number and place (CALL-4, REFUSAL-1 to REFUSAL-19), and what an enum's cases tell (FORM-8).
 use Prim.Native.Nat.{ℕ}
 use mathlib.Core.Bool.{Bool, false, _||_}
 use mathlib.Core.List.{List, [], _∷_}
@@ -6,7 +6,7 @@ use lib.Dec.{eqb}
 use Rattle.mesh.specs.Operation.{Answer, gives, refuses}
 use Rattle.mesh.specs.declared.Refusal.{Refusal}
 use Rattle.mesh.specs.declared.Refusal.the-variants.{Size, Range, Vertex, Triangle, Doubled, Open, Pairing, Order, Room, Passed, Ring, Height, File}
-use Rattle.mesh.specs.declared.Refusal.the-variants.{Output, Layer, Used, Origin, Unclean}
+use Rattle.mesh.specs.declared.Refusal.the-variants.{Output, Layer, Used, Origin, Unclean, Thickness}
 use Rattle.mesh.specs.declared.Verdict.{Verdict}
 use Rattle.mesh.specs.declared.Verdict.the-variants.{Fine, Refused}
 
@@ -23,7 +23,7 @@ abbrev pub numbered : List ℕ → Told → Bool
 numbered [] r = false
 numbered (n ∷ ns) r = eqb (r .number) n || numbered ns r
 
--- ---- the enums: each case has the number of its rule, REFUSAL-1 to REFUSAL-18 (FORM-8)
+-- ---- the enums: each case has the number of its rule, REFUSAL-1 to REFUSAL-19 (FORM-8)
 
 abbrev pub toldOf : Refusal → Told
 toldOf (Size place) = refusal 1 place
@@ -44,6 +44,7 @@ toldOf (Layer place) = refusal 15 place
 toldOf (Used place) = refusal 16 place
 toldOf (Origin place) = refusal 17 place
 toldOf (Unclean place) = refusal 18 place
+toldOf (Thickness place) = refusal 19 place
 
 abbrev pub numberOf : Refusal → ℕ
 numberOf r = toldOf r .number

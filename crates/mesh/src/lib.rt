@@ -44,6 +44,8 @@ pub enum Refusal {
     Origin(usize),
     // 18: a contour of a file is not clean.
     Unclean(usize),
+    // 19: a layer is too thin or too thick.
+    Thickness(usize),
 }
 
 // What tests find: no refusal, or the first that fits.

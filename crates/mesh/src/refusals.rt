@@ -26,6 +26,7 @@ pub fn number_of(r: Refusal) -> u32
         Refusal::Used(_) => 16,
         Refusal::Origin(_) => 17,
         Refusal::Unclean(_) => 18,
+        Refusal::Thickness(_) => 19,
     }
 }
 
@@ -51,5 +52,6 @@ pub fn place_of(r: Refusal) -> usize
         Refusal::Used(p) => p,
         Refusal::Origin(p) => p,
         Refusal::Unclean(p) => p,
+        Refusal::Thickness(p) => p,
     }
 }

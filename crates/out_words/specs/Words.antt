@@ -35,7 +35,7 @@ wordOf (negsuc n) = 18446744073709551615 - n
 abbrev pub noWords : Unit {0} → List ℕ
 noWords _ = []
 
--- Start: the count of passed vertices; All layers: the length of the file
+-- Start: the count of passed vertices; All layers: the length of the file; Ink: the charge
 abbrev pub oneWord : ℕ → List ℕ
 oneWord n = n ∷ []
 

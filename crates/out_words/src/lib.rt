@@ -7,6 +7,7 @@ ghost use Rattle.mesh.specs.Refusals.{numberOf, placeOf};
 ghost use Rattle.check_mesh.specs.Check.{tellCheck};
 ghost use Rattle.clean.specs.Clean.{tellClean};
 ghost use Rattle.cut.specs.Cut.{tellCut};
+ghost use Rattle.ink.specs.Inking.{tellInk};
 ghost use Rattle.contours.specs.Areas.{tellArea};
 ghost use Rattle.sweep.specs.Operations.{tellStart, tellStep, tellLayer};
 ghost use Rattle.all_sweep.specs.AllLayers.{tellAllLayers};
@@ -20,6 +21,7 @@ use check_mesh::CheckAnswer;
 use clean::CleanAnswer;
 use contours::AreaAnswer;
 use cut::CutAnswer;
+use ink::InkAnswer;
 use mesh::Refusal;
 use mesh::refusals::number_of;
 use mesh::refusals::place_of;
@@ -152,6 +154,18 @@ pub fn tell_all_layers(a: AllLayersAnswer, out: &mut [u64; 4]) -> u32
             0
         }
         AllLayersAnswer::Refused(r) => refuse(r, out),
+    }
+}
+
+pub fn tell_ink(a: InkAnswer, out: &mut [u64; 4]) -> u32
+    ensures outcome { λ n. ⌜ Says oneWord (tellInk a) (out .entry .now) n (out .exit .now) ⌝ }
+{
+    match a {
+        InkAnswer::Charge(n) => {
+            out[0] = n;
+            0
+        }
+        InkAnswer::Refused(r) => refuse(r, out),
     }
 }
 

@@ -1,7 +1,9 @@
--- The doubled signed area of a contour as a list of points
--- (AREA-1, the shoelace formula), by recursion along its points.
+-- The doubled signed area of a contour as a list of points (AREA-1, the shoelace
+-- formula), by recursion along its points, and the sum of a layer's (INK-2).
+use Prim.Native.Nat.{ℕ, _*_}
 use mathlib.Core.List.{List, [], _∷_}
 use lib.IntN.{ℤ, pos, _+ℤ_, _-ℤ_, _*ℤ_}
+use Rattle.mesh.specs.Corners.{largest}
 use Rattle.polygons.specs.Flat.{Point}
 
 -- x × y′ − x′ × y of two points
@@ -17,3 +19,12 @@ areaFrom first p (q ∷ c) = crossPoints p q +ℤ areaFrom first q c
 unfoldable pub contourArea : List Point → ℤ
 contourArea [] = pos 0
 contourArea (p ∷ c) = areaFrom p p c
+
+-- the sum of the doubled areas of a layer's contours, in which holes count negative (INK-2, CLEAN-12)
+unfoldable pub layerArea : List (List Point) → ℤ
+layerArea [] = pos 0
+layerArea (c ∷ cs) = contourArea c +ℤ layerArea cs
+
+-- the largest cross product of two points in range
+abbrev pub largestCross : ℕ
+largestCross = 2 * (largest * largest)

@@ -5,7 +5,9 @@ use mathlib.Core.Bool.{Bool, true, not, _&&_}
 use mathlib.Core.List.{List, [], _∷_, flatten}
 use lib.Dec.{leb, eqb}
 use lib.ListN.{length, getD, take, drop}
-use lib.IntN.{ℤ}
+use lib.IntN.{ℤ, natAbs}
+use Rattle.laws.specs.Tables.{overwrite}
+use Rattle.mesh.specs.Corners.{largest}
 pub use Rattle.mesh.specs.Corners.{mostPoints}
 use Rattle.mesh.specs.Operation.{Condition, whole}
 use Rattle.mesh.specs.Refusals.{Told, refusal}
@@ -20,6 +22,10 @@ pub record Point : Type 0 where
 
 abbrev pub point : ℤ → ℤ → Point
 point x y = record { x = x; y = y }
+
+-- a point lies in coordinate range (LIMIT-3)
+abbrev pub PointNear : Point → Type 0
+PointNear p = (natAbs (p .x) ≤ largest) × (natAbs (p .y) ≤ largest)
 
 -- fewest points of a contour (SECTION-7, FILE-4)
 abbrev pub fewestPoints : ℕ
@@ -65,6 +71,14 @@ endsOf cs = endsFrom 0 cs
 
 abbrev pub flatOf : List (List Point) → FlatLayer
 flatOf cs = flat (numbersOf (flatten cs)) (endsOf cs)
+
+-- contours in the first entries of two tables, all else as before
+abbrev pub holding : List (List Point) → FlatLayer → FlatLayer
+holding cs t = let filled = flatOf cs in flat (overwrite (filled .points) (t .points)) (overwrite (filled .ends) (t .ends))
+
+-- and back: the layer of so many contours and points in the first entries of two tables
+abbrev pub layerFront : ℕ × ℕ → FlatLayer → FlatLayer
+layerFront = λ (contours, points) t. flat (take (2 * points) (t .points)) (take contours (t .ends))
 
 -- ---- and back
 

@@ -12,11 +12,13 @@ use lib.Seq.{take-at, drop-at, length-take-le, drop-drop}
 use lib.Dec.{leb}
 use lib.IntN.{ℤ, pos}
 use Rattle.laws.specs.Booleans.{and-parts, and-of}
+use Rattle.laws.specs.TableLaws.{overwrite-front}
 use Rattle.mesh.specs.Operation.{fine, test}
 use Rattle.mesh.specs.OperationLaws.{whole-fine, fine-nowhere}
 use Rattle.mesh.specs.Refusals.{refusal}
 use Rattle.polygons.specs.Flat.{Point, mostPoints, fewestPoints, pointTotal, Each, Polygons, FlatLayer, flat, numbersOf, endsFrom, endsOf, flatOf}
-use Rattle.polygons.specs.Flat.{pointsIn, pointsBetween, contoursIn, polygonsOf, endBefore, runFits, endsRise, lastEnd, isLayer, notLayer}
+use Rattle.polygons.specs.Flat.{holding, layerFront, pointsIn, pointsBetween, contoursIn, polygonsOf, endBefore}
+use Rattle.polygons.specs.Flat.{runFits, endsRise, lastEnd, isLayer, notLayer}
 
 -- ---- what holds of each
 
@@ -79,6 +81,11 @@ length-flatten (c ∷ cs) = length-append c (flatten cs) ∙ ap (λ (n : ℕ). l
 -- two numbers for each point, one end for each contour
 pub length-points : (cs : List (List Point)) → length (flatOf cs .points) ≡ 2 * pointTotal cs
 length-points cs = length-numbers (flatten cs) ∙ ap (λ (n : ℕ). 2 * n) (length-flatten cs)
+
+-- contours that stand in front of two tables are the layer there
+pub front-holding : (cs : List (List Point)) (u : FlatLayer) → layerFront (length cs, pointTotal cs) (holding cs u) ≡ flatOf cs
+front-holding cs u =
+    λ i. flat (overwrite-front (flatOf cs .points) (u .points) (length-points cs) i) (overwrite-front (flatOf cs .ends) (u .ends) (length-ends 0 cs) i)
 
 -- past the last point, where the numbers have 0 too
 abbrev pub noPoint : Point

@@ -2,4 +2,5 @@
 pub mod Flat
 pub mod FlatLaws
 pub mod ContourAreas
+pub mod AreaBoundLaws
 pub mod Worked

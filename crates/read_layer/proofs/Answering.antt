@@ -18,7 +18,7 @@ use Rattle.mesh.specs.declared.Refusal.{Refusal}
 use Rattle.polygons.specs.Flat.{FlatLayer, flat, flatOf}
 use Rattle.cleaning.specs.declared.Profile.{Profile}
 use Rattle.cleaning.specs.declared.Profile.the-variants.{Full, Clean}
-use Rattle.file_formats.specs.Formats.{Parse, parsed, refused, holds, broken, decodedIn, parseAll, sequence}
+use Rattle.file_formats.specs.Formats.{Parse, parsed, refused, holds, broken, decodedIn, parseAll}
 use Rattle.file_formats.specs.FormatLaws.{finished-in}
 use Rattle.file_formats.specs.LayerFile.{Layer, mostLayers, contourList, layerFormatIn, lowest, heightOf, layerFileIn, layersOf, layersOfIn}
 use Rattle.file_formats.specs.LayerRules.{pointTotal}
@@ -29,7 +29,7 @@ use Rattle.file_formats.specs.declared.Number.the-variants.{Value, Bad}
 use Rattle.file_check.specs.AnswerLaws.{told-parsed}
 use Rattle.file_formats.specs.CleanFileLaws.{layers-full}
 use Rattle.file_formats.specs.WholeFileLaws.{held-or-is}
-use Rattle.read_layer.specs.Reading.{layersIn, layerAt, Entries, entries, entriesOf, readLayerRoomFor, layerHasRoom, readingTests, fillsLayer, ReadsLayer}
+use Rattle.read_layer.specs.Reading.{layersIn, layerAt, Entries, entries, entriesOf, readLayerRoomFor, layerHasRoom, readingTests, ReadsLayer}
 use Rattle.read_layer.specs.ReadingLaws.{verdict-broken, verdict-unclean, verdict-short, verdict-fine, refused-keeps}
 use Rattle.read_layer.specs.Places.{LayerStands, lastLayers, Searched, brokenTold, Ready, contoursFrom, FillLayer, filledLayer}
 use Rattle.read_layer.specs.declared.LayerPlace.{LayerPlace}

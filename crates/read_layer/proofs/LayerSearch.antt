@@ -87,15 +87,15 @@ module _ (profile : Profile) (more : ℕ) (low : ℤ) (file : List ℕ) (at : �
 
 -- the same by what the code has read: the height z, and the counts of contours and points
 module _ (profile : Profile) (more : ℕ) (low : ℤ) (file : List ℕ) (at : ℕ) (h : at ≤ length file) {z : ℤ} {j : ℕ} (e : heightToldAt low file at ≡ Above z j)
-    {next k m : ℕ} (f : countsAt profile file j ≡ CountsEnd next k m) where
-  body : (cs : List (List Point)) × ContoursCounted profile file j cs next k m
-  body = counts-read profile file j (height-inside profile low file at h z j e) next k m f
+    {next k m : ℕ} {sum : ℤ} (f : countsAt profile file j ≡ CountsEnd next k m sum) where
+  body : (cs : List (List Point)) × ContoursCounted profile file j cs next k m sum
+  body = counts-read profile file j (height-inside profile low file at h z j e) next k m sum f
 
   pub next-inside : next ≤ length file
   next-inside = body .1 .stands .inside
 
   one : ParsedAt (layerFormatIn profile low) file at (record { height = z; contours = body .0 }) next
-  one = layer-read profile low file at h z j e (body .0) next k m (body .1)
+  one = layer-read profile low file at h z j e (body .0) next k m sum (body .1)
 
   module _ {x : ℤ} (same : x ≡ z) {i : ℕ} where
     pub last-stops : extentAt (final (sequence (layerFormatIn profile) heightOf more x)) file next ≡ Refused i

@@ -5,14 +5,13 @@ use mathlib.Core.List.{List, []}
 use lib.ListN.{length, drop}
 use lib.Seq.{sets}
 use lib.IntN.{ℤ}
-use Rattle.laws.specs.Tables.{overwrite}
 use Rattle.mesh.specs.Operation.{refuses, fine, verdict}
 use Rattle.mesh.specs.Refusals.{toldOf}
 use Rattle.mesh.specs.declared.Refusal.{Refusal}
 use Rattle.mesh.specs.declared.Refusal.the-variants.{File, Unclean}
 use Rattle.cleaning.specs.declared.Profile.{Profile}
 use Rattle.cleaning.specs.declared.Profile.the-variants.{Full, Clean}
-use Rattle.polygons.specs.Flat.{FlatLayer, flat, numbersOf, flatOf}
+use Rattle.polygons.specs.Flat.{FlatLayer, numbersOf, holding}
 use Rattle.file_formats.specs.Formats.{Parse, parsed, refused, sequence}
 use Rattle.file_formats.specs.Numbers.{Word}
 use Rattle.file_formats.specs.LayerFile.{Point, Layer, pointFormat, origin, latest, contourList, layerFormatIn, heightOf}
@@ -101,6 +100,4 @@ pub record FillLayer (file : List ℕ) (at : ℕ) (t : FlatLayer) : Type 0 where
 
 -- they were written
 abbrev pub filledLayer : List ℕ → ℕ → FlatLayer → FlatLayer
-filledLayer file at t =
-    let filled = flatOf (contoursFrom file at) in
-    flat (overwrite (filled .points) (t .points)) (overwrite (filled .ends) (t .ends))
+filledLayer file at = holding (contoursFrom file at)

@@ -13,15 +13,12 @@ use Rattle.cleaning.specs.declared.Profile.{Profile}
 use Rattle.cleaning.specs.declared.Profile.the-variants.{Full, Clean}
 use Rattle.file_formats.specs.LayerFile.{Layer, layersOf, layersOfIn}
 use Rattle.file_formats.specs.LayerRules.{pointTotal}
-use Rattle.file_formats.specs.WholeFiles.{form, uncleanForm, heldOr}
+use Rattle.file_formats.specs.WholeFiles.{form, uncleanForm}
+pub use Rattle.file_formats.specs.WholeFiles.{layersIn}
 use Rattle.read_layer.specs.declared.ReadLayerAnswer.{ReadLayerAnswer}
 use Rattle.read_layer.specs.declared.ReadLayerAnswer.the-variants.{Layer as ReadLayerLayer, Refused}
 
 -- ---- the layers of a file
-
--- where the bytes are no layer file there are none, which decides nothing, as 13 comes first
-abbrev pub layersIn : List ℕ → List Layer
-layersIn file = heldOr [] (layersOf file)
 
 -- layer i, from 0; where there is none a layer without contours, which decides nothing, as 15 comes first
 abbrev pub layerAt : List Layer → ℕ → Layer

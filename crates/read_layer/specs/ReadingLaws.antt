@@ -2,7 +2,7 @@
 -- file is not the encoding of layers that obey the rules, 18 exactly if the clean profile alters them; and from any other file it gives the layer.
 use Prim.Native.Nat.{ℕ, _*_, _≤_, _<_}
 use mathlib.Core.Path.{_≡_, refl, sym, ap, _∙_, subst}
-use mathlib.Core.Bool.{Bool, true, false, not}
+use mathlib.Core.Bool.{true, false, not}
 use mathlib.Core.List.{List, [], _∷_, _++_, map}
 use mathlib.Core.Logic.{_↔_}
 use native.Mathlib.Omega.{arith}
@@ -11,9 +11,9 @@ use lib.Dec.{leb}
 use lib.ListN.{length}
 use lib.IntN.{ℤ, pos}
 use Rattle.laws.specs.Booleans.{and-of}
-use Rattle.mesh.specs.Operation.{gives, refuses, Finding, fine, Condition, whole, test, _then_, verdict}
+use Rattle.mesh.specs.Operation.{gives, refuses, fine, Condition, test, _then_, verdict}
 use Rattle.mesh.specs.OperationLaws.{First, None, more, whole-refused, whole-fine, then-refused, then-fine, verdict-one, fine-none, Recovers}
-use Rattle.mesh.specs.OperationLaws.{refused-verdict, given-verdict, refused-exactly, given-exactly, left-given, left-refused, only-outcome, after-fine}
+use Rattle.mesh.specs.OperationLaws.{refused-verdict, given-verdict, refused-exactly, given-exactly, left-refused, only-outcome}
 use Rattle.mesh.specs.OperationLaws.{after-kept, same-refusal, Every, refused-every}
 use Rattle.mesh.specs.Refusals.{Told, refusal, numbered}
 use Rattle.mesh.specs.RefusalLaws.{refusalOf, refusal-once}
@@ -28,7 +28,7 @@ use Rattle.file_formats.specs.RoundTripLaws.{layers-read-back, layers-written}
 use Rattle.file_formats.specs.CleanFileLaws.{layers-full, read-back-in, written-in, read-exactly-in, FirstUnclean, clean-place}
 use Rattle.file_formats.specs.WholeFileLaws.{decode-inside, held-or-is, form-first, form-next, fine-holds, thirteen-exactly, eighteen-exactly}
 use Rattle.read_layer.specs.Reading.{layersIn, layerAt, noLayer, Entries, entriesOf, readLayerRoomFor, layerHasRoom, noLayerRoom, profileTests}
-use Rattle.read_layer.specs.Reading.{readingTests, layerCounts, fillsLayer, layerReading}
+use Rattle.read_layer.specs.Reading.{readingTests, layerCounts, fillsLayer}
 use Rattle.read_layer.specs.Reading.{tellReadLayer, ReadsLayer}
 use Rattle.read_layer.specs.declared.ReadLayerAnswer.{ReadLayerAnswer}
 use Rattle.read_layer.specs.declared.ReadLayerAnswer.the-variants.{Layer as ReadLayerLayer, Refused}

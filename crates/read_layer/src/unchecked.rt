@@ -37,7 +37,7 @@ fn check_from(profile: Profile, file: &[u8], at: usize, more: u64, low: i64) -> 
     let c = check_counted(profile, file, j);
     match c {
         CountsExtent::Refused(e) => FindLayerAnswer::Broken(e),
-        CountsExtent::End(next, contours, points) => {
+        CountsExtent::End(next, contours, points, _) => {
             let rest = check_last(profile, file, next, more, z);
             match rest {
                 Extent::Refused(e) => FindLayerAnswer::Broken(e),

@@ -20,6 +20,7 @@ use Rattle.sweep.specs.Operations.{starting, stepping, layering}
 use Rattle.all_sweep.specs.AllLayers.{WorkTables, filing}
 use Rattle.file_formats.specs.PartFile.{Part}
 use Rattle.read_layer.specs.Reading.{layerReading}
+use Rattle.ink.specs.Inking.{inking}
 use Rattle.read_part.specs.Parts.{partReading}
 use Rattle.preview_floats.specs.declared.Origin.{Origin}
 use Rattle.preview.specs.Preview.{previewing, CallTables, previewRunning}
@@ -72,6 +73,10 @@ ReadLayerC p file i t = Exports layerReading readLayerWords (p, file, i, t)
 -- wadroles_read_part
 abbrev pub ReadPartC : List ℕ → Part → List ℕ → ℕ → Part → List ℕ → Type 0
 ReadPartC file t = Exports partReading readPartWords (file, t)
+
+-- wadroles_ink: the charge
+abbrev pub InkC : List ℕ → ℕ → List ℕ → ℕ → List ℕ → Type 0
+InkC file t out returned = Exports inking oneWord (file, t) out returned tt
 
 -- wadroles_preview: the kind of the call, and its two floats
 pub record PreviewC (t : FlatLayer) (o : Origin) (number : ℕ) (xy : List Float) (out : List ℕ)

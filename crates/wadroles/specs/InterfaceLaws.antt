@@ -40,6 +40,7 @@ use Rattle.file_formats.specs.PartFile.{Part}
 use Rattle.read_layer.specs.Reading.{layersIn, layerAt, Entries, entriesOf, readingTests, layerReading}
 use Rattle.read_layer.specs.ReadingLaws.{fine-there}
 use Rattle.read_part.specs.Parts.{partReading}
+use Rattle.ink.specs.Inking.{inking}
 use Rattle.wadroles.specs.ExportLaws.{exports-only, fourWords, saidBy, exports-said, signedFromWord, signed-back}
 use Rattle.preview_floats.specs.declared.Origin.{Origin}
 use Rattle.preview.specs.declared.PathCall.{PathCall}
@@ -47,7 +48,7 @@ use Rattle.preview.specs.declared.PathCall.the-variants.{Move, Line, Close}
 use Rattle.preview.specs.Preview.{previewing, CallTables, previewRunning}
 use Rattle.out_words.specs.Words.{outAfter, stepWords, previewWords, xyAfter}
 use Rattle.wadroles.specs.Interface.{CheckC, CutC, CleanC, ContourC, AreaC, StartC, StepC, LayerC, AllLayersC, ReadLayerC, ReadPartC}
-use Rattle.wadroles.specs.Interface.{PreviewC, PreviewRunC}
+use Rattle.wadroles.specs.Interface.{PreviewC, PreviewRunC, InkC}
 
 -- a refusal has a number that is not 0
 abbrev Nonzero : Told → Type 0
@@ -142,6 +143,9 @@ module _ {a b c d n : ℕ} {out′ : List ℕ} where
   pub part-said : {file : List ℕ} {t t′ : Part} → ReadPartC file t (fourWords a b c d) n t′ out′
       → saidBy (λ out. (getD out 0 0, getD out 1 0, getD out 2 0)) n out′ ≡ answerOf (partReading (file, t))
   part-said = exports-said (λ out. (getD out 0 0, getD out 1 0, getD out 2 0)) (λ _. refl) (has-one, (has-one, tt))
+
+  pub ink-said : {file : List ℕ} {t : ℕ} → InkC file t (fourWords a b c d) n out′ → saidBy (λ out. getD out 0 0) n out′ ≡ answerOf (inking (file, t))
+  ink-said = exports-said (λ out. getD out 0 0) (λ _. refl) (has-one, (has-one, tt))
 
 -- Contour, which has no refusal, is one outcome only too
 pub contour-only : {points : List ℤ} {ends : List ℕ} {j n m : ℕ} {out out′ out″ : List ℕ} → ContourC points ends j out n out′

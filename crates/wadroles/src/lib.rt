@@ -8,7 +8,7 @@ ghost use Rattle.sweep.specs.Sweep.{sweep};
 ghost use Rattle.all_sweep.specs.AllLayers.{work};
 ghost use Rattle.read_part.specs.Parts.{part};
 ghost use Rattle.wadroles.specs.Interface.{CheckC, CutC, CleanC, ContourC, AreaC, StartC, StepC, LayerC, AllLayersC, ReadLayerC, ReadPartC};
-ghost use Rattle.wadroles.specs.Interface.{PreviewC, PreviewRunC};
+ghost use Rattle.wadroles.specs.Interface.{PreviewC, PreviewRunC, InkC};
 ghost use Rattle.preview_floats.specs.DrawnPoints.{originAt};
 ghost use Rattle.preview.specs.Preview.{callTables};
 use cleaning::Profile;
@@ -17,6 +17,7 @@ use out_words::tell_area;
 use out_words::tell_check;
 use out_words::tell_clean;
 use out_words::tell_cut;
+use out_words::tell_ink;
 use out_words::tell_layer;
 use out_words::tell_preview;
 use out_words::tell_preview_run;
@@ -340,4 +341,12 @@ pub extern "C" fn wadroles_preview_run(
     let o = Origin { x: x, y: y };
     let a = preview::preview_run(points, ends, o, number, kinds, xy);
     tell_preview_run(a, out)
+}
+
+#[no_mangle]
+pub extern "C" fn wadroles_ink(file: &[u8], thickness: u32, out: &mut [u64; 4]) -> u32
+    ensures outcome { λ r. ⌜ InkC (file .entry .now) thickness (out .entry .now) r (out .exit .now) ⌝ }
+{
+    let a = ink::ink(file, thickness);
+    tell_ink(a, out)
 }

@@ -18,6 +18,7 @@ use Rattle.contours.specs.Areas.{measuring}
 use Rattle.sweep.specs.Sweep.{passedAt}
 use Rattle.all_sweep.specs.AllLayers.{work, filing}
 use Rattle.read_layer.specs.Reading.{layerReading}
+use Rattle.ink.specs.Inking.{inking}
 
 -- ---- what is asked
 
@@ -36,6 +37,8 @@ pub data Input : Type 0 where
   edgeAt : List ℤ → ℤ → Input
   -- Read layer 0 of these bytes in a profile
   read : Profile → List ℕ → Input
+  -- Ink of these bytes at a thickness
+  inked : List ℕ → ℕ → Input
 
 -- ---- what is answered
 
@@ -55,7 +58,7 @@ pub data Result : Type 0 where
   -- rings, each from its least corner on
   rings : List (List ℕ) → Result
   layer : LayerResult → Result
-  -- a number: a doubled area, a coordinate, a count of layers
+  -- a number: a doubled area, a coordinate, a count of layers, a charge
   number : ℤ → Result
   -- the bytes of a file
   bytes : List ℕ → Result
@@ -118,6 +121,9 @@ edgeAs edge h = number (pointAt (mesh edge (0 ∷ 1 ∷ 0 ∷ [])) h 0 0)
 unfoldable pub readFileAs : Profile → List ℕ → Result
 readFileAs p file = resultFrom (λ v. number (pos (v .0))) (answerOf (layerReading (p, file, 0, flat [] [])))
 
+unfoldable pub inkedAs : List ℕ → ℕ → Result
+inkedAs file t = resultFrom (λ n. number (pos n)) (answerOf (inking (file, t)))
+
 unfoldable pub resultOf : Input → Result
 resultOf (checked m) = checkedAs m
 resultOf (passed m n) = passedAs (withTables m) n
@@ -126,3 +132,4 @@ resultOf (areaOf points) = areaAs points
 resultOf (filed p m heights output) = filedAs p (withTables m) heights output
 resultOf (edgeAt edge h) = edgeAs edge h
 resultOf (read p file) = readFileAs p file
+resultOf (inked file t) = inkedAs file t

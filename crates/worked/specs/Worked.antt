@@ -1,4 +1,4 @@
--- The starred worked pieces (WORKED-4 to WORKED-14, WORKED-18, WORKED-19), all in one statement
+-- The starred worked pieces (WORKED-4 to WORKED-14, WORKED-18 to WORKED-20), all in one statement
 -- (WORKED-1): what the definitions give for these inputs are these results.
 use mathlib.Core.Path.{_≡_, refl, ap, _∙_}
 use mathlib.Core.List.{List, [], _∷_, map, flatten}
@@ -26,13 +26,16 @@ use Rattle.sweep.specs.Operations.{unlessRefused}
 use Rattle.file_formats.specs.Formats.{encodeAll, parseAll}
 use Rattle.file_formats.specs.Numbers.{groups, encodeNumber, parseNumber}
 use Rattle.file_formats.specs.LayerFile.{coordinateFormat, pointFormat, contourFormat, contourListIn, heightAbove, layerFormatIn, layerFileIn, layersOfIn}
-use Rattle.file_formats.specs.WholeFiles.{brokenAt, heldOr}
+use Rattle.file_formats.specs.WholeFiles.{brokenAt, heldOr, layersIn}
+use Rattle.polygons.specs.ContourAreas.{crossPoints, areaFrom, contourArea, layerArea}
+use Rattle.ink.specs.Charges.{layerCharge, jobCharge}
+use Rattle.ink.specs.Inking.{thicknessFits}
 use Rattle.read_layer.specs.Reading.{readLayerRoomFor}
 use Rattle.all_heights.specs.Heights.{heightsTaken, notAboveLast}
 use Rattle.all_sweep.specs.AllLayers.{sweptLayer, climb, workRoomFor}
-use Rattle.worked.specs.Pieces.{Input, checked, passed, cutAt, areaOf, filed, edgeAt, read}
+use Rattle.worked.specs.Pieces.{Input, checked, passed, cutAt, areaOf, filed, edgeAt, read, inked}
 use Rattle.worked.specs.Pieces.{Result, refused, paired, rings, LayerResult, layer as layered, number, bytes}
-use Rattle.worked.specs.Pieces.{withTables, checkedAs, passedAs, cutAs, areaAs, filedAs, edgeAs, readFileAs, resultOf}
+use Rattle.worked.specs.Pieces.{withTables, checkedAs, passedAs, cutAs, areaAs, filedAs, edgeAs, readFileAs, inkedAs, resultOf}
 
 -- part P, and P without triangle 3 (WORKED-13)
 abbrev pub P : Mesh
@@ -99,6 +102,7 @@ inputs =
     ∷ read Full (0x80 ∷ 0x00 ∷ [])
     ∷ filed Clean P heights 16
     ∷ read Clean file
+    ∷ inked file 1000
     ∷ []
 
 abbrev pub results : List Result
@@ -118,6 +122,7 @@ results =
     ∷ refused 13 0
     ∷ bytes cleanFile
     ∷ refused 18 14
+    ∷ number (pos 1)
     ∷ []
 
 -- ---- P with its pairing and order
@@ -213,6 +218,17 @@ unfolding readFileAs verdict _then_ test some least brokenAt heldOr readLayerRoo
     pointFormat coordinateFormat parseNumber parseAll isClean samePoints kept neat unrepeated trimmed samePoint variety among
 unclean-P = refl
 
+-- the layers of P, by their areas, and what they are charged
+areas-P : map (λ l. layerArea (l .contours)) (layersIn file) ≡ pos 0 ∷ pos 25 ∷ pos 0 ∷ pos 0 ∷ []
+unfolding heldOr layersOfIn layerFileIn layerFormatIn heightAbove contourListIn contourFormat pointFormat coordinateFormat parseNumber parseAll
+    layerArea contourArea areaFrom crossPoints
+areas-P = refl
+
+ink-P : inkedAs file 1000 ≡ number (pos 1)
+unfolding inkedAs verdict _then_ test some least brokenAt heldOr layersOfIn layerFileIn layerFormatIn heightAbove contourListIn contourFormat pointFormat
+    coordinateFormat parseNumber parseAll thicknessFits jobCharge layerCharge layerArea contourArea areaFrom crossPoints
+ink-P = refl
+
 -- ---- all of them
 
 -- what holds of P with this pairing and order holds of it with those that Check leaves
@@ -237,4 +253,5 @@ worked = λ i.
     ∷ too-long i
     ∷ from-ready (λ m. filedAs Clean m heights 16) clean-P i
     ∷ unclean-P i
+    ∷ ink-P i
     ∷ []

@@ -9,7 +9,7 @@ use oracle::{encode_layers, encode_part, FileLayer, Part};
 use std::hint::black_box;
 use std::ptr::read_volatile;
 use wadroles::{
-    all_layers, all_layers_clean, check, clean, layer, preview, preview_run, read_layer,
+    all_layers, all_layers_clean, check, clean, ink, layer, preview, preview_run, read_layer,
     read_layer_clean, read_part, start, CallTables, CheckTables, CutTables, FlatLayer, GivenLayer,
     OrderedMesh, Origin, PairedMesh, Sweep, WorkTables,
 };
@@ -148,6 +148,9 @@ fn print_file_depths(mesh: &Mesh) {
     });
     print_depth("read_layer_clean", &mut || {
         read_layer_clean(&file, 0, &mut layer).expect("the file is clean");
+    });
+    print_depth("ink", &mut || {
+        ink(&file, 40).expect("the file is right");
     });
     let mut part = Part {
         coords: mesh.coords.clone(),

@@ -5,9 +5,10 @@
 //! into its caller.
 //!
 //! Arguments choose among `check`, `cut`, `area`, `layer`, `all_layers`, `read_layer`, `read_part`,
-//! `preview`, `clean`, `all_layers_clean` and `read_layer_clean`; without any, all are timed. The last
-//! two time the clean profile against the full one. For `tools/instructions`, which counts what a call
-//! takes, `inputs` lists operations and inputs, and `once OPERATION INPUT VERSION` makes a single call.
+//! `preview`, `clean`, `all_layers_clean`, `read_layer_clean`, `ink` and `ink_over_check`; without any,
+//! all are timed. Those of the clean profile are timed against the full one, and the last is Ink against
+//! the check of the same file. For `tools/instructions`, which counts what a call takes, `inputs` lists
+//! operations and inputs, and `once OPERATION INPUT VERSION` makes a single call.
 
 #![forbid(unsafe_code)]
 
@@ -17,6 +18,7 @@ mod check;
 mod clean;
 mod comparison;
 mod cut;
+mod ink;
 mod inputs;
 mod layer;
 mod owned;
@@ -32,7 +34,7 @@ use versions::VERSIONS;
 
 type Benches = fn() -> Vec<Box<dyn Bench>>;
 
-const OPERATIONS: [(&str, Benches); 11] = [
+const OPERATIONS: [(&str, Benches); 13] = [
     ("check", check::benches),
     ("cut", cut::benches),
     ("area", area::benches),
@@ -44,6 +46,8 @@ const OPERATIONS: [(&str, Benches); 11] = [
     ("clean", clean::benches),
     ("all_layers_clean", profiles::all_layers),
     ("read_layer_clean", profiles::read_layer),
+    ("ink", ink::benches),
+    ("ink_over_check", ink::over_check),
 ];
 
 fn main() {

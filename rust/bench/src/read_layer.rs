@@ -86,7 +86,7 @@ impl Subject for LayerFile {
 }
 
 /// So many layers of ten contours of random points all over the range.
-fn random_layers(count: i32) -> Vec<FileLayer> {
+pub fn random_layers(count: i32) -> Vec<FileLayer> {
     let mut random = Random::new(1);
     let mut point = || [(); 2].map(|()| random.within(-MAX_COORDINATE..=MAX_COORDINATE));
     let mut contour = || (0..110).map(|_| point()).collect();

@@ -10,13 +10,17 @@ pub fn area(points: &[i32]) -> Result<i64, Refusal> {
     refuse_out_of_range(points)?;
 
     let points: Vec<[i32; 2]> = points.chunks_exact(2).map(|p| [p[0], p[1]]).collect();
+    Ok(i64::try_from(doubled_area(&points)).expect("98,304 terms of at most 2^41"))
+}
+
+/// The doubled signed area of a run of points.
+pub(crate) fn doubled_area(points: &[[i32; 2]]) -> i128 {
     let followers = points.iter().cycle().skip(1);
-    let doubled: i128 = points
+    points
         .iter()
         .zip(followers)
         .map(|(&point, &follower)| cross(point, follower))
-        .sum();
-    Ok(i64::try_from(doubled).expect("98,304 terms of at most 2^41"))
+        .sum()
 }
 
 /// The term x × y′ − x′ × y of a point and the next.

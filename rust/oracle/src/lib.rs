@@ -13,6 +13,7 @@ mod clean;
 mod contour;
 mod cut;
 mod given;
+mod ink;
 mod layer_file;
 mod listing;
 mod mesh;
@@ -29,6 +30,7 @@ pub use check::check;
 pub use clean::{clean, clean_layer, is_clean};
 pub use contour::contour;
 pub use cut::{cut, Layer, Tables};
+pub use ink::ink;
 pub use layer_file::{
     decode_layers, encode_layers, read_layer, read_layer_clean, FileLayer, LayerRead,
 };

@@ -16,7 +16,8 @@
 //! file, and [`read_part()`] a mesh and heights out of a part file. [`preview()`] and
 //! [`preview_run()`] give the calls with which a screen draws a layer. [`clean()`] drops what is
 //! needless in a layer; [`all_layers_clean()`] writes the file of cleaned layers, and
-//! [`read_layer_clean()`] reads only such files.
+//! [`read_layer_clean()`] reads only such files. [`ink()`] gives what the layers of a file are charged
+//! for ink.
 //!
 //! # Example
 //!
@@ -116,6 +117,7 @@ mod check;
 mod clean;
 mod contour;
 mod cut;
+mod ink;
 mod layer;
 mod mesh;
 mod preview;
@@ -135,6 +137,7 @@ pub use check::{check, CheckTables};
 pub use clean::clean;
 pub use contour::contour;
 pub use cut::cut;
+pub use ink::ink;
 pub use layer::layer;
 pub use mesh::{Mesh, OrderedMesh, PairedMesh};
 pub use preview::{preview, preview_run, CallTables, GivenLayer, Origin, PathCall};
@@ -162,6 +165,9 @@ pub const MAX_POINTS: usize = 98_304;
 /// The most layers that a layer file may have, and the most heights that [`all_layers()`] and
 /// [`all_layers_clean()`] take.
 pub const MAX_LAYERS: usize = 4_096;
+
+/// The greatest thickness that [`ink()`] takes, in micrometres.
+pub const MAX_THICKNESS: u32 = 1_000;
 
 /// The ring entry of a corner that is no crossing.
 pub const NO_CORNER: u32 = 4_294_967_295;

@@ -314,4 +314,11 @@ extern "C" {
         ends_len: usize,
         out: *mut u64,
     ) -> u32;
+
+    /// Finds what a job is charged for ink, as [`crate::ink()`] does. Success writes the charge.
+    ///
+    /// # Safety
+    ///
+    /// As [above](self#safety).
+    pub fn wadroles_ink(file: *const u8, file_len: usize, thickness: u32, out: *mut u64) -> u32;
 }

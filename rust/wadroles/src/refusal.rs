@@ -84,6 +84,8 @@ impl Refusal {
     /// A contour of a file that is not clean: [`clean`](crate::clean()) would alter it or drop it. The
     /// place is the first byte of its point count.
     pub const UNCLEAN: u32 = 18;
+    /// A thickness outside 1 to [`MAX_THICKNESS`](crate::MAX_THICKNESS). Place 0.
+    pub const THICKNESS: u32 = 19;
 
     /// The reason in the words of the specification.
     fn words(&self) -> &'static str {
@@ -117,6 +119,7 @@ impl Refusal {
             Self::USED => "a walk meeting a crossing already used that is not its start",
             Self::ORIGIN => "an origin that is not whole or out of range",
             Self::UNCLEAN => "a contour of a file that is not clean",
+            Self::THICKNESS => "a thickness outside 1 to 1,000",
             _ => "a reason that the specification does not number",
         }
     }
@@ -151,8 +154,8 @@ mod tests {
     #[test]
     fn each_number_has_words_of_its_own() {
         let words = |number| Refusal { number, place: 0 }.words();
-        let distinct: HashSet<_> = (0..=18).map(words).collect();
-        assert_eq!(distinct.len(), 19);
-        assert_eq!(words(0), words(19));
+        let distinct: HashSet<_> = (0..=19).map(words).collect();
+        assert_eq!(distinct.len(), 20);
+        assert_eq!(words(0), words(20));
     }
 }

@@ -75,7 +75,7 @@ fn check_contours(reader: &mut Reader, contours: u32) -> Result<usize, Refusal> 
 }
 
 /// The next coordinate, by its difference to the one before.
-fn coordinate(reader: &mut Reader, before: i32) -> Result<i32, Refusal> {
+pub(super) fn coordinate(reader: &mut Reader, before: i32) -> Result<i32, Refusal> {
     let place = reader.position();
     let coordinate = i64::from(before) + i64::from(reader.signed()?);
     if coordinate.unsigned_abs() > MAX_COORDINATE as u64 {

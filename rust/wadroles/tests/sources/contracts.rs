@@ -9,11 +9,12 @@
 use crate::tree;
 
 /// The crates whose top module has the operations, and the public functions that are there at least.
-const OPERATIONS: [(&str, &[&str]); 12] = [
+const OPERATIONS: [(&str, &[&str]); 13] = [
     ("check_mesh", &["check"]),
     ("clean", &["clean"]),
     ("contours", &["area", "contour"]),
     ("cut", &["cut"]),
+    ("ink", &["ink"]),
     ("all_layers", &["all_layers"]),
     ("list_part", &["list"]),
     ("preview", &["preview", "preview_run"]),
@@ -39,6 +40,7 @@ const OPERATIONS: [(&str, &[&str]); 12] = [
             "wadroles_clean",
             "wadroles_all_layers_clean",
             "wadroles_read_layer_clean",
+            "wadroles_ink",
         ],
     ),
 ];

@@ -3,11 +3,12 @@
 use crate::tree;
 use std::collections::{BTreeMap, BTreeSet};
 
-const CUTTING: [&str; 18] = [
+const CUTTING: [&str; 20] = [
     "section",
     "cut_trace",
     "cut_points",
     "cut",
+    "area_sum",
     "contours",
     "preview_floats",
     "preview",
@@ -15,6 +16,7 @@ const CUTTING: [&str; 18] = [
     "clean_contour",
     "clean_layers",
     "clean",
+    "ink",
     "sweep",
     "sweep_layer",
     "all_active",

@@ -1,5 +1,6 @@
 use wadroles::{
-    Refusal, MAX_COORDINATE, MAX_LAYERS, MAX_POINTS, MAX_TRIANGLES, MAX_VERTICES, NO_CORNER,
+    Refusal, MAX_COORDINATE, MAX_LAYERS, MAX_POINTS, MAX_THICKNESS, MAX_TRIANGLES, MAX_VERTICES,
+    NO_CORNER,
 };
 
 const HEADER: &str = include_str!("../../../../include/wadroles.h");
@@ -26,6 +27,7 @@ fn the_header_numbers_the_refusals_alike() {
         ("USED", Refusal::USED),
         ("ORIGIN", Refusal::ORIGIN),
         ("UNCLEAN", Refusal::UNCLEAN),
+        ("THICKNESS", Refusal::THICKNESS),
     ] {
         let line = format!("WADROLES_{name} = {number}");
         assert!(HEADER.contains(&line), "no {line:?} in the header");
@@ -40,6 +42,7 @@ fn the_header_gives_the_same_limits() {
         format!("#define WADROLES_MAX_COORDINATE {MAX_COORDINATE}\n"),
         format!("#define WADROLES_MAX_POINTS {MAX_POINTS}\n"),
         format!("#define WADROLES_MAX_LAYERS {MAX_LAYERS}\n"),
+        format!("#define WADROLES_MAX_THICKNESS {MAX_THICKNESS}\n"),
         format!("#define WADROLES_NO_CORNER {NO_CORNER}u\n"),
     ] {
         assert!(HEADER.contains(&line), "no {line:?} in the header");
@@ -73,7 +76,8 @@ fn the_header_declares_the_same_functions() {
             "wadroles_preview_run",
             "wadroles_clean",
             "wadroles_all_layers_clean",
-            "wadroles_read_layer_clean"
+            "wadroles_read_layer_clean",
+            "wadroles_ink"
         ]
     );
 }

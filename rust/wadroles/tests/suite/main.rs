@@ -18,6 +18,7 @@ mod cut;
 mod examples;
 mod harness;
 mod header;
+mod ink;
 mod inputs;
 mod mesh_operations;
 mod operations;

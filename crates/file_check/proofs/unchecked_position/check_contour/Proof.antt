@@ -1,6 +1,8 @@
 -- `check_contour` meets its contract.
 use mathlib.Core.Path.{_≡_, sym, _∙_}
 use native.Mathlib.Omega.{arith}
+use mir.Syntax.{w64}
+use Rattle.laws.specs.Machine.{same}
 use Rattle.file_formats.specs.Positions.{numberAt}
 use Rattle.file_formats.specs.PositionLaws.{took}
 use Rattle.file_formats.specs.declared.Number.the-variants.{Value}
@@ -23,7 +25,7 @@ enum-told c = search needs
 returns : tie.Need-returns
 returns c =
     let start = c .before .before .before .before in
-    no-count (start .args .profile) _ _ _ (start .pre) (sym (c .before .before .read-number .ensures) ∙ c .enum-told .given .1)
+    no-count (start .args .profile) _ _ _ (start .pre .0) (sym (c .before .before .read-number .ensures) ∙ c .enum-told .given .1)
 
 -- the count read
 count : (c : tie.After-known-told)
@@ -35,10 +37,12 @@ count c = sym (c .before .before .before .read-number .ensures) ∙ c .before .n
 returns-2 : tie.Need-returns-2
 returns-2 c =
     let start = c .before .before .before .before .before .before in
-    few-points (start .args .profile) _ _ _ (start .pre) (count (c .before)) (omega (arith, c .if1 .taken))
+    few-points (start .args .profile) _ _ _ (start .pre .0) (count (c .before)) (omega (arith, c .if1 .taken))
 
 check-points-requires : tie.Need-check-points-requires
-check-points-requires c κs = took (count (c .before)) .inside
+check-points-requires c κs =
+    let start = c .before .before .before .before .before .before in
+    (took (count (c .before)) .inside, omega (arith, took (count (c .before)) .low, start .pre .1))
 
 enum-known-p : tie.Need-enum-known-p
 enum-known-p c = search needs
@@ -49,11 +53,11 @@ points : (c : tie.After-known-told2)
     let at-n = at-told .before in
     let start = at-n .before .before .before .before in
     pointsAt (start .args .profile) (at-n .n .given .0 .0) (start .args .file .now) (at-n .n .given .0 .1 .0)
-    ≡ End (c .before .p .given .0 .0) (c .before .p .given .0 .1 .0)
+    ≡ End (c .before .p .given .0 .0) (c .before .p .given .0 .1 .0) (c .before .p .given .0 .1 .1 .0)
 points c = sym (c .before .before .before .check-points .ensures) ∙ c .before .p .given .1
 
-sub-t15 : tie.Need-sub-t15
-sub-t15 c =
+sub-t16 : tie.Need-sub-t16
+sub-t16 c =
     let at-told = c .before .before .before .before .before .before in
     took (count at-told) .low
 
@@ -62,7 +66,8 @@ returns-3 c =
     let at-if1 = c .before .before .before .before .before in
     let at-told = at-if1 .before in
     let start = at-told .before .before .before .before .before in
-    points-pass (start .args .profile) _ _ _ (start .pre) (count at-told) (at-if1 .if1 .left) (points (c .before)) (c .if2 .taken)
+    points-pass (start .args .profile) _ _ _ (start .pre .0) (count at-told) (at-if1 .if1 .left) (points (c .before))
+    (same w64 (c .before .before .p .given .0 .1 .1 .0) (omega arith)) (c .if2 .taken)
 
 enum-known-p-2 : tie.Need-enum-known-p-2
 enum-known-p-2 c = search needs
@@ -72,7 +77,7 @@ returns-4 c =
     let at-if1 = c .before .before .before .before .before in
     let at-told = at-if1 .before in
     let start = at-told .before .before .before .before .before in
-    points-unfit (start .args .profile) _ _ _ (start .pre) (count at-told) (at-if1 .if1 .left) (points (c .before)) (c .if2 .left)
+    points-unfit (start .args .profile) _ _ _ (start .pre .0) (count at-told) (at-if1 .if1 .left) (points (c .before)) (c .if2 .left)
 
 returns-5 : tie.Need-returns-5
 returns-5 c =
@@ -80,7 +85,7 @@ returns-5 c =
     let at-if1 = at-check-points .before in
     let at-told = at-if1 .before in
     let start = at-told .before .before .before .before .before in
-    points-stop (start .args .profile) _ _ _ (start .pre) (count at-told) (at-if1 .if1 .left)
+    points-stop (start .args .profile) _ _ _ (start .pre .0) (count at-told) (at-if1 .if1 .left)
     (sym (at-check-points .check-points .ensures) ∙ c .before .p2 .given .1)
 
 pub check-contour-spec : {M : Type 1} → statement M
@@ -94,7 +99,7 @@ check-contour-spec =
     returns-2
     check-points-requires
     enum-known-p
-    sub-t15
+    sub-t16
     returns-3
     enum-known-p-2
     returns-4

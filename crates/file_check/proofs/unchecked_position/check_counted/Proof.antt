@@ -1,5 +1,8 @@
 -- `check_counted` meets its contract.
 use mathlib.Core.Path.{_≡_, sym, _∙_}
+use native.Mathlib.Omega.{arith}
+use mir.Syntax.{w64}
+use Rattle.laws.specs.Machine.{same}
 use Rattle.file_formats.specs.Numbers.{largestWord}
 use Rattle.file_formats.specs.Positions.{numberAt}
 use Rattle.file_formats.specs.PositionLaws.{took}
@@ -34,8 +37,8 @@ check-contours-requires c κs = took (count c) .inside
 enum-known-c : tie.Need-enum-known-c
 enum-known-c c = search needs
 
-sub-t12 : tie.Need-sub-t12
-sub-t12 c =
+sub-t13 : tie.Need-sub-t13
+sub-t13 c =
     let at-check-contours = c .before .before .before in
     let at-told = at-check-contours .before in
     let start = at-told .before .before .before .before .before in
@@ -50,6 +53,7 @@ returns-2 c =
     let at-told = at-check-contours .before in
     let start = at-told .before .before .before .before .before in
     contours-pass _ _ _ (start .pre) (count at-told) (sym (at-check-contours .check-contours .ensures) ∙ c .before .c .given .1)
+    (same w64 (c .before .c .given .0 .1 .1 .0) (omega arith))
 
 returns-3 : tie.Need-returns-3
 returns-3 c =
@@ -68,7 +72,7 @@ check-counted-spec =
     returns
     check-contours-requires
     enum-known-c
-    sub-t12
+    sub-t13
     enum-known-c-2
     returns-2
     returns-3)

@@ -1,26 +1,33 @@
--- `check_full_points` meets its contract.
+-- `check_full_points` meets its contract: the loop keeps what the points before have come to.
 use mathlib.Core.Path.{_≡_, refl, sym, _∙_}
 use borrow.Author.Needs.{needs}
-use mir.Syntax.{w32}
-use mir.Val.{toZ}
-use Rattle.laws.specs.Machine.{same-in}
+use mathlib.Core.List.{List}
+use Prim.Native.Nat.{ℕ, _≤_}
+use lib.IntN.{ℤ, natAbs}
+use mir.Syntax.{w32, w64}
+use mir.Val.{toZ, ofZ}
+use Rattle.laws.specs.Machine.{same}
 use Rattle.mesh.specs.Corners.{largest}
 use Rattle.cleaning.specs.declared.Profile.the-variants.{Full}
 use Rattle.clean_test.specs.Seeing.{unseen}
 use Rattle.file_check.specs.Answers.{coordinateAt}
 use Rattle.file_check.specs.declared.Coordinate.the-variants.{At}
-use Rattle.file_check.proofs.PointSteps.{PointsChecked, points-checked, points-end, no-x, no-y, x-near, y-near, next-point}
+use Rattle.file_check.proofs.PointSteps.{bits-is, bits-near, PointsChecked, points-checked, sum-small, points-end, no-x, no-y, x-near, y-near}
+use Rattle.file_check.proofs.PointSteps.{next-point}
 use Rattle.file_check.proofs.unchecked_position.check_full_points.Statement.{statement}
 use Rattle.file_check.proofs.unchecked_position.check_full_points.Tie as tie
 
 abbrev Inv-loop : tie.InvT-loop
-Inv-loop file at count x₀ y₀ i₀ left₀ x y i left = PointsChecked Full file at count unseen (toZ w32 x) (toZ w32 y) i left
+Inv-loop file at count sum₀ x₀ y₀ i₀ left₀ sum x y i left = PointsChecked Full file at count unseen sum (toZ w32 x) (toZ w32 y) i left
 
 abbrev μ-loop : tie.MeasureT-loop
-μ-loop file at count x₀ y₀ i₀ left₀ x y i left = left
+μ-loop file at count sum₀ x₀ y₀ i₀ left₀ sum x y i left = left
+
+sum-none-requires : tie.Need-sum-none-requires Inv-loop μ-loop
+sum-none-requires c κs = search needs
 
 loop-holds : tie.Need-loop-holds Inv-loop μ-loop
-loop-holds c = points-checked Full _ _ _ refl (c .before .pre)
+loop-holds c = points-checked Full _ _ _ refl (c .sum-none .ensures) (c .before .before .pre)
 
 read-coordinate-requires : tie.Need-read-coordinate-requires Inv-loop μ-loop
 read-coordinate-requires c κs = c .before .loop .inv .x-in
@@ -35,21 +42,33 @@ returns : tie.Need-returns Inv-loop μ-loop
 returns c =
     let at-read-coordinate = c .before .before in
     let at-test = at-read-coordinate .before in
-    let at-loop = at-test .before in
-    no-x (at-loop .loop .inv) (at-test .loop-test .taken) (sym (at-read-coordinate .read-coordinate .ensures) ∙ c .enum-told .given .1)
+    no-x (at-test .before .loop .inv) (at-test .loop-test .taken) (sym (at-read-coordinate .read-coordinate .ensures) ∙ c .enum-told .given .1)
 
 -- the first coordinate read
-first : (c : tie.After-known-told Inv-loop μ-loop)
-    → let at-loop = c .before .before .before .before .before in
-    let start = at-loop .before .before in
-    coordinateAt (toZ w32 (at-loop .loop .x)) (start .args .file .now) (at-loop .loop .i)
-    ≡ At (c .before .a .given .0 .0) (c .before .a .given .0 .1 .0)
-first c = sym (c .before .before .before .read-coordinate .ensures) ∙ c .before .a .given .1
+module _ (c : tie.After-known-told Inv-loop μ-loop) where
+  abbrev at-test : tie.In-loop Inv-loop μ-loop
+  at-test = c .before .before .before .before
+
+  abbrev at-loop : tie.At-loop Inv-loop μ-loop
+  at-loop = at-test .before
+
+  abbrev file : List ℕ
+  file = at-loop .before .before .before .args .file .now
+
+  abbrev nx : ℤ
+  nx = c .before .a .given .0 .0
+
+  abbrev next : ℕ
+  next = c .before .a .given .0 .1 .0
+
+  first : coordinateAt (toZ w32 (at-loop .loop .x)) file (at-loop .loop .i) ≡ At nx next
+  first = sym (c .before .before .before .read-coordinate .ensures) ∙ c .before .a .given .1
+
+  nx-in : natAbs nx ≤ largest
+  nx-in = x-near (at-loop .loop .inv) (at-test .loop-test .taken) first
 
 read-coordinate-requires-2 : tie.Need-read-coordinate-requires-2 Inv-loop μ-loop
-read-coordinate-requires-2 c κs =
-    let at-loop = c .before .before .before .before .before in
-    at-loop .loop .inv .y-in
+read-coordinate-requires-2 c κs = at-loop c .loop .inv .y-in
 
 enum-known-b : tie.Need-enum-known-b Inv-loop μ-loop
 enum-known-b c = search needs
@@ -61,10 +80,34 @@ returns-2 : tie.Need-returns-2 Inv-loop μ-loop
 returns-2 c =
     let at-read-coordinate2 = c .before .before in
     let at-told = at-read-coordinate2 .before in
-    let at-test = at-told .before .before .before .before in
-    let at-loop = at-test .before in
-    no-y (at-loop .loop .inv) (at-test .loop-test .taken) (first at-told)
+    no-y (at-loop at-told .loop .inv) (at-test at-told .loop-test .taken) (first at-told)
     (sym (at-read-coordinate2 .read-coordinate2 .ensures) ∙ c .enum-told2 .given .1)
+
+-- the second coordinate read
+module _ (c : tie.After-known-told2 Inv-loop μ-loop) where
+  abbrev at-told : tie.After-known-told Inv-loop μ-loop
+  at-told = c .before .before .before .before
+
+  abbrev ny : ℤ
+  ny = c .before .b .given .0 .0
+
+  second : coordinateAt (toZ w32 (at-loop at-told .loop .y)) (file at-told) (next at-told) ≡ At ny (c .before .b .given .0 .1 .0)
+  second = sym (c .before .before .before .read-coordinate2 .ensures) ∙ c .before .b .given .1
+
+  ny-in : natAbs ny ≤ largest
+  ny-in = y-near (at-loop at-told .loop .inv) (at-test at-told .loop-test .taken) (first at-told) second
+
+  x-is : toZ w32 (ofZ w32 (nx at-told)) ≡ nx at-told
+  x-is = bits-is (nx at-told) (nx-in at-told)
+
+  y-is : toZ w32 (ofZ w32 ny) ≡ ny
+  y-is = bits-is ny ny-in
+
+sum-point-requires : tie.Need-sum-point-requires Inv-loop μ-loop
+sum-point-requires c κs =
+    let p = c in
+    let w = at-loop (at-told p) .loop .inv in
+    search (needs, sum-small w, w .x-in, w .y-in, bits-near (nx (at-told p)) (nx-in (at-told p)), bits-near (ny p) (ny-in p))
 
 sub-left : tie.Need-sub-left Inv-loop μ-loop
 sub-left c = search needs
@@ -72,31 +115,21 @@ sub-left c = search needs
 loop-less : tie.Need-loop-less Inv-loop μ-loop
 loop-less c = search needs
 
--- the second coordinate read
-second : (c : tie.After-known-told2 Inv-loop μ-loop)
-    → let at-a = c .before .before .before .before .before in
-    let at-loop = at-a .before .before .before .before in
-    let start = at-loop .before .before in
-    coordinateAt (toZ w32 (at-loop .loop .y)) (start .args .file .now) (at-a .a .given .0 .1 .0)
-    ≡ At (c .before .b .given .0 .0) (c .before .b .given .0 .1 .0)
-second c = sym (c .before .before .before .read-coordinate2 .ensures) ∙ c .before .b .given .1
-
 loop-again : tie.Need-loop-again Inv-loop μ-loop
 loop-again c =
-    let at-told = c .before .before .before .before in
-    let at-a = at-told .before in
-    let at-test = at-a .before .before .before in
-    let at-loop = at-test .before in
-    let x = at-a .a .given .0 .0 in
-    let y = c .before .b .given .0 .0 in
-    simp (
-      same-in w32 x largest (x-near (at-loop .loop .inv) (at-test .loop-test .taken) (first at-told)) tt,
-      same-in w32 y largest (y-near (at-loop .loop .inv) (at-test .loop-test .taken) (first at-told) (second c)) tt,
-    )
-    (next-point (at-loop .loop .inv) (at-test .loop-test .taken) (first at-told) (second c) refl)
+    let p = c .before in
+    let q = at-told p in
+    simp (x-is p, y-is p)
+    (next-point (at-loop q .loop .inv) (at-test q .loop-test .taken) (first q) (second p) refl (simp (x-is p, y-is p) at (c .sum-point .ensures)))
+
+sum-closed-requires : tie.Need-sum-closed-requires Inv-loop μ-loop
+sum-closed-requires c κs =
+    let w = c .before .loop .inv in
+    search (needs, sum-small w, w .x-in, w .y-in)
 
 returns-3 : tie.Need-returns-3 Inv-loop μ-loop
-returns-3 c = points-end (c .before .loop .inv) (c .loop-test .left)
+returns-3 c =
+    points-end (c .before .before .loop .inv) (c .before .loop-test .left) refl (same w64 (c .sum-closed .result) (c .sum-closed .ok) ∙ c .sum-closed .ensures)
 
 pub check-full-points-spec : {M : Type 1} → statement M
 check-full-points-spec =
@@ -104,6 +137,7 @@ check-full-points-spec =
     (tie.spec
     Inv-loop
     μ-loop
+    sum-none-requires
     loop-holds
     read-coordinate-requires
     enum-known-a
@@ -113,7 +147,9 @@ check-full-points-spec =
     enum-known-b
     enum-told-2
     returns-2
+    sum-point-requires
     sub-left
     loop-less
     loop-again
+    sum-closed-requires
     returns-3)

@@ -1,5 +1,5 @@
 -- `check_points` meets its contract.
-use mathlib.Core.Path.{_≡_, sym, ap, _∙_}
+use mathlib.Core.Path.{sym, ap, _∙_}
 use borrow.Author.Needs.{needs}
 use Rattle.cleaning.specs.declared.Profile.{Profile}
 use Rattle.file_check.specs.Answers.{pointsAt}

@@ -60,7 +60,7 @@ counts : (c : tie.After-known-told3)
     → let at-h = c .before .before .before .before .before in
     let start = at-h .before .before .before .before in
     countsAt (start .args .profile) (start .args .file .now) (at-h .h .given .0 .1 .0)
-    ≡ End (c .before .c2 .given .0 .0) (c .before .c2 .given .0 .1 .0) (c .before .c2 .given .0 .1 .1 .0)
+    ≡ End (c .before .c2 .given .0 .0) (c .before .c2 .given .0 .1 .0) (c .before .c2 .given .0 .1 .1 .0) (c .before .c2 .given .0 .1 .1 .1 .0)
 counts c = sym (c .before .before .before .check-counted .ensures) ∙ c .before .c2 .given .1
 
 check-last-requires : tie.Need-check-last-requires

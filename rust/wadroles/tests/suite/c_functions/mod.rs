@@ -3,6 +3,7 @@
 
 mod cleaning;
 mod files;
+mod inks;
 mod meshes;
 mod previews;
 

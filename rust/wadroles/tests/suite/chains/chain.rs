@@ -48,7 +48,8 @@ impl Chain<'_> {
         if let Some(file) = &file {
             self.read_layers(&given, file)?;
         }
-        self.clean_file(&given, file.as_deref())
+        let clean = self.clean_file(&given, file.as_deref())?;
+        self.charge_files(file.as_deref(), clean.as_deref())
     }
 
     /// Makes a call with tables that are mostly long enough, and notes its answer. What it leaves is

@@ -23,8 +23,12 @@ impl Chain<'_> {
     }
 
     /// Writes the clean file and reads some layers of it, if it is not refused. Then the clean reading
-    /// gets the full file, if there is one, and damaged copies of both.
-    pub(super) fn clean_file(&mut self, given: &Given, full: Option<&[u8]>) -> Result<(), String> {
+    /// gets the full file, if there is one, and damaged copies of both. Gives the clean file.
+    pub(super) fn clean_file(
+        &mut self,
+        given: &Given,
+        full: Option<&[u8]>,
+    ) -> Result<Option<Vec<u8>>, String> {
         let version = self.versions.all_layers_clean;
         let (length, case) = self.call::<AllLayersClean>(given.clone(), version)?;
         let file = length
@@ -42,7 +46,7 @@ impl Chain<'_> {
             FileDamage::any(self.random).apply(&mut damaged, self.random);
             self.read_clean(Some(&damaged), 0)?;
         }
-        Ok(())
+        Ok(file.map(<[u8]>::to_vec))
     }
 
     /// A layer of a file, if there is one and it is not refused.

@@ -4,8 +4,8 @@ use super::chain::compare_chains;
 use crate::harness::{assert_told, Answer, Operation, Rounds};
 use crate::operations::{
     AllLayers, AllLayersClean, Area, CallTables, Check, CheckTables, Clean, Contour, Cut,
-    CutTables, Drawing, Ends, FileTables, FlatLayer, Given, GivenLayer, Layer, LayerFile, Part,
-    Preview, PreviewRun, ReadLayer, ReadLayerClean, ReadPart, Ring, Start, Step, Versions,
+    CutTables, Drawing, Ends, FileTables, FlatLayer, Given, GivenLayer, Ink, Job, Layer, LayerFile,
+    Part, Preview, PreviewRun, ReadLayer, ReadLayerClean, ReadPart, Ring, Start, Step, Versions,
     WorkTables, Xy,
 };
 
@@ -107,10 +107,14 @@ fn unclean_taken(input: &LayerFile, tables: &mut FlatLayer) -> Answer<(usize, i3
     ReadLayer::product(input, tables)
 }
 
+fn one_more_charged(job: &Job, (): &mut ()) -> Answer<u64> {
+    Ink::product(job, &mut ()).map(|charge| charge + 1)
+}
+
 /// The product but for one operation, and that operation.
-fn faulty() -> [(Versions, &'static str); 15] {
+fn faulty() -> [(Versions, &'static str); 16] {
     let right = Versions::default();
-    let faults: [(fn(&mut Versions), _); 15] = [
+    let faults: [(fn(&mut Versions), _); 16] = [
         (|v| v.read_part = Some(last_height_left), ReadPart::NAME),
         (|v| v.check = Some(order_from_above), Check::NAME),
         (|v| v.cut = Some(point_moved), Cut::NAME),
@@ -135,6 +139,7 @@ fn faulty() -> [(Versions, &'static str); 15] {
             |v| v.read_layer_clean = Some(unclean_taken),
             ReadLayerClean::NAME,
         ),
+        (|v| v.ink = Some(one_more_charged), Ink::NAME),
     ];
     faults.map(|(spoil, name)| {
         let mut versions = right;

@@ -1,6 +1,6 @@
 //! Whole chains over random meshes: a part file is read, its mesh checked, cut, swept and written as
 //! a layer file, that file is read back, and layers of cuts and of the file are previewed and cleaned;
-//! so it goes in the clean profile too. Each operation gets what the one before it left, now and then
+//! so it goes in the clean profile too, and both files are charged. Each operation gets what the one before it left, now and then
 //! spoiled, and every answer and every table is compared with the oracle's.
 //!
 //! Another seed, and more rounds, of which one in twenty is a chain:
@@ -13,11 +13,12 @@
 mod chain;
 mod clean;
 mod faults;
+mod ink;
 mod inputs;
 
 use crate::harness::{report, Operation, Rounds, DEFAULT_ROUNDS};
 use crate::operations::{
-    AllLayers, AllLayersClean, Area, Check, Clean, Contour, Cut, Layer, Preview, PreviewRun,
+    AllLayers, AllLayersClean, Area, Check, Clean, Contour, Cut, Ink, Layer, Preview, PreviewRun,
     ReadLayer, ReadLayerClean, ReadPart, Start, Step, Versions,
 };
 use chain::compare_chains;
@@ -29,7 +30,7 @@ const ONE_IN: u64 = 20;
 const LEAST: u64 = 100;
 
 /// The operations and their refusals.
-const OPERATIONS: [(&str, &[u32]); 15] = [
+const OPERATIONS: [(&str, &[u32]); 16] = [
     (ReadPart::NAME, ReadPart::REFUSALS),
     (Check::NAME, Check::REFUSALS),
     (Cut::NAME, Cut::REFUSALS),
@@ -45,6 +46,7 @@ const OPERATIONS: [(&str, &[u32]); 15] = [
     (Clean::NAME, Clean::REFUSALS),
     (AllLayersClean::NAME, AllLayersClean::REFUSALS),
     (ReadLayerClean::NAME, ReadLayerClean::REFUSALS),
+    (Ink::NAME, Ink::REFUSALS),
 ];
 
 #[test]
@@ -60,7 +62,7 @@ fn chains_of_every_operation() {
             tally.require(&[0], LEAST);
             tally.require_refusals(refusals, LEAST);
         }
-        let others = (1..=18).filter(|number| !refusals.contains(number));
+        let others = (1..=19).filter(|number| !refusals.contains(number));
         others.for_each(|number| assert_eq!(tally.count(number), 0, "{operation}: {tally}"));
     }
     report(format!("chains, all operations: {}", tallies.all()));

@@ -1,5 +1,5 @@
-//! The C examples, `examples/c/sweep.c` and `examples/c/preview.c`, as strict C99 with every warning an
-//! error.
+//! The C examples, `examples/c/sweep.c`, `examples/c/preview.c` and `examples/c/ink.c`, as strict C99 with
+//! every warning an error.
 //!
 //! They are compiled by `cc`, which rustc itself links with on this target, or by the compiler that the
 //! environment variable `CC` names. Where there is none the tests fail: without it there would be no
@@ -33,6 +33,12 @@ layers 4, bytes 23
 fn example() -> &'static Path {
     static EXAMPLE: OnceLock<PathBuf> = OnceLock::new();
     EXAMPLE.get_or_init(|| compile("sweep"))
+}
+
+/// The example of ink, compiled once.
+fn ink_example() -> &'static Path {
+    static EXAMPLE: OnceLock<PathBuf> = OnceLock::new();
+    EXAMPLE.get_or_init(|| compile("ink"))
 }
 
 fn compile(name: &str) -> PathBuf {
@@ -209,4 +215,36 @@ fn a_missing_file_is_told_from_a_refusal() {
     let run = run(Path::new("no such file"));
     assert_eq!((run.status, run.output.as_str()), (2, ""));
     assert!(run.errors.starts_with("no such file: "), "{}", run.errors);
+}
+
+#[test]
+fn ink_of_part_p() {
+    let run = |name: &str, file: &[u8], thickness: &str| {
+        let path = lend_file(name, file);
+        Run::of(Command::new(ink_example()).arg(path).arg(thickness))
+    };
+    let refused = |number: u32, place: u64| Run {
+        status: 1,
+        output: String::new(),
+        errors: format!("ink: refused {number} {place}\n"),
+    };
+    assert_eq!(run("ink_p", &LAYER_FILE_P, "1000"), Run::content("ink 1\n"));
+    assert_eq!(run("ink_thick", &LAYER_FILE_P, "1001"), refused(19, 0));
+    assert_eq!(run("ink_thin", &LAYER_FILE_P, "0"), refused(19, 0));
+    assert_eq!(run("ink_short", &LAYER_FILE_P[..22], "0"), refused(13, 22));
+    assert_eq!(run("ink_none", &[], "50"), refused(13, 0));
+
+    // Longer than the first part that the example reads.
+    let long = [&LAYER_FILE_P[..], &[0; 20_000]].concat();
+    assert_eq!(run("ink_long", &long, "50"), refused(13, 23));
+}
+
+#[test]
+fn ink_without_a_file() {
+    let expected = Run {
+        status: 2,
+        output: String::new(),
+        errors: "ink: give a layer file and a thickness\n".to_owned(),
+    };
+    assert_eq!(Run::of(&mut Command::new(ink_example())), expected);
 }

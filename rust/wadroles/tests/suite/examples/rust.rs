@@ -2,6 +2,8 @@
 
 use super::part_file::{changed_p, path_of_p};
 use super::programs::{lend_file, Run};
+use crate::inputs::LAYER_FILE_P;
+use oracle::{encode_layers, FileLayer};
 use std::env;
 use std::path::Path;
 use std::process::Command;
@@ -94,4 +96,31 @@ layers 4, bytes 23
         refused.errors, "Error: Refusal { number: 6, place: 1 }\n",
         "a refusal by its number and place"
     );
+}
+
+#[test]
+fn ink() {
+    assert_writes("ink", "ink 1\n");
+    let run = |path: &Path, thickness: &str| Run::of(example("ink").arg(path).arg(thickness));
+    let file = lend_file("for ink.layers", &LAYER_FILE_P);
+    assert_eq!(run(&file, "40"), Run::content("ink 1\n"));
+    // Round the square of all coordinates, of the doubled area 2^43.
+    const M: i32 = 1_048_576;
+    let square = FileLayer {
+        height: 0,
+        contours: vec![vec![[M, M], [-M, M], [-M, -M], [M, -M]]],
+    };
+    let square = lend_file("square for ink.layers", &encode_layers(&[square]));
+    assert_eq!(run(&square, "1000"), Run::content("ink 4398046512\n"));
+
+    let refused = |path: &Path, thickness: &str, refusal: &str| {
+        let refused = run(path, thickness);
+        assert_eq!((refused.status, refused.output.as_str()), (1, ""));
+        assert_eq!(refused.errors, format!("Error: Refusal {{ {refusal} }}\n"));
+    };
+    refused(&file, "0", "number: 19, place: 0");
+    refused(&file, "1001", "number: 19, place: 0");
+    let short = lend_file("short for ink.layers", &LAYER_FILE_P[..22]);
+    refused(&short, "1001", "number: 13, place: 22");
+    assert_eq!(Run::of(example("ink").arg(&file)).status, 1);
 }

@@ -7,6 +7,7 @@ mod clean;
 mod contour;
 mod cut;
 mod given;
+mod ink;
 mod preview;
 mod read_layer;
 mod read_part;
@@ -19,6 +20,7 @@ pub use clean::{Clean, GivenLayer};
 pub use contour::{Contour, Ends};
 pub use cut::{Cut, CutTables};
 pub use given::Given;
+pub use ink::{Ink, Job};
 pub use preview::{CallTables, Drawing, Preview, PreviewRun, Xy};
 pub use read_layer::{FlatLayer, LayerFile, ReadLayer, ReadLayerClean};
 pub use read_part::{Part, ReadPart};
@@ -44,4 +46,5 @@ pub struct Versions {
     pub clean: Version<Clean>,
     pub all_layers_clean: Version<AllLayersClean>,
     pub read_layer_clean: Version<ReadLayerClean>,
+    pub ink: Version<Ink>,
 }

@@ -2,8 +2,8 @@
 use mir.Syntax.{w64}
 use Rattle.laws.specs.Machine.{Rd, arg, add, add-ok, sub, sub-ok, mul, mul-ok}
 use Rattle.mesh.specs.Corners.{largest}
-use Rattle.contours.proofs.unchecked.trapezoid.Statement.{statement}
-use Rattle.contours.proofs.unchecked.trapezoid.Tie as tie
+use Rattle.area_sum.proofs.unchecked.trapezoid.Statement.{statement}
+use Rattle.area_sum.proofs.unchecked.trapezoid.Tie as tie
 
 module _ (c : tie.Start) where
   abbrev x : Rd w64 (c .args .x) largest
