@@ -24,10 +24,10 @@
  *   entries, a signed one as two's complement. The other entries are left
  *   alone.
  * - A refusal leaves every table as before, but for these, which leave zeros in
- *   the entries that the function asks for: WADROLES_DOUBLED and WADROLES_OPEN
- *   in pairing and order, WADROLES_OUTPUT in the work tables, and
- *   WADROLES_USED, which never arises. Each function says which refusals it
- *   has, in which sequence it tests them, and where the place is.
+ *   the entries that the function asks for: WADROLES_OPEN in pairing and order,
+ *   WADROLES_OUTPUT in the work tables, and WADROLES_USED, which never arises.
+ *   Each function says which refusals it has, in which sequence it tests them,
+ *   and where the place is.
  * - A table is a pointer and, right after it, a length in elements (not bytes).
  *   The pointer of an empty table may be null.
  * - It keeps no state between calls and allocates nothing. Several threads may
@@ -59,7 +59,7 @@ extern "C" {
 /* The version. Until 1.0 a change of behaviour or of a file raises the minor
  * number. */
 #define WADROLES_VERSION_MAJOR 0
-#define WADROLES_VERSION_MINOR 5
+#define WADROLES_VERSION_MINOR 6
 #define WADROLES_VERSION_PATCH 0
 
 /* The most vertices and triangles a mesh may have. */
@@ -97,9 +97,7 @@ enum wadroles_refusal {
     WADROLES_VERTEX = 3,
     /* A triangle naming a vertex twice. */
     WADROLES_TRIANGLE = 4,
-    /* A corner whose directed edge occurs at another corner too. */
-    WADROLES_DOUBLED = 5,
-    /* A corner whose reverse edge occurs nowhere. */
+    /* A corner without a partner among those with the reverse edge. */
     WADROLES_OPEN = 6,
     /* A corner whose pairing entry is missing or wrong, or not paired back. */
     WADROLES_PAIRING = 7,
@@ -135,8 +133,12 @@ enum wadroles_refusal {
  * Tests a mesh, and writes its pairing and its order into the first entries of
  * two lent tables:
  *
- *   pairing  one entry per corner: the corner with the reverse edge
+ *   pairing  one entry per corner: its partner, a corner with the reverse edge
  *   order    each vertex once, by z and then by vertex number
+ *
+ * An edge may be shared by several sheets. Of the corners with a directed edge
+ * and those with the reverse, both in corner order, the first are partners of
+ * each other, and so are the second, and so on.
  *
  * Later entries of both tables stay. Success has no values: `out` stays.
  *
@@ -151,13 +153,13 @@ enum wadroles_refusal {
  *                      coords
  *   WADROLES_VERTEX    a corner names no vertex; place the corner
  *   WADROLES_TRIANGLE  a triangle names a vertex twice; place its first corner
- *   WADROLES_DOUBLED   a corner's directed edge occurs at another corner too;
- *                      place the corner
- *   WADROLES_OPEN      a corner's reverse edge occurs nowhere; place the corner
+ *   WADROLES_OPEN      a corner finds no partner: no fewer corners before it
+ *                      have its directed edge than there are corners with the
+ *                      reverse; place the corner
  *
- * After WADROLES_DOUBLED and WADROLES_OPEN the entries of pairing and order
- * that success would fill are zero, and later ones stay. After the other
- * refusals both tables are as before.
+ * After WADROLES_OPEN the entries of pairing and order that success would fill
+ * are zero, and later ones stay. After the other refusals both tables are as
+ * before.
  */
 uint32_t wadroles_check(const int32_t *coords, size_t coords_len,
                         const uint32_t *corners, size_t corners_len,
@@ -175,7 +177,7 @@ uint32_t wadroles_check(const int32_t *coords, size_t coords_len,
  * among the corners of the triangle of its paired corner. Following successors
  * gives the contours: closed, and seen from above with the solid on the left.
  * Contours are linked by the pairing and never by equal points, so sheets that
- * only touch stay apart.
+ * only touch stay apart, and those that share an edge are linked as it says.
  *
  * Writes the layer into the first entries of three lent tables:
  *

@@ -1,6 +1,6 @@
 -- Check put together: what its first tests establish, and its answer and tables at each return.
 use Prim.Native.Nat.{ℕ, _≤_, _<_}
-use mathlib.Core.Path.{_≡_, refl, sym, ap, _∙_}
+use mathlib.Core.Path.{_≡_, refl, sym, _∙_}
 use mathlib.Core.Bool.{true, false}
 use mathlib.Core.List.{List, [], _∷_, _++_}
 use native.Mathlib.Omega.{arith}
@@ -91,12 +91,12 @@ module _ (m : Mesh) (t : CheckTables) where
     checks-refused {r} h =
         does-refuse (join-stop first (edgeTests (m .corners)) e h) h refl
         (λ i. checkTables
-        (after-kept (numbered (5 ∷ 6 ∷ [])) (pairingOf (m .corners)) n 0 (t .pairing) (toldOf r) other i)
-        (after-kept (numbered (5 ∷ 6 ∷ [])) (orderOf (m .coords)) k 0 (t .order) (toldOf r) other i))
+        (after-kept (numbered (6 ∷ [])) (pairingOf (m .corners)) n 0 (t .pairing) (toldOf r) other i)
+        (after-kept (numbered (6 ∷ [])) (orderOf (m .coords)) k 0 (t .order) (toldOf r) other i))
       where
-        other : numbered (5 ∷ 6 ∷ []) (toldOf r) ≡ false
+        other : numbered (6 ∷ []) (toldOf r) ≡ false
         other =
-            refused-every (λ q. numbered (5 ∷ 6 ∷ []) q ≡ false) first (toldOf r)
+            refused-every (λ q. numbered (6 ∷ []) q ≡ false) first (toldOf r)
             ((λ i. refl), ((λ i. refl), ((λ i. refl), ((λ i. refl), ((λ i. refl), tt))))) (sym e ∙ h)
 
     -- nothing, and pairs were sought
@@ -115,12 +115,12 @@ module _ (m : Mesh) (t : CheckTables) where
           does-refuse decides g refl
           (λ i. checkTables
           ((a ∙ overwrite-frame n (replicate n 0) (t .pairing) (t₁ .pairing) (length-replicate n 0) (long .links-long) (p .pairing-frame)
-          ∙ after-cleared (numbered (5 ∷ 6 ∷ [])) (pairingOf (m .corners)) n 0 (t .pairing) (toldOf r) edge) i)
+          ∙ after-cleared (numbered (6 ∷ [])) (pairingOf (m .corners)) n 0 (t .pairing) (toldOf r) edge) i)
           ((b ∙ overwrite-frame k (replicate k 0) (t .order) (t₁ .order) (length-replicate k 0) (long .heads-long) (p .order-frame)
-          ∙ after-cleared (numbered (5 ∷ 6 ∷ [])) (orderOf (m .coords)) k 0 (t .order) (toldOf r) edge) i))
+          ∙ after-cleared (numbered (6 ∷ [])) (orderOf (m .coords)) k 0 (t .order) (toldOf r) edge) i))
         where
-          edge : numbered (5 ∷ 6 ∷ []) (toldOf r) ≡ true
-          edge = refused-every (λ q. numbered (5 ∷ 6 ∷ []) q ≡ true) (edgeTests (m .corners)) (toldOf r) ((λ i. refl), ((λ i. refl), tt)) (sym (p .is) ∙ g)
+          edge : numbered (6 ∷ []) (toldOf r) ≡ true
+          edge = refused-every (λ q. numbered (6 ∷ []) q ≡ true) (edgeTests (m .corners)) (toldOf r) ((λ i. refl), tt) (sym (p .is) ∙ g)
 
       pub checks-accepted : {order₂ : List ℕ} → tellVerdict w ≡ fine → order₂ ≡ overwrite (orderOf (m .coords)) (t₁ .order)
           → Checks m t Accepted (checkTables (t₁ .pairing) order₂)
@@ -130,6 +130,6 @@ module _ (m : Mesh) (t : CheckTables) where
           (λ i. checkTables
           ((refill-is 0 n (partnerOf (m .corners)) (t .pairing) (t₁ .pairing) (p .pairing-frame .len) (long .links-long) (p .partners g)
           (p .pairing-frame .later)
-          ∙ after-fine (numbered (5 ∷ 6 ∷ [])) (pairingOf (m .corners)) n 0 (t .pairing)) i)
+          ∙ after-fine (numbered (6 ∷ [])) (pairingOf (m .corners)) n 0 (t .pairing)) i)
           ((b ∙ overwrite-frame k (orderOf (m .coords)) (t .order) (t₁ .order) (length-order (m .coords)) (long .heads-long) (p .order-frame)
-          ∙ after-fine (numbered (5 ∷ 6 ∷ [])) (orderOf (m .coords)) k 0 (t .order)) i))
+          ∙ after-fine (numbered (6 ∷ [])) (orderOf (m .coords)) k 0 (t .order)) i))

@@ -10,7 +10,7 @@ use Rattle.mesh.specs.Operation.{Answer, gives, refuses, Condition, whole, afte
 use Rattle.mesh.specs.Order.{orderOf}
 use Rattle.mesh.specs.Refusals.{Told, refusal, numbered, toldOf}
 use Rattle.mesh.specs.Tests.{size, meshTests}
-use Rattle.check_pairing.specs.Partners.{doubledEdge, openEdge, pairingOf}
+use Rattle.check_pairing.specs.Partners.{openEdge, pairingOf}
 use Rattle.check_mesh.specs.declared.CheckAnswer.{CheckAnswer}
 use Rattle.check_mesh.specs.declared.CheckAnswer.the-variants.{Accepted, Refused}
 
@@ -36,19 +36,19 @@ checkRoom corners vertices pairing order = whole (refusal 9) (not (checkRoomFor 
 abbrev pub checkTests : Mesh → ℕ → ℕ → List (Condition Told)
 checkTests m pairing order = size m ∷ checkRoom (length (m .corners)) (vertexCount (m .coords)) pairing order ∷ meshTests m
 
--- 5 and 6 (CHECK-4)
+-- 6 (CHECK-4)
 abbrev pub edgeTests : List ℕ → List (Condition Told)
-edgeTests corners = doubledEdge corners ∷ openEdge corners ∷ []
+edgeTests corners = openEdge corners ∷ []
 
 -- it gives no value; the tables hold pairing (CHECK-1) and order (CHECK-2), or zeros after
--- 5 and 6 (CHECK-12); later entries stay (CHECK-3), and after other refusals all (CHECK-13)
+-- 6 (CHECK-12); later entries stay (CHECK-3), and after other refusals all (CHECK-13)
 abbrev pub checking : Mesh × CheckTables → Operation Told Unit CheckTables
 checking = λ (m, t). record {
   refusals = checkTests m (length (t .pairing)) (length (t .order)) ++ edgeTests (m .corners);
   values = tt;
   leaves = λ f. checkTables
-      (after (numbered (5 ∷ 6 ∷ [])) f (pairingOf (m .corners)) (length (m .corners)) 0 (t .pairing))
-      (after (numbered (5 ∷ 6 ∷ [])) f (orderOf (m .coords)) (vertexCount (m .coords)) 0 (t .order));
+      (after (numbered (6 ∷ [])) f (pairingOf (m .corners)) (length (m .corners)) 0 (t .pairing))
+      (after (numbered (6 ∷ [])) f (orderOf (m .coords)) (vertexCount (m .coords)) 0 (t .order));
 }
 
 -- what its answer says

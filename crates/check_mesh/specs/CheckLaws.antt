@@ -1,91 +1,35 @@
--- What Check promises: it refuses exactly if a listed condition holds, at the least place; and an accepted mesh has a pairing that refusal 7 never
--- meets, the only one, and an order that refusal 8 never meets.
+-- What Check promises: it refuses exactly if a listed condition holds, at the least place; it accepts exactly if the earlier tests pass and each edge is used
+-- equally often both ways; and an accepted mesh has a pairing that refusal 7 never meets, the only one where no edge is shared, and an order that refusal 8
+-- never meets.
 use Prim.Native.Nat.{ℕ, _≤_, _<_}
-use mathlib.Core.Path.{_≡_, refl, sym, ap, _∙_, subst}
-use mathlib.Core.Bool.{Bool, true, false, not, _&&_}
-use mathlib.Core.List.{List, [], _∷_}
-use mathlib.Core.Logic.{_⊎_, inl, inr, ⊎-elim, _↔_}
+use mathlib.Core.Path.{_≡_, refl, sym, ap, _∙_}
+use mathlib.Core.Bool.{true, not}
+use mathlib.Core.List.{List, [], _∷_, _++_}
+use mathlib.Core.Logic.{_↔_}
 use native.Mathlib.Omega.{arith}
-use lib.Dec.{ltb, leb, eqb}
 use lib.ListN.{length, getD}
 use lib.IntN.{ℤ}
-use borrow.Author.Tests.{ltb-true, leb-true, lt-ltb, eq-eqb, ne-eqb, not-false}
-use Rattle.laws.specs.Booleans.{clash, and-parts, and-of, not-of, split-eq}
-use Rattle.laws.specs.Least.{least, some}
-use Rattle.laws.specs.LeastLaws.{some-of, some-at}
-use Rattle.laws.specs.Tables.{tabulate, overwrite}
+use borrow.Author.Tests.{leb-true, lt-ltb, eq-eqb, not-false}
+use Rattle.laws.specs.Booleans.{and-parts, and-of}
+use Rattle.laws.specs.Least.{least}
+use Rattle.laws.specs.Tables.{overwrite}
 use Rattle.laws.specs.TableLaws.{length-tabulate, length-overwrite, overwrite-at, getD-tabulate}
-use Rattle.mesh.specs.Corners.{vertexCount, startOf, endOf}
+use Rattle.mesh.specs.Corners.{vertexCount}
 use Rattle.mesh.specs.Order.{orderOf}
 use Rattle.mesh.specs.OrderTableLaws.{length-order}
 use Rattle.mesh.specs.Meshes.{Mesh}
-use Rattle.mesh.specs.Operation.{gives, refuses, fine, test, after}
-use Rattle.mesh.specs.OperationLaws.{First, None, more, done, Nowhere, nowhere-fine, fine-nowhere, Recovers, refused-exactly, given-exactly, left-given}
+use Rattle.mesh.specs.Operation.{gives, refuses, Condition, Finding, fine, test, _then_, verdict, after}
+use Rattle.mesh.specs.OperationLaws.{First, None, more, done, nowhere-fine, Recovers, refused-exactly, given-exactly, left-given}
 use Rattle.mesh.specs.OperationLaws.{only-outcome}
 use Rattle.mesh.specs.Refusals.{Told}
 use Rattle.mesh.specs.RefusalLaws.{refusalOf, refusal-once}
-use Rattle.mesh.specs.Tests.{reverse, pairedAt, pairs, orderedAt, orders}
-use Rattle.mesh.specs.TestLaws.{reverse-parts, reverse-of, paired-of, pairedAt-of}
+use Rattle.mesh.specs.Tests.{pairs, orderedAt, orders}
 use Rattle.check_mesh.specs.declared.CheckAnswer.{CheckAnswer}
 use Rattle.check_mesh.specs.declared.CheckAnswer.the-variants.{Accepted, Refused}
-use Rattle.check_mesh.specs.Check.{CheckTables, checkRoomFor, checking, tellCheck, Checks}
-use Rattle.check_pairing.specs.Partners.{repeatsEdge, doubledAt, openAt, doubledEdge, openEdge, partnerOf, pairingOf}
-
--- ---- a closed mesh: no directed edge twice, and the reverse of each
-
-module _ (corners : List ℕ) (single : Nowhere (doubledEdge corners)) (closed : Nowhere (openEdge corners)) where
-  partner : (c : ℕ) → c < length corners → (partnerOf corners c < length corners) × (reverse corners c (partnerOf corners c) ≡ true)
-  unfolding openAt partnerOf
-  partner c l = some-at (length corners) (reverse corners c) (not-false _ (closed c l))
-
-  -- two corners with one directed edge are one
-  one-edge : (d e : ℕ) → d < length corners → e < length corners → startOf corners d ≡ startOf corners e → endOf corners d ≡ endOf corners e → d ≡ e
-  one-edge d e ld le p q = ⊎-elim (λ h. h) (λ ne. absurd (clash (twins ne) (single e le))) (split-eq d e)
-    where
-      twins : (d ≡ e → ⊥) → doubledAt corners e ≡ true
-      twins ne =
-          unfold doubledAt repeatsEdge in (some-of (length corners) (repeatsEdge corners e) d ld
-          (and-of (not-of (ne-eqb _ _ ne)) (and-of (eq-eqb _ _ p) (eq-eqb _ _ q))))
-
-  -- a corner with the reverse edge is the partner
-  partner-one : (c d : ℕ) → c < length corners → d < length corners → reverse corners c d ≡ true → d ≡ partnerOf corners c
-  partner-one c d lc ld r =
-      let p = partner c lc in
-      let a = reverse-parts corners c d r in
-      let b = reverse-parts corners c (partnerOf corners c) (p .1) in
-      one-edge d (partnerOf corners c) ld (p .0) (a .0 ∙ sym (b .0)) (a .1 ∙ sym (b .1))
-
-  partner-back : (c : ℕ) → c < length corners → partnerOf corners (partnerOf corners c) ≡ c
-  partner-back c l =
-      let p = partner c l in
-      let b = reverse-parts corners c (partnerOf corners c) (p .1) in
-      sym (partner-one (partnerOf corners c) c (p .0) l (reverse-of corners (partnerOf corners c) c (sym (b .1)) (sym (b .0))))
-
-  -- a table that starts with the partners is a right pairing
-  pub pairing-right : (table : List ℕ) → length corners ≤ length table → ((c : ℕ) → c < length corners → getD table c 0 ≡ partnerOf corners c)
-      → fine ≡ test (pairs corners table)
-  pairing-right table long are = nowhere-fine (pairs corners table) (λ c l. ap not (right c l))
-    where
-      right : (c : ℕ) → c < length corners → pairedAt corners table c ≡ true
-      right c l =
-          let e = are c l in
-          let p = partner c l in
-          let b : getD table c 0 < length corners = rw e (p .0) in
-          pairedAt-of corners table c
-          (record {
-            there = omega arith;
-            corner = b;
-            turned = rw e (p .1);
-            back-there = omega arith;
-            back = are (getD table c 0) b ∙ ap (partnerOf corners)
-                e ∙ partner-back c l;
-          })
-
-  -- and the only one
-  pub pairing-only : (table : List ℕ) → test (pairs corners table) ≡ fine → (c : ℕ) → c < length corners → getD table c 0 ≡ partnerOf corners c
-  pairing-only table f c l =
-      let p = paired-of corners table c (not-false _ (fine-nowhere (pairs corners table) f c l)) in
-      partner-one c (getD table c 0) l (p .corner) (p .turned)
+use Rattle.check_mesh.specs.Check.{CheckTables, checkRoomFor, checkTests, checking, tellCheck, Checks}
+use Rattle.check_pairing.specs.Partners.{partnerOf, pairingOf}
+use Rattle.check_pairing.specs.EdgeUse.{EvenEdges, SingleEdges, openByEdges}
+use Rattle.check_pairing.specs.PartnerLaws.{closed-exactly, pairing-right, open-single, pairing-only}
 
 -- a table that starts with the order is right
 pub order-right : (coords : List ℤ) (table : List ℕ) → vertexCount coords ≤ length table
@@ -95,6 +39,12 @@ order-right coords table long are = nowhere-fine (orders coords table) (λ i l. 
   where
     right : (i : ℕ) → i < vertexCount coords → orderedAt coords table i ≡ true
     right i l = unfold orderedAt in (and-of (lt-ltb i (length table) (omega arith)) (eq-eqb _ _ (are i l)))
+
+-- lists of refusals that differ in the last, which finds the same
+last-same : (ks : List (Condition Told)) (a b : Condition Told) → test a ≡ test b → verdict (ks ++ (a ∷ [])) ≡ verdict (ks ++ (b ∷ []))
+unfolding verdict
+last-same [] a b e = ap (λ (f : Finding Told). f then fine) e
+last-same (k ∷ ks) a b e = ap (λ (f : Finding Told). test k then f) (last-same ks a b e)
 
 -- ---- Check
 
@@ -115,10 +65,31 @@ module _ {m : Mesh} {t t′ : CheckTables} {result : CheckAnswer} (c : Checks m 
   pub check-only : {other : CheckAnswer} {u′ : CheckTables} → Checks m t other u′ → (result ≡ other) × (t′ ≡ u′)
   check-only = only-outcome check-recovers c
 
+  -- accepted exactly if 1, 9, 2, 3 and 4 do not fit and each edge is used equally often both ways (CHECK-17)
+  pub check-even : (tellCheck result ≡ gives tt) ↔ (None (checkTests m (length (t .pairing)) (length (t .order))) × EvenEdges (m .corners))
+  check-even =
+      (λ e. parts (check-given .0 e), λ (first, even). check-given .1 (both first even))
+    where
+      parts : None (checking (m, t) .refusals) → None (checkTests m (length (t .pairing)) (length (t .order))) × EvenEdges (m .corners)
+      parts (more s (more r (more x (more y (more z (more o done)))))) =
+          (more s (more r (more x (more y (more z done)))), closed-exactly (m .corners) .0 o)
+
+      both : None (checkTests m (length (t .pairing)) (length (t .order))) → EvenEdges (m .corners) → None (checking (m, t) .refusals)
+      both (more s (more r (more x (more y (more z done))))) even =
+          more s (more r (more x (more y (more z (more (closed-exactly (m .corners) .1 even) done)))))
+
+  -- where no two corners have the same directed edge it answers as by edges alone (CHECK-18)
+  pub check-single : SingleEdges (m .corners)
+      → tellCheck result ≡ (verdict (checkTests m (length (t .pairing)) (length (t .order)) ++ (openByEdges (m .corners) ∷ [])) then gives tt)
+  check-single single =
+      c .answers
+      ∙ ap (λ (f : Finding Told). f then gives tt) (last-same (checkTests m (length (t .pairing)) (length (t .order))) _ _ (open-single (m .corners) single))
+
   -- the promise that the cutting parts rest on (CHECK-14, FORM-4)
   pub record CheckPromise : Type 0 where
     pub pairing-fine : fine ≡ test (pairs (m .corners) (t′ .pairing))
-    pub pairing-one : (table : List ℕ) → test (pairs (m .corners) table) ≡ fine → (k : ℕ) → k < length (m .corners) → getD table k 0 ≡ getD (t′ .pairing) k 0
+    pub pairing-one : SingleEdges (m .corners) → (table : List ℕ) → test (pairs (m .corners) table) ≡ fine
+        → (k : ℕ) → k < length (m .corners) → getD table k 0 ≡ getD (t′ .pairing) k 0
     pub order-fine : fine ≡ test (orders (m .coords) (t′ .order))
 
   pub check-promise : tellCheck result ≡ gives tt → CheckPromise
@@ -136,7 +107,7 @@ module _ {m : Mesh} {t t′ : CheckTables} {result : CheckAnswer} (c : Checks m 
       room-parts h = unfold checkRoomFor in (let p = and-parts _ _ h in (leb-true _ _ (p .0), leb-true _ _ (p .1)))
 
       go : None (checking (m, t) .refusals) → CheckPromise
-      go (more s (more r (more x (more y (more z (more d (more o done))))))) =
+      go (more s (more r (more x (more y (more z (more o done)))))) =
           let q = room-parts (not-false _ (r 0 (omega arith))) in
           let lp : length (pairingOf (m .corners)) ≡ length (m .corners) = unfold pairingOf in (length-tabulate (length (m .corners)) (partnerOf (m .corners)))
           in
@@ -149,8 +120,8 @@ module _ {m : Mesh} {t t′ : CheckTables} {result : CheckAnswer} (c : Checks m 
           λ k l. ap (λ (u : List ℕ). getD u k 0) filled ∙ overwrite-at (pairingOf (m .corners)) (t .pairing) k 0 (omega arith)
           ∙ (unfold pairingOf in (getD-tabulate (length (m .corners)) (partnerOf (m .corners)) k 0 l)) in
           record {
-            pairing-fine = pairing-right (m .corners) d o (t′ .pairing) long at;
-            pairing-one = λ u f k l. pairing-only (m .corners) d o u f k l ∙ sym (at k l);
+            pairing-fine = pairing-right (m .corners) o (t′ .pairing) long at;
+            pairing-one = λ single u f k l. pairing-only (m .corners) single u f k l ∙ sym (at k l);
             order-fine =
                 order-right (m .coords) (t′ .order) long′
                 (λ i l. ap (λ (u : List ℕ). getD u i 0) listed ∙ overwrite-at (orderOf (m .coords)) (t .order) i 0 (omega arith));

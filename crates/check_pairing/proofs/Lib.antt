@@ -2,5 +2,7 @@
 pub mod Counts
 pub mod Edges
 pub mod Threads
+pub mod Queues
+pub mod Turns
 pub mod Joins
 pub mod Pairs

@@ -1,3 +1,5 @@
--- Refusals 5 and 6, and the pairing.
+-- Refusal 6, and the pairing.
 pub mod Partners
+pub mod EdgeUse
+pub mod PartnerLaws
 pub mod Joining

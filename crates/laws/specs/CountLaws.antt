@@ -1,12 +1,13 @@
--- Laws of `count`: a weaker test counts no fewer, and one more where it passes one more.
+-- Laws of `count`: a weaker test counts no fewer, and one more where it passes one more; and how many pass below one number and below a later one.
 use Prim.Native.Nat.{ℕ, zero, suc, _+_, _≤_, _<_}
 use mathlib.Core.Path.{_≡_, refl, sym, ap, _∙_}
 use mathlib.Core.Bool.{Bool, true, false, cond}
+use mathlib.Core.Logic.{_⊎_, inl, inr, ⊎-elim}
 use native.Mathlib.Omega.{arith}
 use native.Mathlib.Numerals.{add-one}
 use native.Mathlib.Decide.{ℕ-discrete}
 use native.Mathlib.Nat.{not-suc-le-zero}
-use Rattle.laws.specs.Booleans.{clash}
+use Rattle.laws.specs.Booleans.{clash, split-lt}
 use Rattle.laws.specs.Count.{count}
 
 module _ (s t : ℕ → Bool) where
@@ -56,3 +57,50 @@ count-one n t e = rw (add-one n, e) (omega arith)
 pub count-none : (n : ℕ) (t : ℕ → Bool) → t n ≡ false → count n t ≡ count (n + 1) t
 unfolding count
 count-none n t e = rw (add-one n, e) (omega arith)
+
+-- ---- below one number and below a later one
+
+module _ (t : ℕ → Bool) where
+  pub count-stay : (k m : ℕ) → k ≤ m → ((j : ℕ) → k ≤ j → j < m → t j ≡ false) → count m t ≡ count k t
+  unfolding count
+  count-stay k zero h f = let e : zero ≡ k = omega arith in ap (λ (j : ℕ). count j t) e
+  count-stay k (suc m) h f = by (split-lt m k) (λ l. count-stay k m l (λ j a b. f j a (omega arith)))
+    where
+      by : (m < k) ⊎ (k ≤ m) → (k ≤ m → count m t ≡ count k t) → count (suc m) t ≡ count k t
+      by (inl l) ih = let e : suc m ≡ k = omega arith in ap (λ (j : ℕ). count j t) e
+      by (inr l) ih = let e = f m l (omega arith) in rw e (omega (arith, ih l))
+
+  pub count-rise : (k m : ℕ) → k ≤ m → count k t ≤ count m t
+  unfolding count
+  count-rise k zero h = let e : k ≡ zero = omega arith in rw e (omega arith)
+  count-rise k (suc m) h = by (split-lt m k) (count-rise k m)
+    where
+      tick : (b : Bool) (x y : ℕ) → x ≤ y → x ≤ cond b 1 0 + y
+      tick true x y l = omega arith
+      tick false x y l = omega arith
+
+      by : (m < k) ⊎ (k ≤ m) → (k ≤ m → count k t ≤ count m t) → count k t ≤ count (suc m) t
+      by (inl l) ih = let e : k ≡ suc m = omega arith in omega (arith, ap (λ (j : ℕ). count j t) e)
+      by (inr l) ih = tick (t m) (count k t) (count m t) (ih l)
+
+  pub count-past : (i k : ℕ) → i < k → t i ≡ true → count i t < count k t
+  count-past i k h e = omega (arith, count-one i t e, count-rise (i + 1) k (omega arith))
+
+  -- the number that has r before it that pass, and passes
+  pub record Nth (k r : ℕ) : Type 0 where
+    pub at : ℕ
+    pub below : at < k
+    pub fits : t at ≡ true
+    pub is : count at t ≡ r
+
+  pub count-nth : (k r : ℕ) → r < count k t → Nth k r
+  unfolding count
+  count-nth zero r h = absurd (omega arith)
+  count-nth (suc k) r h = by (t k) refl h (count-nth k r)
+    where
+      further : Nth k r → Nth (suc k) r
+      further x = record { at = x .at; below = omega (arith, x .below); fits = x .fits; is = x .is }
+
+      by : (b : Bool) → t k ≡ b → r < cond b 1 0 + count k t → (r < count k t → Nth k r) → Nth (suc k) r
+      by true e l ih = ⊎-elim (λ m. further (ih m)) (λ m. record { at = k; below = omega arith; fits = e; is = omega arith }) (split-lt r (count k t))
+      by false e l ih = further (ih (omega arith))

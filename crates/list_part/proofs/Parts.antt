@@ -17,9 +17,9 @@ use Rattle.mesh.specs.OperationLaws.{verdict-stop, verdict-next, join-stop, joi
 use Rattle.mesh.specs.Refusals.{Told, refusal, numbered}
 use Rattle.mesh.specs.Tests.{pairs}
 use Rattle.check_pairing.specs.Partners.{partnerOf, pairingOf}
+use Rattle.check_pairing.specs.PartnerLaws.{pairing-right}
 use Rattle.check_mesh.specs.declared.CheckAnswer.{CheckAnswer}
 use Rattle.check_mesh.specs.Check.{CheckTables, checkTests, edgeTests, checking, tellCheck, Checks}
-use Rattle.check_mesh.specs.CheckLaws.{pairing-right}
 use Rattle.section.specs.Section.{Right}
 use Rattle.section.specs.RightLaws.{right-of}
 use Rattle.cut.specs.Cut.{Lengths}
@@ -102,7 +102,7 @@ module _ (p : Part) where
               (join-next (partCheckTests p) (fallingHeight (p .heights) ∷ []) same (given-verdict k g .0) (h ∙ verdict-one (fallingHeight (p .heights))));
           pairs =
               λ q. ap (λ (u : CheckTables). u .pairing) (left-given k g)
-              ∙ sym (after-fine (numbered (5 ∷ 6 ∷ [])) (pairingOf (p .corners)) (length (p .corners)) 0 (t .pairing));
+              ∙ sym (after-fine (numbered (6 ∷ [])) (pairingOf (p .corners)) (length (p .corners)) 0 (t .pairing));
         }
 
   -- ---- a part without refusals
@@ -122,9 +122,9 @@ module _ (p : Part) where
 
     go : None (partRefusals p) → ListablePart
     unfolding pairingOf
-    go (more l (more s (more m (more r (more x (more y (more d (more o (more q done))))))))) =
+    go (more l (more s (more m (more r (more x (more y (more o (more q done)))))))) =
         let w = within (l 0 (omega arith)) in
-        let is = pairing-right (p .corners) d o (pairingOf (p .corners)) (omega (arith, length-pairing))
+        let is = pairing-right (p .corners) o (pairingOf (p .corners)) (omega (arith, length-pairing))
         (λ c h. getD-tabulate (length (p .corners)) (partnerOf (p .corners)) c 0 h) in
         let right : Right (pairedPart p) =
         right-of (pairedPart p) (not-false _ (s 0 (omega arith))) r x y (fine-nowhere (pairs (p .corners) (pairingOf (p .corners))) (sym is)) in

@@ -2,11 +2,12 @@
 use Prim.Native.Nat.{ℕ}
 use mathlib.Core.Path.{_≡_, refl}
 use mathlib.Core.List.{List, [], _∷_, _++_, flatten}
+use Rattle.laws.specs.Count.{count}
 use Rattle.laws.specs.Least.{least, some}
 use Rattle.laws.specs.Tables.{tabulate}
 use Rattle.mesh.specs.Operation.{test, _then_, verdict}
 use Rattle.mesh.specs.Tests.{sizesFit, outOfRange, namesNone, namesTwice, reverse}
-use Rattle.check_pairing.specs.Partners.{repeatsEdge, doubledAt, openAt, partnerOf, pairingOf}
+use Rattle.check_pairing.specs.Partners.{standsFor, uses, partners, openAt, partnerOf, pairingOf}
 use Rattle.check_mesh.specs.Check.{checkRoomFor}
 use Rattle.section.specs.Section.{below, rising, risingIn, successor}
 use Rattle.section.specs.Contours.{member, walk, traceAt, traceTo, trace}
@@ -42,7 +43,7 @@ five-lines : listed ((0x04 ∷ 0x04 ∷ vertices) ++ (three ++ (last ++ (0x04 �
     ++ (108 ∷ 97 ∷ 121 ∷ 101 ∷ 114 ∷ 32 ∷ 49 ∷ 49 ∷ 32 ∷ 48 ∷ 32 ∷ 48 ∷ 32 ∷ 48 ∷ 10 ∷ []))))
 unfolding vertices three last listed verdict _then_ test some least beyond
     brokenAt heldOr partOf partFile tablesFor countsFormat signedList plainRun signedRun parseNumber parseAll
-    heightsTaken notAboveLast sizesFit checkRoomFor outOfRange namesNone namesTwice reverse repeatsEdge doubledAt openAt partnerOf pairingOf tabulate
+    heightsTaken notAboveLast sizesFit checkRoomFor outOfRange namesNone namesTwice openAt partners reverse uses count standsFor partnerOf pairingOf tabulate
     below trace traceTo traceAt walk member rising risingIn successor numbersOf pointAt exactOver exactUnder numerator denominator rounded
     crossOf nextPoint sumOf areaOf layersLine layerLine areaSum lineOf lineAt listing flatten signedDecimal decimal digits
 five-lines = refl
@@ -52,7 +53,7 @@ nothing : listed (0x00 ∷ 0x00 ∷ 0x00 ∷ []) ≡ 108 ∷ 97 ∷ 121 ∷ 101 
 unfolding listed verdict _then_ test some least beyond
     brokenAt heldOr partOf partFile tablesFor countsFormat signedList plainRun signedRun parseNumber parseAll
     heightsTaken lowestTo highestTo lower higher defaultCount defaultHeight tabulate notAboveLast
-    sizesFit checkRoomFor outOfRange namesNone namesTwice reverse repeatsEdge doubledAt openAt
+    sizesFit checkRoomFor outOfRange namesNone namesTwice openAt partners reverse uses count standsFor
     layersLine lineAt listing flatten decimal digits
 nothing = refl
 
@@ -69,7 +70,7 @@ open-edge : listed ((0x04 ∷ 0x03 ∷ vertices) ++ (three ++ (0x00 ∷ []))) �
 unfolding vertices three listed verdict _then_ test some least beyond
     brokenAt heldOr partOf partFile tablesFor countsFormat signedList plainRun signedRun parseNumber parseAll
     heightsTaken lowestTo highestTo lower higher defaultCount defaultHeight tabulate notAboveLast
-    sizesFit checkRoomFor outOfRange namesNone namesTwice reverse repeatsEdge doubledAt openAt refusedLine flatten decimal digits
+    sizesFit checkRoomFor outOfRange namesNone namesTwice openAt partners reverse uses count standsFor refusedLine flatten decimal digits
 open-edge = refl
 
 -- P with the heights 0, 5 and 5: "refused 12 2"
@@ -77,5 +78,6 @@ equal-heights : listed ((0x04 ∷ 0x04 ∷ vertices) ++ (three ++ (last ++ (0x03
     ≡ 114 ∷ 101 ∷ 102 ∷ 117 ∷ 115 ∷ 101 ∷ 100 ∷ 32 ∷ 49 ∷ 50 ∷ 32 ∷ 50 ∷ 10 ∷ []
 unfolding vertices three last listed verdict _then_ test some least beyond
     brokenAt heldOr partOf partFile tablesFor countsFormat signedList plainRun signedRun parseNumber parseAll
-    heightsTaken sizesFit checkRoomFor outOfRange namesNone namesTwice reverse repeatsEdge doubledAt openAt notAboveLast refusedLine flatten decimal digits
+    heightsTaken sizesFit checkRoomFor outOfRange namesNone namesTwice openAt partners reverse uses count standsFor notAboveLast refusedLine flatten decimal
+    digits
 equal-heights = refl

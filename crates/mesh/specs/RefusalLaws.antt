@@ -7,14 +7,14 @@ use Rattle.mesh.specs.Operation.{Answer, gives, refuses}
 use Rattle.mesh.specs.OperationLaws.{Recovers}
 use Rattle.mesh.specs.Refusals.{Told, toldOf, tellVerdict}
 use Rattle.mesh.specs.declared.Refusal.{Refusal}
-use Rattle.mesh.specs.declared.Refusal.the-variants.{Size, Range, Vertex, Triangle, Doubled, Open, Pairing, Order, Room, Passed, Ring, Height, File}
+use Rattle.mesh.specs.declared.Refusal.the-variants.{Size, Range, Vertex, Triangle, Open, Pairing, Order, Room, Passed, Ring, Height, File}
 use Rattle.mesh.specs.declared.Refusal.the-variants.{Output, Layer, Used, Origin, Unclean, Thickness}
 use Rattle.mesh.specs.declared.Verdict.{Verdict}
 use Rattle.mesh.specs.declared.Verdict.the-variants.{Fine, Refused}
 
--- the case of each number from 0 on; there is no 0
+-- the case of each number from 0 on, and Size where a number has none
 kinds : List (ℕ → Refusal)
-kinds = Size ∷ Size ∷ Range ∷ Vertex ∷ Triangle ∷ Doubled ∷ Open ∷ Pairing ∷ Order ∷ Room ∷ Passed ∷ Ring ∷ Height ∷ File ∷ Output ∷ Layer ∷ Used
+kinds = Size ∷ Size ∷ Range ∷ Vertex ∷ Triangle ∷ Size ∷ Open ∷ Pairing ∷ Order ∷ Room ∷ Passed ∷ Ring ∷ Height ∷ File ∷ Output ∷ Layer ∷ Used
     ∷ Origin ∷ Unclean ∷ Thickness ∷ []
 
 pub refusalOf : Told → Refusal
@@ -26,7 +26,6 @@ refusal-once (Size p) = refl
 refusal-once (Range p) = refl
 refusal-once (Vertex p) = refl
 refusal-once (Triangle p) = refl
-refusal-once (Doubled p) = refl
 refusal-once (Open p) = refl
 refusal-once (Pairing p) = refl
 refusal-once (Order p) = refl

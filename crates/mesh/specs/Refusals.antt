@@ -5,7 +5,7 @@ use mathlib.Core.List.{List, [], _∷_}
 use lib.Dec.{eqb}
 use Rattle.mesh.specs.Operation.{Answer, gives, refuses}
 use Rattle.mesh.specs.declared.Refusal.{Refusal}
-use Rattle.mesh.specs.declared.Refusal.the-variants.{Size, Range, Vertex, Triangle, Doubled, Open, Pairing, Order, Room, Passed, Ring, Height, File}
+use Rattle.mesh.specs.declared.Refusal.the-variants.{Size, Range, Vertex, Triangle, Open, Pairing, Order, Room, Passed, Ring, Height, File}
 use Rattle.mesh.specs.declared.Refusal.the-variants.{Output, Layer, Used, Origin, Unclean, Thickness}
 use Rattle.mesh.specs.declared.Verdict.{Verdict}
 use Rattle.mesh.specs.declared.Verdict.the-variants.{Fine, Refused}
@@ -30,7 +30,6 @@ toldOf (Size place) = refusal 1 place
 toldOf (Range place) = refusal 2 place
 toldOf (Vertex place) = refusal 3 place
 toldOf (Triangle place) = refusal 4 place
-toldOf (Doubled place) = refusal 5 place
 toldOf (Open place) = refusal 6 place
 toldOf (Pairing place) = refusal 7 place
 toldOf (Order place) = refusal 8 place

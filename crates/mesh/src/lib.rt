@@ -16,9 +16,7 @@ pub enum Refusal {
     Vertex(usize),
     // 4: a triangle names a vertex twice.
     Triangle(usize),
-    // 5: a corner's directed edge occurs at another corner too.
-    Doubled(usize),
-    // 6: a corner's reverse edge occurs nowhere.
+    // 6: a corner finds no partner.
     Open(usize),
     // 7: the pairing is missing an entry or wrong.
     Pairing(usize),

@@ -97,7 +97,7 @@ reading-nonzero Clean file i n = (has-one, three tt)
 
 module _ {a b c d n : ℕ} {out′ : List ℕ} where
   pub check-said : {m : Mesh} {t t′ : CheckTables} → CheckC m t (fourWords a b c d) n t′ out′ → saidBy (λ _. tt) n out′ ≡ answerOf (checking (m, t))
-  check-said = exports-said (λ _. tt) (λ _. refl) (has-one, three (three tt))
+  check-said = exports-said (λ _. tt) (λ _. refl) (three (three tt))
 
   pub cut-said : {m : PairedMesh} {h : ℤ} {t t′ : CutTables} → CutC m h t (fourWords a b c d) n t′ out′
       → saidBy (λ out. (getD out 0 0, getD out 1 0)) n out′ ≡ answerOf (cutting (m, h, t))

@@ -1,3 +1,4 @@
 -- The starred worked pieces (WORKED-1).
 pub mod Pieces
+pub mod SharedEdge
 pub mod Worked

@@ -1,16 +1,17 @@
--- The starred worked pieces (WORKED-4 to WORKED-14, WORKED-18 to WORKED-20), all in one statement
+-- The starred worked pieces (WORKED-4 to WORKED-14, WORKED-18 to WORKED-20, WORKED-22 to WORKED-24), all in one statement
 -- (WORKED-1): what the definitions give for these inputs are these results.
 use mathlib.Core.Path.{_≡_, refl, ap, _∙_}
 use mathlib.Core.List.{List, [], _∷_, map, flatten}
 use Prim.Native.Nat.{ℕ}
 use lib.IntN.{ℤ, pos, negsuc}
+use Rattle.laws.specs.Count.{count}
 use Rattle.laws.specs.Least.{least, some}
 use Rattle.laws.specs.Tables.{tabulate, overwrite}
 use Rattle.mesh.specs.Meshes.{Mesh, mesh, OrderedMesh, ordered}
 use Rattle.mesh.specs.Operation.{test, _then_, verdict, after}
 use Rattle.mesh.specs.Order.{before, place, orderUpTo, orderOf}
 use Rattle.mesh.specs.Tests.{sizesFit, outOfRange, namesNone, namesTwice, reverse, pairedAt, orderedAt}
-use Rattle.check_pairing.specs.Partners.{repeatsEdge, doubledAt, openAt, partnerOf, pairingOf}
+use Rattle.check_pairing.specs.Partners.{standsFor, uses, partners, openAt, partnerOf, pairingOf}
 use Rattle.check_mesh.specs.Check as check
 use Rattle.cleaning.specs.Cleaning.{samePoint, unrepeated, trimmed, neat, among, variety, kept, cleaned, samePoints, isClean}
 use Rattle.cleaning.specs.declared.Profile.the-variants.{Full, Clean}
@@ -36,6 +37,7 @@ use Rattle.all_sweep.specs.AllLayers.{sweptLayer, climb, workRoomFor}
 use Rattle.worked.specs.Pieces.{Input, checked, passed, cutAt, areaOf, filed, edgeAt, read, inked}
 use Rattle.worked.specs.Pieces.{Result, refused, paired, rings, LayerResult, layer as layered, number, bytes}
 use Rattle.worked.specs.Pieces.{withTables, checkedAs, passedAs, cutAs, areaAs, filedAs, edgeAs, readFileAs, inkedAs, resultOf}
+use Rattle.worked.specs.SharedEdge.{cubes, cubesPairing, cubesAtFive, uneven, cubes-accepted, cubes-cut, uneven-refused}
 
 -- part P, and P without triangle 3 (WORKED-13)
 abbrev pub P : Mesh
@@ -103,6 +105,9 @@ inputs =
     ∷ filed Clean P heights 16
     ∷ read Clean file
     ∷ inked file 1000
+    ∷ checked cubes
+    ∷ cutAt cubes (pos 5)
+    ∷ checked uneven
     ∷ []
 
 abbrev pub results : List Result
@@ -123,6 +128,9 @@ results =
     ∷ bytes cleanFile
     ∷ refused 18 14
     ∷ number (pos 1)
+    ∷ paired cubesPairing
+    ∷ layered cubesAtFive
+    ∷ refused 6 12
     ∷ []
 
 -- ---- P with its pairing and order
@@ -131,21 +139,19 @@ abbrev ready : OrderedMesh
 ready = ordered (P .coords) (P .corners) pairing (0 ∷ 1 ∷ 2 ∷ 3 ∷ [])
 
 tables : withTables P ≡ ready
-unfolding withTables verdict _then_ test some least after overwrite tabulate sizesFit check.checkRoomFor outOfRange namesNone namesTwice repeatsEdge
-    doubledAt openAt
-    reverse pairingOf partnerOf orderOf orderUpTo place before
+unfolding withTables verdict _then_ test some least after overwrite tabulate sizesFit check.checkRoomFor outOfRange namesNone namesTwice openAt
+    partners reverse uses count standsFor pairingOf partnerOf orderOf orderUpTo place before
 tables = refl
 
 -- ---- piece by piece
 
 P-accepted : checkedAs P ≡ paired pairing
-unfolding checkedAs verdict _then_ test some least after overwrite tabulate sizesFit check.checkRoomFor outOfRange namesNone namesTwice repeatsEdge
-    doubledAt openAt
-    reverse pairingOf partnerOf
+unfolding checkedAs verdict _then_ test some least after overwrite tabulate sizesFit check.checkRoomFor outOfRange namesNone namesTwice openAt
+    partners reverse uses count standsFor pairingOf partnerOf
 P-accepted = refl
 
 P-opened : checkedAs opened ≡ refused 6 1
-unfolding checkedAs verdict _then_ test some least sizesFit check.checkRoomFor outOfRange namesNone namesTwice repeatsEdge doubledAt openAt reverse
+unfolding checkedAs verdict _then_ test some least sizesFit check.checkRoomFor outOfRange namesNone namesTwice openAt partners reverse uses count standsFor
 P-opened = refl
 
 one-passed : passedAs ready 1 ≡ rings ((0 ∷ 6 ∷ 3 ∷ []) ∷ [])
@@ -254,4 +260,7 @@ worked = λ i.
     ∷ from-ready (λ m. filedAs Clean m heights 16) clean-P i
     ∷ unclean-P i
     ∷ ink-P i
+    ∷ cubes-accepted i
+    ∷ cubes-cut i
+    ∷ uneven-refused i
     ∷ []

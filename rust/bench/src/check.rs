@@ -1,7 +1,7 @@
-use crate::comparison::{Bench, Comparison};
-use crate::inputs::kinds;
+use crate::comparison::{Bench, Comparison, Kind};
+use crate::inputs::{flap_kinds, kinds, tori};
 use crate::owned::{lend, JUNK};
-use crate::unproved;
+use crate::unproved::{self, Check};
 use crate::versions::{Subject, Version};
 use meshes::Mesh;
 use std::hint::black_box;
@@ -9,8 +9,10 @@ use wadroles::CheckTables;
 
 /// Check.
 pub fn benches() -> Vec<Box<dyn Bench>> {
-    let table = Comparison::new("check", "triangles", kinds(Checked::new));
-    vec![Box::new(table)]
+    let mut rows = kinds(Checked::new);
+    rows.extend(flap_kinds(Checked::new));
+    rows.push(Kind::new("torus, by sorting", tori(), Checked::by_sorting));
+    vec![Box::new(Comparison::new("check", "triangles", rows))]
 }
 
 /// A mesh, with the tables lent to check.
@@ -18,6 +20,7 @@ struct Checked {
     mesh: Mesh,
     pairing: Vec<u32>,
     order: Vec<u32>,
+    unproved: Check,
 }
 
 impl Checked {
@@ -26,6 +29,14 @@ impl Checked {
             pairing: vec![JUNK; mesh.corners.len()],
             order: vec![JUNK; mesh.vertex_count()],
             mesh,
+            unproved: unproved::check,
+        }
+    }
+
+    fn by_sorting(mesh: Mesh) -> Self {
+        Checked {
+            unproved: unproved::check_by_sorting,
+            ..Checked::new(mesh)
         }
     }
 }
@@ -50,13 +61,13 @@ impl Subject for Checked {
     fn call(&mut self, version: Version, _call: usize) -> Self::Answer {
         let check = black_box(match version {
             Version::Library => wadroles::check,
-            Version::Unproved => unproved::check,
+            Version::Unproved => self.unproved,
         });
         let mut tables = CheckTables {
             pairing: &mut self.pairing,
             order: &mut self.order,
         };
-        check(black_box(lend(&self.mesh)), &mut tables).expect("the mesh is closed");
+        check(black_box(lend(&self.mesh)), &mut tables).expect("the mesh passes");
     }
 
     fn left(&self) -> Self::Left {

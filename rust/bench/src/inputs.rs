@@ -2,6 +2,7 @@
 
 use crate::comparison::Kind;
 use meshes::shapes::{bipyramid, torus};
+use meshes::sheets::flaps;
 use meshes::{Mesh, Random};
 
 /// The points of each layer of the largest double cone.
@@ -22,6 +23,15 @@ pub fn torus_kinds<S: 'static>(subject: fn(Mesh) -> S) -> Vec<Kind<S>> {
     vec![
         Kind::new("torus", tori(), subject),
         Kind::new("torus, shuffled", tori().map(shuffled), subject),
+    ]
+}
+
+/// Flaps on one edge, which is used 7,500, 15,000 and 30,000 times each way.
+pub fn flap_kinds<S: 'static>(subject: fn(Mesh) -> S) -> Vec<Kind<S>> {
+    let flaps = || [7_500, 15_000, 30_000].map(|count| flaps(count, 1_000_000));
+    vec![
+        Kind::new("flaps on one edge", flaps(), subject),
+        Kind::new("flaps, shuffled", flaps().map(shuffled), subject),
     ]
 }
 

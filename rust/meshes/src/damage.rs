@@ -69,7 +69,9 @@ impl Damage {
             Damage::MovedCorner if vertices > 0 && triangles > 0 => move_corner(mesh, random),
             Damage::Name if triangles > 0 => spoil_name(mesh, random),
             Damage::RepeatedVertex if triangles > 0 => repeat_vertex(mesh, random),
-            Damage::DoubledTriangle if triangles > 0 => double_triangle(mesh, random),
+            Damage::DoubledTriangle if triangles > 0 => {
+                double_triangle(mesh, random.below(triangles), random)
+            }
             Damage::FlippedTriangle if triangles > 0 => mesh.flip_triangle(random.below(triangles)),
             Damage::RemovedTriangle if triangles > 0 => {
                 mesh.remove_triangle(random.below(triangles))
@@ -112,8 +114,8 @@ fn move_corner(mesh: &mut Mesh, random: &mut Random) {
     mesh.corners[corner] = random.below(mesh.vertex_count()) as u32;
 }
 
-fn double_triangle(mesh: &mut Mesh, random: &mut Random) {
-    let triangle = random.below(mesh.triangle_count());
+/// Puts a copy of the triangle in at a random number.
+pub(crate) fn double_triangle(mesh: &mut Mesh, triangle: usize, random: &mut Random) {
     let mut copy = [0; 3];
     copy.copy_from_slice(mesh.triangle_mut(triangle));
     copy.rotate_left(random.below(3));

@@ -1,7 +1,7 @@
 //! Triangle meshes for tests and benchmarks: [`shapes`], random meshes that are [closed](closed_mesh),
-//! [large](large_mesh) or have [shared edges](shared_edges), [pairings](random_pairing),
-//! [orders](vertex_order) and [heights](random_height) for them, and [`Damage`], [`PairingDamage`],
-//! [`OrderDamage`] and [`RingDamage`] that spoil them.
+//! [large](large_mesh) or have [shared edges](shared_edges), also [unevenly](uneven_edges),
+//! [pairings](random_pairing), [orders](vertex_order) and [heights](random_height) for them, and
+//! [`Damage`], [`PairingDamage`], [`OrderDamage`] and [`RingDamage`] that spoil them.
 
 #![forbid(unsafe_code)]
 
@@ -17,6 +17,8 @@ mod random;
 mod ring;
 pub mod shapes;
 mod shared;
+pub mod sheets;
+mod uneven;
 
 pub use closed::{closed_mesh, large_mesh};
 pub use damage::Damage;
@@ -27,3 +29,4 @@ pub use pairing::{random_pairing, PairingDamage};
 pub use random::Random;
 pub use ring::RingDamage;
 pub use shared::shared_edges;
+pub use uneven::uneven_edges;

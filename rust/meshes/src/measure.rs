@@ -3,14 +3,27 @@
 use crate::Mesh;
 use std::collections::BTreeSet;
 
-/// Whether no directed edge occurs twice, and the reverse edges are the same edges. By sorting, so
-/// that it shares nothing with a map from edge to corner.
+/// Whether no directed edge occurs twice, and the reverse edges are the same edges.
 pub fn is_closed(mesh: &Mesh) -> bool {
+    most_shared(mesh) <= 1 && is_even(mesh)
+}
+
+/// Whether each edge occurs as often one way as the other. By sorting, so that it shares nothing with
+/// a map from edge to corner.
+pub fn is_even(mesh: &Mesh) -> bool {
     let mut edges: Vec<_> = mesh.edges().collect();
     let mut reverse: Vec<_> = edges.iter().map(|&(from, to)| (to, from)).collect();
     edges.sort();
     reverse.sort();
-    edges.windows(2).all(|pair| pair[0] != pair[1]) && edges == reverse
+    edges == reverse
+}
+
+/// How often a directed edge occurs, the one that occurs most.
+pub fn most_shared(mesh: &Mesh) -> usize {
+    let mut edges: Vec<_> = mesh.edges().collect();
+    edges.sort();
+    let counts = edges.chunk_by(|a, b| a == b).map(<[_]>::len);
+    counts.max().unwrap_or(0)
 }
 
 /// Vertices less edges plus triangles: 2 for a ball, 0 for a torus.

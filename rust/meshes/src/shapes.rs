@@ -122,12 +122,12 @@ fn middle_on_sphere(a: [i32; 3], b: [i32; 3], radius: i32) -> [i32; 3] {
 }
 
 /// Point `i` of `n` on a circle, counterclockwise.
-fn on_circle(i: u32, n: u32, radius: f64) -> (f64, f64) {
+pub(crate) fn on_circle(i: u32, n: u32, radius: f64) -> (f64, f64) {
     let angle = TAU * f64::from(i) / f64::from(n);
     (radius * angle.cos(), radius * angle.sin())
 }
 
-fn rounded(point: [f64; 3]) -> [i32; 3] {
+pub(crate) fn rounded(point: [f64; 3]) -> [i32; 3] {
     point.map(|x| x.round() as i32)
 }
 

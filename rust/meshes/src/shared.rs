@@ -1,15 +1,36 @@
+use crate::sheets::{chessboard, cubes, fan, flaps, stack};
 use crate::{closed_mesh, Mesh, Random};
 
 /// A random mesh each of whose edges occurs equally often in both directions, some of them several
 /// times. It has no triangle that names a vertex twice, and it is within the limits.
 pub fn shared_edges(random: &mut Random) -> Mesh {
-    let mut mesh = match random.below(3) {
+    let mut mesh = match random.below(6) {
         0 => sheets_over_the_same_vertices(random),
         1 => welded_along_edges(random),
+        2 | 3 => touching_solids(random),
         _ => triangles_back_to_back(random),
     };
-    mesh.shuffle(random);
+    if !random.one_in(8) {
+        mesh.shuffle(random);
+    }
     mesh
+}
+
+/// Cubes that touch, or sheets round an edge.
+fn touching_solids(random: &mut Random) -> Mesh {
+    let size = random.within(1..=1000);
+    let few = |random: &mut Random| random.within(1..=3);
+    match random.below(5) {
+        0 => flaps(random.within(1..=9) as u32, size),
+        1 => fan(random.within(1..=5) as u32, size),
+        2 => stack(random.within(1..=5), size),
+        3 => {
+            let cell = |random: &mut Random| [(); 3].map(|()| random.within(-1..=1));
+            let cells: Vec<[i32; 3]> = (0..few(random)).map(|_| cell(random)).collect();
+            cubes(&cells, size)
+        }
+        _ => chessboard([few(random), few(random), random.within(1..=2)], size),
+    }
 }
 
 /// A closed mesh, and some of it once more over the same vertices, turned inside out or not.
@@ -61,7 +82,7 @@ fn triangles_back_to_back(random: &mut Random) -> Mesh {
 #[cfg(test)]
 mod tests {
     use super::*;
-    use crate::measure::is_closed;
+    use crate::measure::{is_closed, is_even, most_shared};
 
     fn many() -> impl Iterator<Item = Mesh> {
         (0..2000).map(|round| shared_edges(&mut Random::of_round(1, round)))
@@ -70,11 +91,7 @@ mod tests {
     #[test]
     fn edges_occur_equally_often_in_both_directions() {
         for mesh in many() {
-            let mut edges: Vec<_> = mesh.edges().collect();
-            let mut reverse: Vec<_> = edges.iter().map(|&(from, to)| (to, from)).collect();
-            edges.sort();
-            reverse.sort();
-            assert_eq!(edges, reverse, "{mesh:?}");
+            assert!(is_even(&mesh), "{mesh:?}");
         }
     }
 
@@ -88,5 +105,9 @@ mod tests {
     #[test]
     fn most_have_an_edge_that_occurs_several_times() {
         assert!(many().filter(|mesh| !is_closed(mesh)).count() > 1000);
+        for times in 3..=6 {
+            let met = many().filter(|mesh| most_shared(mesh) >= times).count();
+            assert!(met > 50, "{times}: {met}");
+        }
     }
 }

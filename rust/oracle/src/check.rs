@@ -1,6 +1,6 @@
 use crate::mesh::{edge, refuse_entries, refuse_sizes, reverse, Edge};
 use crate::refusal::{refuse_if, refuse_least, Refusal};
-use std::collections::HashMap;
+use std::collections::BTreeMap;
 
 /// The operation "Check" of the specification.
 pub fn check(
@@ -21,23 +21,31 @@ pub fn check(
     pairing.fill(0);
     order.fill(0);
 
-    let places = corners_by_edge(corners);
-    refuse_least(5, all_corners.clone(), |c| {
-        places[&edge(corners, c)].len() > 1
-    })?;
-    refuse_least(6, all_corners.clone(), |c| {
-        !places.contains_key(&reverse(edge(corners, c)))
-    })?;
-
-    for c in all_corners {
-        pairing[c] = places[&reverse(edge(corners, c))][0] as u32;
+    let partners = partners(corners);
+    refuse_least(6, all_corners, |c| !partners.contains_key(&c))?;
+    for (c, partner) in partners {
+        pairing[c] = partner as u32;
     }
     order.copy_from_slice(&vertices_by_height(coords));
     Ok(())
 }
 
-fn corners_by_edge(corners: &[u32]) -> HashMap<Edge, Vec<usize>> {
-    let mut places: HashMap<Edge, Vec<usize>> = HashMap::new();
+/// The corners that find a partner, each with it: of the corners with an edge and those with its
+/// reverse the first are partners, the second, and so on.
+fn partners(corners: &[u32]) -> BTreeMap<usize, usize> {
+    let places = corners_by_edge(corners);
+    let mut partners = BTreeMap::new();
+    for (&edge, there) in &places {
+        if let Some(back) = places.get(&reverse(edge)) {
+            partners.extend(there.iter().copied().zip(back.iter().copied()));
+        }
+    }
+    partners
+}
+
+/// For each directed edge its corners, in corner order.
+fn corners_by_edge(corners: &[u32]) -> BTreeMap<Edge, Vec<usize>> {
+    let mut places: BTreeMap<Edge, Vec<usize>> = BTreeMap::new();
     for c in 0..corners.len() {
         places.entry(edge(corners, c)).or_default().push(c);
     }
@@ -53,7 +61,7 @@ fn vertices_by_height(coords: &[i32]) -> Vec<u32> {
 #[cfg(test)]
 mod tests {
     use super::*;
-    use meshes::{closed_mesh, shapes::tetrahedron, Mesh, Random};
+    use meshes::{closed_mesh, shapes::tetrahedron, shared_edges, Mesh, Random};
 
     const JUNK: u32 = 77;
 
@@ -70,7 +78,7 @@ mod tests {
     fn assert_refused(mesh: &Mesh, number: u32, place: u64) {
         let (answer, pairing, order) = run(mesh, [mesh.corners.len() + 1, mesh.vertex_count() + 1]);
         assert_eq!(answer, Err((number, place)));
-        let left = if number == 5 || number == 6 { 0 } else { JUNK };
+        let left = if number == 6 { 0 } else { JUNK };
         for table in [pairing, order] {
             let (last, used) = table.split_last().unwrap();
             assert!(used.iter().all(|&entry| entry == left));
@@ -101,9 +109,45 @@ mod tests {
         assert_refused(&changed(|p| p.coords[7] = -1_048_577), 2, 7);
         assert_refused(&changed(|p| p.corners[4] = 4), 3, 4);
         assert_refused(&changed(|p| p.corners[8] = 0), 4, 6);
-        assert_refused(&changed(|p| p.flip_triangle(1)), 5, 2);
-        assert_refused(&changed(|p| p.insert_triangle(4, [3, 1, 2])), 5, 9);
+        assert_refused(&changed(|p| p.flip_triangle(1)), 6, 2);
+        assert_refused(&changed(|p| p.insert_triangle(4, [3, 1, 2])), 6, 12);
         assert_refused(&changed(|p| p.remove_triangle(3)), 6, 1);
+    }
+
+    /// Part P and a second tetrahedron on its edge from 0 to 1.
+    fn two_on_an_edge() -> Mesh {
+        changed(|p| {
+            p.coords.extend([0, -10, 0, 0, 0, -10]);
+            p.corners.extend([0, 4, 1, 0, 1, 5, 0, 5, 4, 1, 4, 5]);
+        })
+    }
+
+    #[test]
+    fn the_first_are_partners_and_the_second() {
+        let (answer, pairing, _) = run(&two_on_an_edge(), [24, 6]);
+        assert_eq!(answer, Ok(()));
+        assert_eq!(pairing[..12], [8, 9, 3, 2, 11, 6, 5, 10, 0, 1, 7, 4]);
+        assert_eq!(
+            pairing[12..],
+            [20, 21, 15, 14, 23, 18, 17, 22, 12, 13, 19, 16]
+        );
+        // Two triangles change places, one of each: then partners are of different ones.
+        let mut mesh = two_on_an_edge();
+        mesh.triangle_mut(1).copy_from_slice(&[0, 1, 5]);
+        mesh.triangle_mut(5).copy_from_slice(&[0, 1, 3]);
+        let (answer, pairing, _) = run(&mesh, [24, 6]);
+        assert_eq!(answer, Ok(()));
+        assert_eq!([2, 3, 14, 15].map(|c| pairing[c]), [3, 2, 15, 14]);
+        assert_eq!([4, 16].map(|c| pairing[c]), [23, 11]);
+    }
+
+    #[test]
+    fn the_second_finds_no_partner_where_there_is_one_reverse() {
+        let twice_and_once = changed(|p| {
+            p.coords.extend([0, 0, -10]);
+            p.corners.extend([1, 0, 4]);
+        });
+        assert_refused(&twice_and_once, 6, 12);
     }
 
     #[test]
@@ -141,9 +185,13 @@ mod tests {
     }
 
     #[test]
-    fn closed_meshes_are_paired_and_ordered_by_the_definitions() {
+    fn meshes_are_paired_and_ordered_by_the_definitions() {
         for round in 0..500 {
-            let mesh = closed_mesh(&mut Random::of_round(1, round));
+            let mut random = Random::of_round(1, round);
+            let mesh = match random.below(2) {
+                0 => closed_mesh(&mut random),
+                _ => shared_edges(&mut random),
+            };
             let (answer, pairing, order) = run(&mesh, [mesh.corners.len(), mesh.vertex_count()]);
             assert_eq!(answer, Ok(()), "round {round}");
 
@@ -153,6 +201,8 @@ mod tests {
                 assert_ne!(pair, corner, "round {round}");
                 assert_eq!(pairing[pair] as usize, corner, "round {round}");
                 assert_eq!(edges[pair], reverse(edges[corner]), "round {round}");
+                let before = |c: usize| edges[..c].iter().filter(|&&e| e == edges[c]).count();
+                assert_eq!(before(pair), before(corner), "round {round}");
             }
             let rank = |vertex: u32| (mesh.point(vertex)[2], vertex);
             assert_eq!(order.len(), mesh.vertex_count(), "round {round}");

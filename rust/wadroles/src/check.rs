@@ -6,7 +6,7 @@ use crate::{Mesh, Refusal};
 /// are borrowed exclusively.
 #[derive(Debug)]
 pub struct CheckTables<'a> {
-    /// For each corner, the corner with the reverse edge. Needs one entry per corner.
+    /// For each corner its partner, a corner with the reverse edge. Needs one entry per corner.
     pub pairing: &'a mut [u32],
     /// Each vertex once, by z and then by vertex number. Needs one entry per vertex.
     pub order: &'a mut [u32],
@@ -14,7 +14,9 @@ pub struct CheckTables<'a> {
 
 /// Tests a mesh, and writes its pairing and its order into the first entries of two lent tables.
 ///
-/// Later entries of both tables stay.
+/// An edge may be shared by several sheets. Of the corners with a directed edge and those with the
+/// reverse, both in corner order, the first are partners of each other, and so are the second, and so
+/// on. Later entries of both tables stay.
 ///
 /// # Errors
 ///
@@ -27,11 +29,9 @@ pub struct CheckTables<'a> {
 /// | 2 | a coordinate is out of range | its position |
 /// | 3 | a corner names no vertex | the corner |
 /// | 4 | a triangle names a vertex twice | its first corner |
-/// | 5 | a corner's directed edge occurs at another corner too | the corner |
-/// | 6 | a corner's reverse edge occurs nowhere | the corner |
+/// | 6 | a corner finds no partner: its edge has occurred as often as the reverse occurs | the corner |
 ///
-/// After 5 and 6 the entries that success would fill are zero. After the others both tables are as
-/// before.
+/// After 6 the entries that success would fill are zero. After the others both tables are as before.
 ///
 /// # Example
 ///

@@ -6,8 +6,8 @@ use std::fmt;
 /// Each operation says under "Errors" which reasons it tests and in which sequence; the first that
 /// applies is the refusal. It has changed nothing then, with these exceptions:
 ///
-/// - after [`DOUBLED`](Refusal::DOUBLED) and [`OPEN`](Refusal::OPEN), [`check`](crate::check()) has
-///   zeroed the entries of pairing and order that success would fill;
+/// - after [`OPEN`](Refusal::OPEN), [`check`](crate::check()) has zeroed the entries of pairing and
+///   order that success would fill;
 /// - after [`OUTPUT`](Refusal::OUTPUT), [`all_layers`](crate::all_layers()) and
 ///   [`all_layers_clean`](crate::all_layers_clean()) have zeroed their work tables as far as they
 ///   ask for them;
@@ -47,10 +47,9 @@ impl Refusal {
     pub const VERTEX: u32 = 3;
     /// A triangle naming a vertex twice. The place is its first corner.
     pub const TRIANGLE: u32 = 4;
-    /// A corner whose directed edge occurs at another corner too: more than two triangles meet at the
-    /// edge, or one of two is turned inside out. The place is the corner.
-    pub const DOUBLED: u32 = 5;
-    /// A corner whose reverse edge occurs nowhere: the mesh has a hole there. The place is the corner.
+    /// A corner without a partner: its directed edge occurs more often than the reverse, so that the
+    /// mesh has a hole there, a sheet too many, or one that is turned inside out. The place is the
+    /// corner.
     pub const OPEN: u32 = 6;
     /// A corner whose pairing entry is missing, is no corner, lacks the reverse edge or is not paired
     /// back. The place is the corner. [`check`](crate::check()) makes a right pairing.
@@ -97,8 +96,7 @@ impl Refusal {
             Self::RANGE => "a coordinate out of range",
             Self::VERTEX => "a corner naming no vertex",
             Self::TRIANGLE => "a triangle naming a vertex twice",
-            Self::DOUBLED => "a corner whose directed edge occurs at another corner too",
-            Self::OPEN => "a corner whose reverse edge occurs nowhere",
+            Self::OPEN => "a corner without a partner among those with the reverse edge",
             Self::PAIRING => {
                 "a corner whose pairing entry is missing, is no corner, \
                  lacks the reverse edge or is not paired back"
@@ -147,7 +145,7 @@ mod tests {
         };
         assert_eq!(
             refusal.to_string(),
-            "refusal 6 at place 1: a corner whose reverse edge occurs nowhere"
+            "refusal 6 at place 1: a corner without a partner among those with the reverse edge"
         );
     }
 
@@ -155,7 +153,8 @@ mod tests {
     fn each_number_has_words_of_its_own() {
         let words = |number| Refusal { number, place: 0 }.words();
         let distinct: HashSet<_> = (0..=19).map(words).collect();
-        assert_eq!(distinct.len(), 20);
+        assert_eq!(distinct.len(), 19);
         assert_eq!(words(0), words(20));
+        assert_eq!(words(0), words(5));
     }
 }

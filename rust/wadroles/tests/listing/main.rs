@@ -7,7 +7,8 @@ mod program;
 
 use files::Damage as FileDamage;
 use meshes::shapes::{cuboid, tetrahedron, torus};
-use meshes::{closed_mesh, rising_heights, Damage, Mesh, Random};
+use meshes::sheets::two_cubes;
+use meshes::{closed_mesh, rising_heights, shared_edges, Damage, Mesh, Random};
 use oracle::{encode_part, listing, Part};
 use program::{fails_without_input, run};
 use std::collections::BTreeMap;
@@ -76,6 +77,19 @@ fn numbers_have_their_sign() {
 }
 
 #[test]
+fn cubes_that_share_an_edge_are_two_contours_or_one() {
+    let mut mesh = two_cubes(10);
+    assert_eq!(
+        printed(&part(mesh.clone(), &[5])),
+        "layers 1\nlayer 5 2 16 400\n"
+    );
+    // Two triangles with the edge change places, one of each cube.
+    let (first, second) = mesh.corners.split_at_mut(36);
+    first[21..24].swap_with_slice(&mut second[15..18]);
+    assert_eq!(printed(&part(mesh, &[5])), "layers 1\nlayer 5 1 16 400\n");
+}
+
+#[test]
 fn default_heights_are_taken() {
     let mesh = cuboid([0, 0, -20], [10, 10, 130]);
     assert_eq!(
@@ -134,7 +148,7 @@ fn the_check_refuses_with_its_numbers() {
     assert_eq!(changed(|p| p.corners[8] = 0), "refused 4 6\n");
     assert_eq!(
         changed(|p| p.corners[9..].copy_from_slice(&[0, 2, 1])),
-        "refused 5 0\n"
+        "refused 6 1\n"
     );
     assert_eq!(changed(|p| p.corners.truncate(9)), "refused 6 1\n");
 }
@@ -171,7 +185,10 @@ fn it_says_where_reading_fails() {
 
 /// A part file: of a small mesh, damaged or not, with heights that rise, or not, or are not given.
 fn random_file(random: &mut Random) -> Vec<u8> {
-    let mut mesh = closed_mesh(random);
+    let mut mesh = match random.below(3) {
+        0 => shared_edges(random),
+        _ => closed_mesh(random),
+    };
     if random.one_in(4) {
         Damage::any(random).apply(&mut mesh, random);
     }

@@ -8,12 +8,11 @@ const RAW: &str = include_str!("../../src/raw.rs");
 
 #[test]
 fn the_header_numbers_the_refusals_alike() {
-    for (name, number) in [
+    let refusals = [
         ("SIZE", Refusal::SIZE),
         ("RANGE", Refusal::RANGE),
         ("VERTEX", Refusal::VERTEX),
         ("TRIANGLE", Refusal::TRIANGLE),
-        ("DOUBLED", Refusal::DOUBLED),
         ("OPEN", Refusal::OPEN),
         ("PAIRING", Refusal::PAIRING),
         ("ORDER", Refusal::ORDER),
@@ -28,10 +27,14 @@ fn the_header_numbers_the_refusals_alike() {
         ("ORIGIN", Refusal::ORIGIN),
         ("UNCLEAN", Refusal::UNCLEAN),
         ("THICKNESS", Refusal::THICKNESS),
-    ] {
+    ];
+    for (name, number) in refusals {
         let line = format!("WADROLES_{name} = {number}");
         assert!(HEADER.contains(&line), "no {line:?} in the header");
     }
+    let (_, numbered) = HEADER.split_once("enum wadroles_refusal {").unwrap();
+    let (numbered, _) = numbered.split_once('}').unwrap();
+    assert_eq!(numbered.matches(" = ").count(), refusals.len());
 }
 
 #[test]

@@ -5,6 +5,7 @@ mod limits;
 mod output;
 mod promises;
 mod random;
+mod shared;
 mod worked;
 
 pub use promises::{heights_taken, product_file, random_given, single_cuts};

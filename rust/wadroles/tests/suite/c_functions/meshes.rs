@@ -1,6 +1,6 @@
 use super::{exact, gives, lent, refuses};
 use crate::harness::UNTOUCHED;
-use crate::inputs::{octahedra, part_p};
+use crate::inputs::{octahedra, part_p, two_on_an_edge};
 use crate::operations::{AllLayers, Area, Check, Contour, Cut, Ends, Given, Layer, Start, Step};
 use meshes::shapes::tetrahedron;
 use meshes::Mesh;
@@ -23,6 +23,10 @@ fn check_has_no_values() {
     assert_eq!(exact::<Check>(no_vertices), refuses(3, 0));
     assert_eq!(lent::<Check>(part_p(), &[0, 4]), refuses(9, 0));
     assert_eq!(lent::<Check>(part_p(), &[12, 0]), refuses(9, 0));
+    let sharing_an_edge = Given::bare(two_on_an_edge());
+    assert_eq!(exact::<Check>(sharing_an_edge), (0, UNTOUCHED));
+    let one_sheet_more = changed(|p| p.mesh.corners.extend([2, 3, 1]));
+    assert_eq!(exact::<Check>(one_sheet_more), refuses(6, 12));
 }
 
 #[test]

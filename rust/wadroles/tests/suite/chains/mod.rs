@@ -1,7 +1,7 @@
 //! Whole chains over random meshes: a part file is read, its mesh checked, cut, swept and written as
 //! a layer file, that file is read back, and layers of cuts and of the file are previewed and cleaned;
-//! so it goes in the clean profile too, and both files are charged. Each operation gets what the one before it left, now and then
-//! spoiled, and every answer and every table is compared with the oracle's.
+//! so it goes in the clean profile too, and both files are charged. Each operation gets what the one
+//! before it left, now and then spoiled, and every answer and every table is compared with the oracle's.
 //!
 //! Another seed, and more rounds, of which one in twenty is a chain:
 //!

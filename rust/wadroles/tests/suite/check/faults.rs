@@ -13,10 +13,10 @@ fn pairing_left_after_6(given: &Given, tables: &mut CheckTables) -> Answer<()> {
     answer
 }
 
-fn order_left_after_5(given: &Given, tables: &mut CheckTables) -> Answer<()> {
+fn order_left_after_6(given: &Given, tables: &mut CheckTables) -> Answer<()> {
     let before = tables.clone();
     let answer = Check::oracle(given, tables);
-    if matches!(answer, Err((5, _))) {
+    if matches!(answer, Err((6, _))) {
         tables.order = before.order;
     }
     answer
@@ -42,7 +42,7 @@ fn cleared_too_early(given: &Given, tables: &mut CheckTables) -> Answer<()> {
 fn faults_are_noticed() {
     let faults: [Fault<Check>; 4] = [
         ("pairing left", pairing_left_after_6, "pairing entry"),
-        ("order left", order_left_after_5, "order entry"),
+        ("order left", order_left_after_6, "order entry"),
         ("ties", ties_by_larger_number, "order entry"),
         ("cleared early", cleared_too_early, "order entry"),
     ];

@@ -2,7 +2,7 @@
 
 use crate::harness::{test_product, test_threads, Operation};
 use crate::operations::{Check, Given};
-use meshes::{closed_mesh, large_mesh, Damage, Mesh, Random};
+use meshes::{closed_mesh, large_mesh, shared_edges, uneven_edges, Damage, Mesh, Random};
 
 /// A mesh that is left as it is, or damaged once or twice.
 fn damaged_perhaps(mut mesh: Mesh, random: &mut Random) -> Given {
@@ -15,6 +15,15 @@ fn damaged_perhaps(mut mesh: Mesh, random: &mut Random) -> Given {
 /// A closed mesh, perhaps damaged.
 pub fn perhaps_damaged(random: &mut Random) -> Given {
     damaged_perhaps(closed_mesh(random), random)
+}
+
+/// A mesh with shared edges, some of them perhaps used unevenly.
+pub fn perhaps_uneven(random: &mut Random) -> Given {
+    match random.below(6) {
+        0 | 1 => Given::bare(uneven_edges(random)),
+        2 => damaged_perhaps(shared_edges(random), random),
+        _ => Given::bare(shared_edges(random)),
+    }
 }
 
 /// Random triangles over few vertices, so that edges meet often.
@@ -51,7 +60,14 @@ fn meshes_closed_and_damaged() {
 #[test]
 fn corner_tables_over_few_vertices() {
     let tally = test_product::<Check>("few vertices", 1, few_vertices);
-    tally.require(&[0, 5, 6], 100);
+    tally.require(&[0, 6], 100);
+}
+
+#[test]
+fn shared_edges_even_and_uneven() {
+    let tally = test_product::<Check>("shared edges", 2, perhaps_uneven);
+    tally.require(&[0], 100);
+    tally.require_refusals(Check::REFUSALS, 100);
 }
 
 #[test]
@@ -62,4 +78,5 @@ fn meshes_near_the_limits() {
 #[test]
 fn several_threads_at_once() {
     test_threads::<Check>(100, perhaps_damaged);
+    test_threads::<Check>(100, perhaps_uneven);
 }

@@ -89,14 +89,15 @@ fn tables_need_an_entry_per_corner_and_per_vertex() {
 }
 
 #[test]
-fn a_triangle_named_twice_is_refused_at_its_first_occurrence() {
-    assert_answer(&changed(|p| p.insert_triangle(4, [2, 3, 1])), Err((5, 9)));
-    assert_answer(&changed(|p| p.insert_triangle(0, [3, 1, 2])), Err((5, 0)));
+fn a_triangle_named_twice_is_refused_at_its_second_occurrence() {
+    assert_answer(&changed(|p| p.insert_triangle(4, [2, 3, 1])), Err((6, 12)));
+    assert_answer(&changed(|p| p.insert_triangle(0, [3, 1, 2])), Err((6, 12)));
 }
 
 #[test]
-fn a_flipped_triangle_doubles_its_edges() {
-    assert_answer(&changed(|p| p.flip_triangle(1)), Err((5, 2)));
+fn a_flipped_triangle_finds_no_partners() {
+    assert_answer(&changed(|p| p.flip_triangle(1)), Err((6, 2)));
+    assert_answer(&changed(|p| p.flip_triangle(3)), Err((6, 1)));
 }
 
 #[test]
@@ -119,13 +120,4 @@ fn shells_sharing_one_vertex_pass() {
 #[test]
 fn boxes_touching_along_an_edge_with_their_own_vertices_pass() {
     assert_answer(&exact(boxes_touching_along_an_edge()), Ok(()));
-}
-
-#[test]
-fn an_edge_shared_by_four_triangles_is_doubled() {
-    let mut mesh = boxes_touching_along_an_edge();
-    mesh.weld(3, 8);
-    mesh.weld(7, 12);
-    assert_eq!(mesh.edges().nth(22), Some((7, 3)));
-    assert_answer(&exact(mesh), Err((5, 22)));
 }

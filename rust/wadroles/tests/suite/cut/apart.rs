@@ -4,6 +4,7 @@ use super::layer::{layer, Layer};
 use crate::inputs::{boxes_touching_along_an_edge, joined};
 use crate::operations::Given;
 use meshes::shapes::{cuboid, octahedron, tetrahedron};
+use meshes::sheets::two_cubes;
 use meshes::Mesh;
 use std::collections::BTreeSet;
 
@@ -109,14 +110,6 @@ fn two_solids_at_the_same_place() {
     assert_eq!(layer.names[1], shifted);
 }
 
-/// The boxes share both vertices of the edge. Corners 22 and 37 lead down it, one of each box.
-fn boxes_sharing_an_edge() -> Mesh {
-    let mut mesh = boxes_touching_along_an_edge();
-    mesh.weld(3, 8);
-    mesh.weld(7, 12);
-    mesh
-}
-
 /// The corners of a directed edge.
 fn corners_of(mesh: &Mesh, edge: (u32, u32)) -> Vec<usize> {
     (0..mesh.corners.len())
@@ -126,7 +119,7 @@ fn corners_of(mesh: &Mesh, edge: (u32, u32)) -> Vec<usize> {
 
 #[test]
 fn an_edge_shared_by_four_triangles_is_linked_as_the_pairing_says() {
-    let mesh = boxes_sharing_an_edge();
+    let mesh = two_cubes(10);
     let (up, down) = (corners_of(&mesh, (3, 7)), corners_of(&mesh, (7, 3)));
     let box_of = |corner: &usize| corner / 36;
     assert!(up.iter().map(box_of).eq([0, 1]));

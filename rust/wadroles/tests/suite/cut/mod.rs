@@ -7,6 +7,7 @@ mod limits;
 mod moved;
 mod promises;
 mod random;
+mod shared;
 mod worked;
 
 pub use layer::contours;

@@ -118,7 +118,7 @@ fn meshes_that_are_not_closed_are_refused() {
     let twice = changed_p(|part| part.corners[8] = 0);
     assert_refused("twice.part", &twice, "check", 4, 6);
     let doubled = changed_p(|part| part.corners.extend([1, 2, 3]));
-    assert_refused("doubled.part", &doubled, "check", 5, 9);
+    assert_refused("doubled.part", &doubled, "check", 6, 12);
 }
 
 #[test]

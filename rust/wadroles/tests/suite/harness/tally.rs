@@ -136,8 +136,8 @@ mod tests {
 
     #[test]
     fn answers_are_counted() {
-        let met = tally(&[NONE, Err((6, 4)), NONE, Err((5, 7)), Err((6, 1)), NONE]);
-        let text = "success 3, refusal 5: 1, refusal 6: 2 at 2 places";
+        let met = tally(&[NONE, Err((6, 4)), NONE, Err((4, 7)), Err((6, 1)), NONE]);
+        let text = "success 3, refusal 4: 1, refusal 6: 2 at 2 places";
         assert_eq!(met.to_string(), text);
         met.require(&[0, 6], 2);
         assert_eq!(met.share(0), 0.5);

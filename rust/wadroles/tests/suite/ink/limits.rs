@@ -49,7 +49,7 @@ fn the_largest_area_of_a_layer() {
 }
 
 #[test]
-fn one_unit_less_than_the_largest_area() {
+fn the_largest_area_with_two_corners_cut_off() {
     let mut points = round_the_square(98_304);
     // Two corners cut off by one unit: three sides give M, 2M − 1 and M less.
     points[98_302] = [1 - M, -M];

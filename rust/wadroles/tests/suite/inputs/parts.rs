@@ -1,6 +1,8 @@
-use crate::operations::Given;
+use crate::harness::{Case, Operation};
+use crate::operations::{Check, Given};
 use meshes::shapes::{cuboid, octahedron, tetrahedron, torus};
-use meshes::Mesh;
+use meshes::sheets::{chessboard, fan, flaps, stack, two_cubes};
+use meshes::{Mesh, Random};
 
 /// The pairing of part P in the specification.
 pub const PAIRING_P: [u32; 12] = [8, 9, 3, 2, 11, 6, 5, 10, 0, 1, 7, 4];
@@ -47,6 +49,60 @@ pub fn boxes_touching_along_an_edge() -> Mesh {
         cuboid([0, 0, 0], [10, 10, 10]),
         &cuboid([10, 10, 0], [20, 20, 10]),
     )
+}
+
+/// Part P and a second tetrahedron on its edge from 0 to 1.
+pub fn two_on_an_edge() -> Mesh {
+    let mut mesh = tetrahedron(10);
+    mesh.coords.extend([0, -10, 0, 0, 0, -10]);
+    mesh.corners.extend([0, 4, 1, 0, 1, 5, 0, 5, 4, 1, 4, 5]);
+    mesh
+}
+
+/// Two cubes that share an edge, of which two triangles with that edge have changed places, one of each,
+/// so that partners there are of different cubes.
+pub fn two_cubes_crossed() -> Mesh {
+    let mut mesh = two_cubes(10);
+    let (first, second) = mesh.corners.split_at_mut(36);
+    first[21..24].swap_with_slice(&mut second[15..18]);
+    mesh
+}
+
+/// A mesh with the pairing and the order that the product makes.
+#[track_caller]
+pub fn checked(mesh: Mesh) -> Given {
+    let mut case = Case::<Check>::exact(Given::bare(mesh));
+    case.run(Check::product).unwrap();
+    Given {
+        pairing: case.tables.pairing.view().to_vec(),
+        order: case.tables.order.view().to_vec(),
+        ..case.input
+    }
+}
+
+/// Boards and stacks of cubes that share edges, tetrahedra and flaps round an edge, each as it is and
+/// with names and triangles shuffled, and paired by the product.
+pub fn solids_sharing_edges() -> Vec<Given> {
+    let solids = [
+        two_on_an_edge(),
+        two_cubes(10),
+        two_cubes_crossed(),
+        chessboard([4, 3, 1], 10),
+        chessboard([3, 3, 3], 10),
+        stack(6, 10),
+        fan(9, 20),
+        flaps(9, 20),
+    ];
+    let orders = solids.into_iter().flat_map(|solid| {
+        (0..4).map(move |seed| {
+            let mut mesh = solid.clone();
+            if seed > 0 {
+                mesh.shuffle(&mut Random::new(seed));
+            }
+            mesh
+        })
+    });
+    orders.map(checked).collect()
 }
 
 /// A torus with as many vertices and triangles as a mesh may have.

@@ -1,5 +1,6 @@
 //! Random inputs of the operations on a mesh.
 
+use super::checked;
 use crate::operations::Given;
 use meshes::shapes::{ball, torus};
 use meshes::{
@@ -44,6 +45,14 @@ pub fn right(random: &mut Random) -> Given {
     let mesh = random_mesh(random);
     let heights = rising_heights(&mesh, random);
     paired(mesh, random).over(&heights)
+}
+
+/// A mesh with shared edges, paired by the product, with its order and heights that rise.
+pub fn shared(random: &mut Random) -> Given {
+    let given = checked(shared_edges(random));
+    let height = random_height(&given.mesh, random);
+    let heights = rising_heights(&given.mesh, random);
+    given.at(height).over(&heights)
 }
 
 /// The same without heights, with a few by default.

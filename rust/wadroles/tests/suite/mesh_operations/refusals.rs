@@ -7,9 +7,9 @@ use crate::operations::{AllLayersIn, Check, Cut, Given, Layer, Start, Step};
 
 type Change = fn(&mut Given);
 
-/// Changes of part P, each with the number and the place of a refusal. Those of 5 and 6 are for Check,
-/// which has no pairing to test.
-const CHANGES: [(Change, u32, u64); 32] = [
+/// Changes of part P, each with the number and the place of a refusal. Those of 6 are for Check, which
+/// has no pairing to test.
+const CHANGES: [(Change, u32, u64); 34] = [
     (|p| p.mesh.coords.push(0), 1, 0),
     (|p| p.mesh.coords.truncate(11), 1, 0),
     (|p| p.mesh.corners.extend([0, 0]), 1, 0),
@@ -23,8 +23,14 @@ const CHANGES: [(Change, u32, u64); 32] = [
     (|p| p.mesh.corners[7] = u32::MAX, 3, 7),
     (|p| p.mesh.corners[2] = 0, 4, 0),
     (|p| p.mesh.corners[8] = 0, 4, 6),
-    (|p| p.mesh.flip_triangle(0), 5, 0),
-    (|p| p.mesh.flip_triangle(1), 5, 2),
+    (|p| p.mesh.flip_triangle(0), 6, 0),
+    (|p| p.mesh.flip_triangle(1), 6, 2),
+    (|p| p.mesh.corners[9..].copy_from_slice(&[0, 2, 1]), 6, 1),
+    (
+        |p| p.mesh.corners[3..9].copy_from_slice(&[0, 1, 2, 0, 2, 1]),
+        6,
+        6,
+    ),
     (|p| p.mesh.remove_triangle(0), 6, 0),
     (|p| p.mesh.remove_triangle(3), 6, 1),
     (|p| p.pairing[0] = 12, 7, 0),

@@ -10,7 +10,7 @@ lent_tables! { CheckTables { pairing: Lent<u32>, order: Lent<u32> } }
 
 impl Operation for Check {
     const NAME: &'static str = "check";
-    const REFUSALS: &'static [u32] = &[1, 9, 2, 3, 4, 5, 6];
+    const REFUSALS: &'static [u32] = &[1, 9, 2, 3, 4, 6];
     type Input = Given;
     type Tables = CheckTables;
     type Values = ();

@@ -6,6 +6,7 @@ mod lists;
 mod promises;
 mod random;
 mod rings;
+mod shared;
 mod swept;
 mod worked;
 

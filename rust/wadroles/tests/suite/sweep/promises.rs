@@ -16,16 +16,19 @@ fn long_tables(corners: usize, random: &mut Random) -> CutTables {
 
 /// A sweep on a right mesh, with its pairing and order, and the plain sweep beside it.
 #[derive(Clone)]
-struct Run {
-    given: Given,
+pub struct Run {
+    pub given: Given,
     ring: Ring,
     /// The plane's position in the plain sweep.
-    position: usize,
+    pub position: usize,
 }
 
 impl Run {
     fn start(random: &mut Random) -> Self {
-        let given = Given::paired(random_mesh(random), random);
+        Run::over(Given::paired(random_mesh(random), random), random)
+    }
+
+    pub fn over(given: Given, random: &mut Random) -> Self {
         let length = long(given.corners(), random);
         let mut ring = Ring {
             ring: Lent::new(length, random),
@@ -38,17 +41,17 @@ impl Run {
         }
     }
 
-    fn corners(&self) -> usize {
+    pub fn corners(&self) -> usize {
         self.given.corners()
     }
 
     /// The number of vertices with z < h.
-    fn below(&self, h: i32) -> usize {
+    pub fn below(&self, h: i32) -> usize {
         let points = self.given.mesh.coords.chunks(3);
         points.filter(|point| point[2] < h).count()
     }
 
-    fn step(&mut self) {
+    pub fn step(&mut self) {
         let before = self.ring.clone();
         let top = self.given.mesh.vertex_count();
         let answer = Step::product(&self.given, &mut self.ring);
@@ -71,7 +74,7 @@ impl Run {
         }
     }
 
-    fn rise(&mut self, h: i32, random: &mut Random) {
+    pub fn rise(&mut self, h: i32, random: &mut Random) {
         let mut cut_tables = long_tables(self.corners(), random);
         let before = self.ring.ring.clone();
         let (answer, left) = self.layer(h, cut_tables.clone());
@@ -124,7 +127,7 @@ impl Run {
         }
     }
 
-    fn any_call(&mut self, random: &mut Random) {
+    pub fn any_call(&mut self, random: &mut Random) {
         match random.below(5) {
             0 | 1 => self.step(),
             2 | 3 => self.rise(random_height(&self.given.mesh, random), random),
@@ -137,7 +140,7 @@ impl Run {
     }
 
     /// Whether each corner is rising.
-    fn rising(&self) -> Vec<bool> {
+    pub fn rising(&self) -> Vec<bool> {
         let passed: Vec<bool> = (0..self.given.mesh.vertex_count() as u32)
             .map(|vertex| self.is_passed(vertex))
             .collect();
@@ -148,7 +151,7 @@ impl Run {
     }
 
     /// The ring entries are those of a cut made afresh at the position.
-    fn assert_entries(&self) {
+    pub fn assert_entries(&self) {
         let rising = self.rising();
         for corner in 0..self.corners() {
             let entry = self.ring.ring.view()[corner];
@@ -163,7 +166,7 @@ impl Run {
     }
 
     /// From each crossed edge the entries lead back to it, meeting no crossing twice on the way.
-    fn assert_rings(&self) {
+    pub fn assert_rings(&self) {
         let rising = self.rising();
         let ring = self.ring.ring.view();
         for start in (0..self.corners()).filter(|&corner| rising[corner]) {
