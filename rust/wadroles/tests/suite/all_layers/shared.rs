@@ -4,7 +4,7 @@
 use super::{file_in, heights_taken, product_file, single_cuts};
 use crate::clean::cleaned;
 use crate::harness::{test_product, Rounds};
-use crate::inputs::{checked, shared, solids_sharing_edges, two_cubes_crossed};
+use crate::inputs::{checked, shared, solids_sharing_edges, two_cubes_crossed, uneven};
 use crate::operations::{AllLayers, Given};
 use meshes::sheets::two_cubes;
 use oracle::{encode_layers, FileLayer};
@@ -70,4 +70,11 @@ fn the_file_of_two_cubes_linked_across() {
 fn random_meshes_with_shared_edges() {
     let tally = test_product::<AllLayers>("shared edges", 100, shared);
     tally.require(&[0, 9, 14], 20);
+}
+
+#[test]
+fn random_meshes_with_uneven_edges() {
+    let tally = test_product::<AllLayers>("uneven edges", 50, uneven);
+    tally.require(&[0, 7], 20);
+    tally.require_places(7);
 }

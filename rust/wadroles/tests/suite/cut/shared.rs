@@ -3,11 +3,11 @@
 use super::layer::{layer, product_layer, Layer};
 use crate::harness::{test_product, Rounds};
 use crate::inputs::{
-    checked, paired, shared, solids_sharing_edges, two_cubes_crossed, two_on_an_edge,
+    checked, shared, solids_sharing_edges, two_cubes_crossed, two_on_an_edge, uneven,
 };
 use crate::operations::{Cut, Given};
 use meshes::sheets::{chessboard, fan, flaps, stack, two_cubes};
-use meshes::{random_pairing, uneven_edges, Mesh, Random};
+use meshes::{random_pairing, Mesh};
 use std::ops::Range;
 
 fn cut(mesh: Mesh, height: i32) -> Layer {
@@ -131,7 +131,6 @@ fn random_meshes_with_shared_edges() {
 
 #[test]
 fn random_meshes_with_uneven_edges() {
-    let uneven: fn(&mut Random) -> Given = |random| paired(uneven_edges(random), random);
     let tally = test_product::<Cut>("uneven edges", 25, uneven);
     tally.require(&[0, 7, 9], 100);
     tally.require_places(7);

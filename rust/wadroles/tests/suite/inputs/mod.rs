@@ -9,7 +9,7 @@ pub use parts::{
     solids_sharing_edges, two_cubes_crossed, two_on_an_edge, CLEAN_FILE_P, LAYER_FILE_P, PAIRING_P,
     PART_FILE_P,
 };
-pub use random::{by_default, damage_mesh, paired, random_mesh, right, shared, shrunk};
+pub use random::{by_default, damage_mesh, paired, random_mesh, right, shared, shrunk, uneven};
 pub use variants::{
     sequences, shortened, with_a_byte_changed, with_a_byte_inserted, with_a_byte_removed,
     with_a_wrong_form, with_value,

@@ -4,7 +4,8 @@ use super::checked;
 use crate::operations::Given;
 use meshes::shapes::{ball, torus};
 use meshes::{
-    closed_mesh, random_height, rising_heights, shared_edges, vertex_order, Damage, Mesh, Random,
+    closed_mesh, random_height, rising_heights, shared_edges, uneven_edges, vertex_order, Damage,
+    Mesh, Random,
 };
 
 /// A mesh that has a right pairing: closed as a rule, or with edges that occur several times.
@@ -55,7 +56,15 @@ pub fn shared(random: &mut Random) -> Given {
     given.at(height).over(&heights)
 }
 
-/// The same without heights, with a few by default.
+/// A mesh of which an edge is used more often one way than the other, as a rule, with the right order and
+/// heights that rise. Its pairing is right but at the corners for which none is left.
+pub fn uneven(random: &mut Random) -> Given {
+    let mesh = uneven_edges(random);
+    let heights = rising_heights(&mesh, random);
+    paired(mesh, random).over(&heights)
+}
+
+/// A random mesh with its pairing and order, without heights, with a few by default.
 pub fn by_default(random: &mut Random) -> Given {
     let mut mesh = random_mesh(random);
     let reach = random.choose(&[20, 60, 200, 1_000]);

@@ -3,9 +3,9 @@
 
 use super::promises::Run;
 use super::Swept;
-use crate::harness::{Case, Rounds};
-use crate::inputs::{checked, shared, solids_sharing_edges, two_cubes_crossed};
-use crate::operations::Given;
+use crate::harness::{test_product, Case, Operation, RandomInput, Rounds};
+use crate::inputs::{checked, shared, solids_sharing_edges, two_cubes_crossed, uneven};
+use crate::operations::{Given, Layer, Step};
 use meshes::sheets::flaps;
 use meshes::Random;
 
@@ -82,4 +82,22 @@ fn an_edge_of_30_000_flaps_is_swept() {
     assert_eq!(sweep.layer(500_000), Ok((30_001, 30_000, 60_000)));
     assert_eq!(sweep.step(), Ok(Some(30_002)));
     assert_eq!(sweep.step(), Ok(None));
+}
+
+/// Calls at a random place of a sweep over a mesh with an uneven edge: product and oracle agree.
+fn meet_uneven<O: Operation<Input = Given>>() {
+    let input: RandomInput<O> = |random| {
+        let mut given = uneven(random);
+        given.passed = random.below(given.mesh.vertex_count() + 1);
+        given
+    };
+    let tally = test_product::<O>("uneven edges", 50, input);
+    tally.require(&[0, 7], 20);
+    tally.require_places(7);
+}
+
+#[test]
+fn sweeps_over_uneven_edges() {
+    meet_uneven::<Step>();
+    meet_uneven::<Layer>();
 }
