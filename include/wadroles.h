@@ -59,7 +59,7 @@ extern "C" {
 /* The version. Until 1.0 a change of behaviour or of a file raises the minor
  * number. */
 #define WADROLES_VERSION_MAJOR 0
-#define WADROLES_VERSION_MINOR 6
+#define WADROLES_VERSION_MINOR 7
 #define WADROLES_VERSION_PATCH 0
 
 /* The most vertices and triangles a mesh may have. */
@@ -71,7 +71,7 @@ extern "C" {
 #define WADROLES_MAX_COORDINATE 1048576
 
 /* The most points that wadroles_area takes, and that a layer has: one of a file
- * and one that wadroles_preview and wadroles_clean take. */
+ * and one that wadroles_preview, wadroles_clean and wadroles_nesting take. */
 #define WADROLES_MAX_POINTS 98304
 
 /* The most layers that a layer file has, and heights that wadroles_all_layers
@@ -83,6 +83,9 @@ extern "C" {
 
 /* An entry of a ring table whose corner is no crossing. */
 #define WADROLES_NO_CORNER 4294967295u
+
+/* An entry of a table of parents whose contour lies in no other. */
+#define WADROLES_NO_PARENT 4294967295u
 
 /* The refusals, by number. The place is a position in a table, a corner or a
  * byte of a file, or 0 where the call as a whole is meant; each function says
@@ -817,6 +820,59 @@ uint32_t wadroles_read_layer_clean(const uint8_t *file, size_t file_len,
 uint32_t wadroles_ink(const uint8_t *file, size_t file_len,
                       uint32_t thickness,
                       uint64_t out[4]);
+
+/*
+ * Finds for each contour of a layer how many others it lies in, and which of
+ * them is the smallest, so that a layer can be filled from outside in.
+ *
+ * A contour lies in another if its first point does. An edge of a contour goes
+ * from a point to the next, the last to the first. It counts for a point p if
+ * exactly one of its ends has y not above that of p, and the exact place where
+ * it meets the level of p is right of p: its x is above that of p, not equal. p
+ * lies in the contour if an odd number of its edges count. So points on the
+ * left and the lower side of a square lie in it, and those on the right and the
+ * upper side do not. The test is exact for every layer.
+ *
+ * Points and ends are those that wadroles_cut, wadroles_layer and
+ * wadroles_read_layer write; give twice the number of points as points_len and
+ * the number of contours as ends_len, so that old entries are not taken for the
+ * layer's. Contours may cross, touch and be equal. Two equal squares that start
+ * at their lower left corners lie in each other, and each is the parent of the
+ * other.
+ *
+ * Writes into the first entries of two lent tables:
+ *
+ *   depths   one entry per contour: the number of other contours that it lies
+ *            in
+ *   parents  one entry per contour: of these the one with the smallest absolute
+ *            area, at a tie the one of the lower number, and WADROLES_NO_PARENT
+ *            where there is none
+ *
+ * Where a contour starts, and which way it runs, does not change which others
+ * lie in it. Later entries of both tables stay. Success has no values: `out`
+ * stays.
+ *
+ * The tests, in this sequence; the first that fails is the refusal:
+ *
+ *   WADROLES_SIZE      points_len is odd, there are more than
+ *                      WADROLES_MAX_POINTS points, an end is not above the one
+ *                      before it (0 for the first) by two or more, or the last
+ *                      end (0 if there is none) is not the number of points;
+ *                      place 0
+ *   WADROLES_RANGE     a number is out of the range of coordinates; place its
+ *                      position in points
+ *   WADROLES_ROOM      depths_len or parents_len is less than ends_len; place 0
+ *
+ * After a refusal both tables are as before. The time goes by pairs of
+ * contours. Where the first point of one is within the extent of another, it
+ * goes by the points of that other too, and where it lies in it, by those of
+ * the parent found so far.
+ */
+uint32_t wadroles_nesting(const int32_t *points, size_t points_len,
+                          const uint32_t *ends, size_t ends_len,
+                          uint32_t *depths, size_t depths_len,
+                          uint32_t *parents, size_t parents_len,
+                          uint64_t out[4]);
 
 #ifdef __cplusplus
 }

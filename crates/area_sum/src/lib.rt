@@ -1,4 +1,6 @@
 // The doubled area of a contour, added up point by point as they are read.
+ghost use mathlib.Core.Path.{_≡_};
+ghost use Rattle.area_sum.specs.Summing.{unsummed};
 
 pub mod unchecked;
 
@@ -8,4 +10,16 @@ pub struct AreaSum {
     x: i32,
     y: i32,
     begun: bool,
+}
+
+// Before the first point.
+pub fn sum_none() -> AreaSum
+    ensures value { λ r. ⌜ r ≡ unsummed ⌝ }
+{
+    AreaSum {
+        sum: 0,
+        x: 0,
+        y: 0,
+        begun: false,
+    }
 }

@@ -5,7 +5,7 @@ ghost use lib.IntN.{natAbs, _+ℤ_, _-ℤ_, _*ℤ_};
 ghost use Rattle.mesh.specs.Corners.{largest};
 ghost use Rattle.polygons.specs.ContourAreas.{largestCross};
 ghost use Rattle.polygons.specs.Flat.{point, PointNear};
-ghost use Rattle.area_sum.specs.Summing.{unsummed, summing, closing, SumSmall};
+ghost use Rattle.area_sum.specs.Summing.{summing, closing, SumSmall};
 use crate::AreaSum;
 
 // Twice the signed area between the x axis and the edge from (x, y) to (u, v), and that it is small.
@@ -14,18 +14,6 @@ pub fn trapezoid(x: i64, y: i64, u: i64, v: i64) -> i64
     ensures result { λ r. ⌜ (r ≡ (x -ℤ u) *ℤ (y +ℤ v)) × (natAbs r ≤ 2 * largestCross) ⌝ }
 {
     (x - u) * (y + v)
-}
-
-// Before the first point.
-pub fn sum_none() -> AreaSum
-    ensures value { λ r. ⌜ r ≡ unsummed ⌝ }
-{
-    AreaSum {
-        sum: 0,
-        x: 0,
-        y: 0,
-        begun: false,
-    }
 }
 
 // After one more point, (x, y), where (px, py) came before, and the origin before the first.

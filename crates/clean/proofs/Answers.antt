@@ -14,10 +14,11 @@ use Rattle.mesh.specs.Refusals.{Told, refusal, toldOf}
 use Rattle.mesh.specs.declared.Refusal.{Refusal}
 use Rattle.mesh.specs.declared.Refusal.the-variants.{Room}
 use Rattle.polygons.specs.Flat.{FlatLayer, layerTests}
+use Rattle.polygons.specs.FlatLaws.{layer-tested}
 use Rattle.clean_layers.specs.Layers.{Fills, CleanTables}
 use Rattle.clean.specs.declared.CleanAnswer.the-variants.{Layer, Refused}
 use Rattle.clean.specs.Clean.{cleanRoomFor, noCleanRoom, cleanedOf, Cleans}
-use Rattle.clean.specs.CleanLaws.{layer-tested, tested-tables}
+use Rattle.clean.specs.CleanLaws.{tested-tables}
 
 room-parts : (t u : FlatLayer) → cleanRoomFor t u ≡ true → (length (t .points) ≤ length (u .points)) × (length (t .ends) ≤ length (u .ends))
 unfolding cleanRoomFor

@@ -83,7 +83,7 @@ made-clean {m} {h} c =
       front = clean-holds (c .cleans) (c .told) ∙ ap flatOf same;
     }
 
-made : (p : Profile) (m : OrderedMesh) (h : ℤ) {t : FlatLayer} {j k : ℕ} → MadeIn p m h t j k → LayerHeld (cutIn p (m .paired) h) t j k
+pub made : (p : Profile) (m : OrderedMesh) (h : ℤ) {t : FlatLayer} {j k : ℕ} → MadeIn p m h t j k → LayerHeld (cutIn p (m .paired) h) t j k
 made Full m h c = made-cut c
 made Clean m h c = made-clean c
 

@@ -7,8 +7,8 @@ use native.Mathlib.Omega.{arith}
 use native.Mathlib.Numerals.{add-one}
 use lib.ListN.{length, getD}
 use lib.IntN.{ℤ, _+ℤ_, _-ℤ_, _*ℤ_, +ℤ-idl, +ℤ-idr, +ℤ-assoc}
-use Rattle.polygons.specs.Flat.{Point, FlatLayer, numbersOf, polygonsOf, isLayer}
-use Rattle.polygons.specs.FlatLaws.{noPoint, length-numbers, number-x, number-y}
+use Rattle.polygons.specs.Flat.{Point, nthPoint, FlatLayer, numbersOf, polygonsOf, isLayer}
+use Rattle.polygons.specs.FlatLaws.{length-numbers, number-x, number-y}
 use Rattle.contours.specs.Areas.{pointCount, crossOf, sumOf, areaOf}
 use Rattle.contours.specs.AreaLaws.{sum-same, area-none, area-closed}
 use Rattle.contours.specs.Contours.{contourOf}
@@ -23,9 +23,6 @@ sum-front (suc n) f =
     ∙ +ℤ-assoc (f zero) (sumOf n (λ i. f (suc i))) (f (suc n))
 
 -- ---- point i of a list and of its numbers
-
-abbrev nthPoint : List Point → ℕ → Point
-nthPoint c i = getD c i noPoint
 
 cross-numbers : (c : List Point) (i k : ℕ) → crossOf (numbersOf c) i k ≡ crossPoints (nthPoint c i) (nthPoint c k)
 unfolding crossOf crossPoints

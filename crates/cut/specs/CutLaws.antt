@@ -91,27 +91,29 @@ module _ {m : PairedMesh} {h : ℤ} {t t′ : CutTables} {result : CutAnswer} (c
     pub inside : (i : ℕ) → i < length (pointsOf (m .mesh) h (namesOf rings)) → natAbs (getD (pointsOf (m .mesh) h (namesOf rings)) i (pos 0)) ≤ largest
     pub left : (x : ℕ) → Crossing (below (m .mesh .coords) h) (m .mesh .corners) x → SolidLeft m h x
 
-  pub cut-promise : {j k : ℕ} → tellCut result ≡ gives (j, k) → CutPromise j k
-  cut-promise {j} {k} e = go (fine-none (cutting (m, h, t) .refusals) (given-verdict c e .0))
+  -- a mesh of which a layer is given is right
+  pub cut-right : {g : ℕ × ℕ} → tellCut result ≡ gives g → Right m
+  cut-right e = go (fine-none (cutting (m, h, t) .refusals) (given-verdict c e .0))
     where
-      counts : (j, k) ≡ countsOf (contoursOf (section m h))
-      counts = given-verdict c e .1
+      go : None (cutting (m, h, t) .refusals) → Right m
+      go (more s (more n (more r (more v (more x (more p rest)))))) = right-of m (not-false _ (s 0 (omega arith))) r v x p
 
-      go : None (cutting (m, h, t) .refusals) → CutPromise j k
-      go (more s (more n (more r (more v (more x (more p rest)))))) =
-          let right : Right m = right-of m (not-false _ (s 0 (omega arith))) r v x p in
-          let l = trace-layer (below (m .mesh .coords) h) (m .mesh .corners) (m .pairing) (right .linked) in
-          let rs = l .0 in
-          let is : contoursOf (section m h) ≡ rs = ap contoursOf (l .1 .0) in
-          let total : k ≡ length (namesOf rs) = (λ i. counts i .1) ∙ ap (λ (q : List (List ℕ)). length (namesOf q)) is in
-          record {
-            rings = rs;
-            layer = l .1 .1;
-            count = (λ i. counts i .0) ∙ ap length is;
-            total = total;
-            few = omega (arith, one-each (below (m .mesh .coords) h) (m .mesh .corners) (m .pairing) rs (right .linked) (l .1 .1));
-            tables-are = left-given c e ∙ (λ i. tablesAfterCut (m .mesh) h (is i) t fine);
-            near = λ y z axis. point-near (m .mesh) h y (crossing-climbs m h right y z) axis;
-            inside = points-in (m .mesh) h (namesOf rs) (λ i q. crossing-climbs m h right _ (l .1 .1 .only _ (at-member (namesOf rs) i q)));
-            left = λ y z. solid-left m h y right z;
-          }
+  pub cut-promise : {j k : ℕ} → tellCut result ≡ gives (j, k) → CutPromise j k
+  cut-promise {j} {k} e =
+      let counts = given-verdict c e .1 in
+      let right = cut-right e in
+      let l = trace-layer (below (m .mesh .coords) h) (m .mesh .corners) (m .pairing) (right .linked) in
+      let rs = l .0 in
+      let is : contoursOf (section m h) ≡ rs = ap contoursOf (l .1 .0) in
+      let total : k ≡ length (namesOf rs) = (λ i. counts i .1) ∙ ap (λ (q : List (List ℕ)). length (namesOf q)) is in
+      record {
+        rings = rs;
+        layer = l .1 .1;
+        count = (λ i. counts i .0) ∙ ap length is;
+        total = total;
+        few = omega (arith, one-each (below (m .mesh .coords) h) (m .mesh .corners) (m .pairing) rs (right .linked) (l .1 .1));
+        tables-are = left-given c e ∙ (λ i. tablesAfterCut (m .mesh) h (is i) t fine);
+        near = λ y z axis. point-near (m .mesh) h y (crossing-climbs m h right y z) axis;
+        inside = points-in (m .mesh) h (namesOf rs) (λ i q. crossing-climbs m h right _ (l .1 .1 .only _ (at-member (namesOf rs) i q)));
+        left = λ y z. solid-left m h y right z;
+      }

@@ -16,8 +16,8 @@ use Rattle.mesh.specs.Corners.{largest, vertexCount, nextCorner, startOf, endOf
 use Rattle.mesh.specs.Meshes.{Mesh}
 use Rattle.mesh.specs.Tests.{WholeTriangles}
 use Rattle.mesh.specs.TestLaws.{next-below}
-use Rattle.polygons.specs.Flat.{Point}
-use Rattle.polygons.specs.FlatLaws.{noPoint, length-numbers, numbers-append, number-x, number-y, map-at}
+use Rattle.polygons.specs.Flat.{Point, noPoint}
+use Rattle.polygons.specs.FlatLaws.{length-numbers, numbers-append, number-x, number-y, map-at}
 use Rattle.cut_points.specs.Points.{numerator, denominator, nearest, rounded, exactOver, exactUnder, pointAt, pointOf, numbersOf, pointsOf}
 use Rattle.cut_points.specs.Climbs.{Fraction, CrossedEdge, Climbs}
 

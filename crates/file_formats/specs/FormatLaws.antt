@@ -8,12 +8,9 @@ use lib.Dec.{T}
 use lib.ListN.{length, getD, length-append}
 use lib.Seq.{getD-append-add}
 use Rattle.laws.specs.Booleans.{from-T}
+pub use Rattle.file_formats.specs.Formats.{Bytes}
 use Rattle.file_formats.specs.Formats.{Parse, parsed, refused, Format, andThen, mapped, tested, obeyed, through, ruled, obeying, pair, headed, validAll}
 use Rattle.file_formats.specs.Formats.{encodeAll, parseAll, sequence, counted, holds, finished, decodedIn, decode}
-
--- a list of bytes
-abbrev pub Bytes : List ℕ → Type 0
-Bytes l = (i : ℕ) → i < length l → getD l i 0 < 256
 
 pub bytes-tail : (b : ℕ) (l : List ℕ) → Bytes (b ∷ l) → Bytes l
 bytes-tail b l h i k = h (suc i) (omega arith)

@@ -2,12 +2,16 @@
 -- and how it is read back, with the place of 13 (READ-6 to READ-8).
 -- Parsing works on what is left of a file and carries no position: a refusal holds what is left from the refused value on, so its place is the file's length
 -- less that.
-use Prim.Native.Nat.{ℕ, zero, suc, _-_}
+use Prim.Native.Nat.{ℕ, zero, suc, _-_, _<_}
 use mathlib.Core.Bool.{Bool, cond}
 use mathlib.Core.List.{List, [], _∷_, _++_}
 use lib.Dec.{T}
-use lib.ListN.{length}
+use lib.ListN.{length, getD}
 pub use Rattle.polygons.specs.Flat.{Each}
+
+-- a list of bytes
+abbrev pub Bytes : List ℕ → Type 0
+Bytes l = (i : ℕ) → i < length l → getD l i 0 < 256
 
 -- a value and what is left after it, or what is left from the refused value on
 pub data Parse (A : Type 0) : Type 0 where

@@ -7,7 +7,8 @@ use lib.ListN.{length}
 use lib.IntN.{ℤ, natAbs}
 use lib.Signed.{_<ℤ_}
 use Rattle.mesh.specs.Corners.{largest}
-use Rattle.polygons.specs.Flat.{Polygons}
+use Rattle.polygons.specs.Flat.{PointNear, Polygons, flatOf}
+use Rattle.polygons.specs.FlatLaws.{LayerTested, few-polygons, near-tested}
 use Rattle.file_formats.specs.Formats.{validAll, Each}
 use Rattle.file_formats.specs.NumberLaws.{word-sent, sent-word}
 use Rattle.file_formats.specs.LayerFile.{Point, Layer, mostPoints, fewestPoints, coordinateFormat, pointFormat, origin, latest, contourFormat, roomAfter}
@@ -53,9 +54,12 @@ contours-ruled (suc n) room (c ∷ cs) e =
     (omega (arith, h .0, g .0), (h .1, g .1))
 
 -- two points or more for each contour
+contours-long : (cs : List (List Point)) → Each ContourRules cs → Each (λ (c : List Point). fewestPoints ≤ length c) cs
+contours-long [] e = tt
+contours-long (c ∷ cs) e = (e .0 .0, contours-long cs (e .1))
+
 pub few-contours : (cs : List (List Point)) → Each ContourRules cs → 2 * length cs ≤ pointTotal cs
-few-contours [] e = omega arith
-few-contours (c ∷ cs) e = omega (arith, e .0 .0, few-contours cs (e .1))
+few-contours cs e = few-polygons cs (contours-long cs e)
 
 -- ---- layers
 
@@ -96,9 +100,13 @@ valid-rules ls e =
 
 -- ---- the contours of a layer that obeys the rules are contours of two points or more, not too many in all
 
-contours-long : (cs : List (List Point)) → Each ContourRules cs → Each (λ (c : List Point). fewestPoints ≤ length c) cs
-contours-long [] e = tt
-contours-long (c ∷ cs) e = (e .0 .0, contours-long cs (e .1))
-
 pub ruled-polygons : (l : Layer) → LayerRules l → Polygons (l .contours)
 ruled-polygons l r = record { few = r .few; each = contours-long (l .contours) (r .each) }
+
+-- and their tables pass the tests of a layer
+contours-near : (cs : List (List Point)) → Each ContourRules cs → Each (Each PointNear) cs
+contours-near [] e = tt
+contours-near (c ∷ cs) e = (e .0 .1, contours-near cs (e .1))
+
+pub ruled-tested : (l : Layer) → LayerRules l → LayerTested (flatOf (l .contours))
+ruled-tested l r = near-tested (l .contours) (ruled-polygons l r) (contours-near (l .contours) (r .each))

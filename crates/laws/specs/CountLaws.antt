@@ -1,5 +1,6 @@
--- Laws of `count`: a weaker test counts no fewer, and one more where it passes one more; and how many pass below one number and below a later one.
-use Prim.Native.Nat.{ℕ, zero, suc, _+_, _≤_, _<_}
+-- Laws of `count`: a weaker test counts no fewer, and one more where it passes one more; tests that agree count the same; and how many pass below one number
+-- and below a later one.
+use Prim.Native.Nat.{ℕ, zero, suc, _+_, _-_, _≤_, _<_}
 use mathlib.Core.Path.{_≡_, refl, sym, ap, _∙_}
 use mathlib.Core.Bool.{Bool, true, false, cond}
 use mathlib.Core.Logic.{_⊎_, inl, inr, ⊎-elim}
@@ -43,6 +44,44 @@ count-bound (suc n) t = by (t n) (count-bound n t)
     by : (b : Bool) → count n t ≤ n → cond b 1 0 + count n t ≤ suc n
     by true h = omega arith
     by false h = omega arith
+
+-- tests that agree count the same
+pub count-same : (n : ℕ) (s t : ℕ → Bool) → ((i : ℕ) → i < n → s i ≡ t i) → count n s ≡ count n t
+unfolding count
+count-same zero s t h = refl
+count-same (suc n) s t h = λ i. cond (h n (omega arith) i) 1 0 + count-same n s t (λ k l. h k (omega arith)) i
+
+-- nothing is counted exactly if nothing passes
+pub count-nothing : (n : ℕ) (t : ℕ → Bool) → ((i : ℕ) → i < n → t i ≡ false) → count n t ≡ 0
+unfolding count
+count-nothing zero t h = refl
+count-nothing (suc n) t h = rw (h n (omega arith)) (omega (arith, count-nothing n t (λ k l. h k (omega arith))))
+
+pub count-some : (n : ℕ) (t : ℕ → Bool) (k : ℕ) → k < n → t k ≡ true → 0 < count n t
+count-some n t k l e = omega (arith, count-lt (λ i. false) t n (λ i h f. absurd (clash f refl)) k l refl e)
+
+-- what one test adds
+abbrev pub tally : Bool → ℕ
+tally b = cond b 1 0
+
+-- the first number apart
+pub count-first : (n : ℕ) (t : ℕ → Bool) → count (suc n) t ≡ tally (t 0) + count n (λ i. t (i + 1))
+unfolding count
+count-first zero t = refl
+count-first (suc n) t =
+    let e : suc n ≡ n + 1 = omega arith in
+    let last : tally (t (suc n)) ≡ tally (t (n + 1)) = ap (λ (k : ℕ). tally (t k)) e in
+    omega (arith, last, count-first n t)
+
+-- from the last number to the first
+pub count-back : (n : ℕ) (t : ℕ → Bool) → count n (λ i. t (n - suc i)) ≡ count n t
+unfolding count
+count-back zero t = refl
+count-back (suc n) t =
+    let top : suc n - suc n ≡ 0 = omega arith in
+    let one : tally (t (suc n - suc n)) ≡ tally (t 0) = ap (λ (k : ℕ). tally (t k)) top in
+    let rest = count-same n (λ i. t (suc n - suc i)) (λ i. t ((n - suc i) + 1)) (λ i l. let e : suc n - suc i ≡ (n - suc i) + 1 = omega arith in ap t e) in
+    omega (arith, one, rest, count-back n (λ k. t (k + 1)), count-first n t)
 
 -- ---- a loop that counts
 

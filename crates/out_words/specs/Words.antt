@@ -31,7 +31,7 @@ wordOf (negsuc n) = 18446744073709551615 - n
 
 -- ---- the values of each operation, in their order
 
--- Check: none
+-- Check, Nesting: none
 abbrev pub noWords : Unit {0} → List ℕ
 noWords _ = []
 

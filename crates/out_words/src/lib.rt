@@ -9,6 +9,7 @@ ghost use Rattle.clean.specs.Clean.{tellClean};
 ghost use Rattle.cut.specs.Cut.{tellCut};
 ghost use Rattle.ink.specs.Inking.{tellInk};
 ghost use Rattle.contours.specs.Areas.{tellArea};
+ghost use Rattle.nesting.specs.Nesting.{tellNesting};
 ghost use Rattle.sweep.specs.Operations.{tellStart, tellStep, tellLayer};
 ghost use Rattle.all_sweep.specs.AllLayers.{tellAllLayers};
 ghost use Rattle.preview.specs.Preview.{tellPreview, tellPreviewRun};
@@ -25,6 +26,7 @@ use ink::InkAnswer;
 use mesh::Refusal;
 use mesh::refusals::number_of;
 use mesh::refusals::place_of;
+use nesting::NestingAnswer;
 use preview::PathCall;
 use preview::PreviewAnswer;
 use preview::PreviewRunAnswer;
@@ -142,6 +144,15 @@ pub fn tell_layer(a: LayerAnswer, out: &mut [u64; 4]) -> u32
             0
         }
         LayerAnswer::Refused(r) => refuse(r, out),
+    }
+}
+
+pub fn tell_nesting(a: NestingAnswer, out: &mut [u64; 4]) -> u32
+    ensures outcome { λ n. ⌜ Says noWords (tellNesting a) (out .entry .now) n (out .exit .now) ⌝ }
+{
+    match a {
+        NestingAnswer::Nested => 0,
+        NestingAnswer::Refused(r) => refuse(r, out),
     }
 }
 

@@ -5,7 +5,7 @@ use mathlib.Core.Bool.{Bool, true, not, _&&_}
 use mathlib.Core.List.{List, [], _∷_, flatten}
 use lib.Dec.{leb, eqb}
 use lib.ListN.{length, getD, take, drop}
-use lib.IntN.{ℤ, natAbs}
+use lib.IntN.{ℤ, pos, natAbs}
 use Rattle.laws.specs.Tables.{overwrite}
 use Rattle.mesh.specs.Corners.{largest}
 pub use Rattle.mesh.specs.Corners.{mostPoints}
@@ -22,6 +22,14 @@ pub record Point : Type 0 where
 
 abbrev pub point : ℤ → ℤ → Point
 point x y = record { x = x; y = y }
+
+-- what stands for a point past the last, where the numbers have 0 too
+abbrev pub noPoint : Point
+noPoint = record { x = pos 0; y = pos 0 }
+
+-- point i of a contour, asked only of points that it has
+abbrev pub nthPoint : List Point → ℕ → Point
+nthPoint c i = getD c i noPoint
 
 -- a point lies in coordinate range (LIMIT-3)
 abbrev pub PointNear : Point → Type 0

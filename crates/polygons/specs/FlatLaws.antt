@@ -6,19 +6,23 @@ use mathlib.Core.Bool.{true, not}
 use mathlib.Core.List.{List, [], _∷_, _++_, map, flatten, append-assoc, append-nil, map-append}
 use mathlib.Core.Logic.{_↔_}
 use native.Mathlib.Omega.{arith}
-use borrow.Author.Tests.{leb-true, eqb-true, le-leb, eq-eqb, not-false}
+use borrow.Author.Tests.{ltb-false, leb-true, eqb-true, le-ltb, le-leb, eq-eqb, not-false}
 use lib.ListN.{length, getD, take, drop, length-append, length-map, length-drop, take-append-drop, drop-of-length-le}
 use lib.Seq.{take-at, drop-at, length-take-le, drop-drop}
 use lib.Dec.{leb}
-use lib.IntN.{ℤ, pos}
+use lib.IntN.{ℤ, pos, natAbs}
 use Rattle.laws.specs.Booleans.{and-parts, and-of}
 use Rattle.laws.specs.TableLaws.{overwrite-front}
-use Rattle.mesh.specs.Operation.{fine, test}
-use Rattle.mesh.specs.OperationLaws.{whole-fine, fine-nowhere}
+use Rattle.mesh.specs.Corners.{largest}
+use Rattle.mesh.specs.Operation.{Nowhere, fine, test, verdict}
+use Rattle.mesh.specs.OperationLaws.{None, more, done, whole-fine, fine-nowhere, fine-none, none-fine}
 use Rattle.mesh.specs.Refusals.{refusal}
-use Rattle.polygons.specs.Flat.{Point, mostPoints, fewestPoints, pointTotal, Each, Polygons, FlatLayer, flat, numbersOf, endsFrom, endsOf, flatOf}
+use Rattle.mesh.specs.Tests.{outOfRange, range}
+pub use Rattle.polygons.specs.TestedLayers.{FlatTested, LayerTested}
+use Rattle.polygons.specs.Flat.{Point, noPoint, PointNear, mostPoints, fewestPoints, pointTotal, Each, Polygons, FlatLayer, flat, numbersOf, endsFrom}
+use Rattle.polygons.specs.Flat.{endsOf, flatOf}
 use Rattle.polygons.specs.Flat.{holding, layerFront, pointsIn, pointsBetween, contoursIn, polygonsOf, endBefore}
-use Rattle.polygons.specs.Flat.{runFits, endsRise, lastEnd, isLayer, notLayer}
+use Rattle.polygons.specs.Flat.{runFits, endsRise, lastEnd, isLayer, notLayer, layerTests}
 
 -- ---- what holds of each
 
@@ -34,6 +38,41 @@ module _ {A : Type 0} (P : A → Type 0) where
   pub each-parts : (l r : List A) → Each P (l ++ r) → Each P l × Each P r
   each-parts [] r p = (tt, p)
   each-parts (a ∷ l) r p = let q = each-parts l r (p .1) in ((p .0, q .0), q .1)
+
+  pub at-each : (d : A) (l : List A) → Each P l → (i : ℕ) → i < length l → P (getD l i d)
+  at-each d [] e i h = absurd (omega arith)
+  at-each d (a ∷ l) e zero h = e .0
+  at-each d (a ∷ l) e (suc i) h = at-each d l (e .1) i (omega arith)
+
+  pub each-flatten : (ls : List (List A)) → Each (Each P) ls → Each P (flatten ls)
+  unfolding flatten
+  each-flatten [] e = tt
+  each-flatten (l ∷ ls) e = each-join l (flatten ls) (e .0) (each-flatten ls (e .1))
+
+  pub flatten-each : (ls : List (List A)) → Each P (flatten ls) → Each (Each P) ls
+  unfolding flatten
+  flatten-each [] e = tt
+  flatten-each (l ∷ ls) e = let parts = each-parts l (flatten ls) e in (parts .0, flatten-each ls (parts .1))
+
+-- of two points or more each, there are at most half as many contours as points
+pub few-polygons : {A : Type 0} (cs : List (List A)) → Each (λ (c : List A). fewestPoints ≤ length c) cs → 2 * length cs ≤ pointTotal cs
+few-polygons [] e = omega arith
+few-polygons (c ∷ cs) e = omega (arith, e .0, few-polygons cs (e .1))
+
+-- a number is in coordinate range
+abbrev NumberNear : ℤ → Type 0
+NumberNear z = natAbs z ≤ largest
+
+-- of all points, and of all their numbers
+pub near-numbers : (c : List Point) → Each PointNear c → Each NumberNear (numbersOf c)
+unfolding numbersOf
+near-numbers [] e = tt
+near-numbers (p ∷ c) e = (e .0 .0, (e .0 .1, near-numbers c (e .1)))
+
+pub numbers-near : (c : List Point) → Each NumberNear (numbersOf c) → Each PointNear c
+unfolding numbersOf
+numbers-near [] e = tt
+numbers-near (p ∷ c) e = ((e .0, e .1 .0), numbers-near c (e .1 .1))
 
 -- ---- how long the tables are, part by part
 
@@ -86,10 +125,6 @@ length-points cs = length-numbers (flatten cs) ∙ ap (λ (n : ℕ). 2 * n) (len
 pub front-holding : (cs : List (List Point)) (u : FlatLayer) → layerFront (length cs, pointTotal cs) (holding cs u) ≡ flatOf cs
 front-holding cs u =
     λ i. flat (overwrite-front (flatOf cs .points) (u .points) (length-points cs) i) (overwrite-front (flatOf cs .ends) (u .ends) (length-ends 0 cs) i)
-
--- past the last point, where the numbers have 0 too
-abbrev pub noPoint : Point
-noPoint = record { x = pos 0; y = pos 0 }
 
 -- numbers 2 i and 2 i + 1 are those of point i
 pub number-x : (c : List Point) (i : ℕ) → getD (numbersOf c) (2 * i) (pos 0) ≡ getD c i noPoint .x
@@ -231,13 +266,6 @@ module _ (points : List ℤ) where
 
 -- ---- the test
 
--- what it asks
-pub record FlatTested (t : FlatLayer) : Type 0 where
-  pub even : length (t .points) % 2 ≡ 0
-  pub few : length (t .points) / 2 ≤ mostPoints
-  pub rising : endsRise 0 (t .ends) ≡ true
-  pub last : lastEnd 0 (t .ends) ≡ length (t .points) / 2
-
 pub layer-parts : (t : FlatLayer) → isLayer t ≡ true → FlatTested t
 unfolding isLayer runFits
 layer-parts t e =
@@ -289,6 +317,36 @@ layer-passes t = (
   (λ e. layer-exactly t .0 (not-false (isLayer t) (fine-nowhere (notLayer t) e 0 (omega arith)))),
   (λ q. sym (whole-fine (refusal 1) (not (isLayer t)) (ap not (layer-exactly t .1 q)))),
 )
+
+-- ---- both tests
+
+-- what 1 and 2 find nothing of
+pub none-tested : (t : FlatLayer) → Nowhere (notLayer t) → Nowhere (range (t .points)) → LayerTested t
+unfolding outOfRange
+none-tested t l r = record { tested = layer-parts t (not-false _ (l 0 (omega arith))); small = λ i h. ltb-false _ _ (r i h) }
+
+pub layer-tested : (t : FlatLayer) → verdict (layerTests t) ≡ fine → LayerTested t
+layer-tested t e = go (fine-none (layerTests t) e)
+  where
+    go : None (layerTests t) → LayerTested t
+    go (more l (more r done)) = none-tested t l r
+
+pub tested-fine : (t : FlatLayer) → LayerTested t → verdict (layerTests t) ≡ fine
+unfolding outOfRange
+tested-fine t h =
+    none-fine (layerTests t) (more (λ i l. ap not (layer-of t (h .tested))) (more (λ i l. le-ltb _ _ (h .small i l)) done))
+
+-- its contours have points in range, and contours of such points pass
+pub tested-near : (t : FlatLayer) → LayerTested t → Each (Each PointNear) (polygonsOf t)
+tested-near t h =
+    let same = ap (λ (v : FlatLayer). v .points) (flat-polygons t (h .tested)) in
+    let row = subst (Each NumberNear) (sym same) (each-at NumberNear (pos 0) (t .points) (h .small)) in
+    flatten-each PointNear (polygonsOf t) (numbers-near (flatten (polygonsOf t)) row)
+
+pub near-tested : (cs : List (List Point)) → Polygons cs → Each (Each PointNear) cs → LayerTested (flatOf cs)
+near-tested cs p e =
+    let row = near-numbers (flatten cs) (each-flatten PointNear cs e) in
+    record { tested = polygons-tested cs p; small = at-each NumberNear (pos 0) (numbersOf (flatten cs)) row }
 
 -- ---- one contour of a layer: from the end before it to its own
 

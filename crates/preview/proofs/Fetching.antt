@@ -46,7 +46,7 @@ module _ (t : FlatLayer) (o : Origin) (d : DrawTested t o) (k j : ℕ) (b : Belo
   fetch-past h =
       let last : j ≡ length (t .ends) = omega (arith, b .upto) in
       let from : endBefore 0 (t .ends) (length (t .ends)) + length (t .ends) ≤ k = subst (λ (i : ℕ). endBefore 0 (t .ends) i + i ≤ k) last (b .from) in
-      sym (past-exactly o t (d .tested) k .1 (omega (arith, from, before-all 0 (t .ends), d .tested .last)))
+      sym (past-exactly o t (d .layer .tested) k .1 (omega (arith, from, before-all 0 (t .ends), d .layer .tested .last)))
 
   module _ (there : j < length (t .ends)) {e : ℕ} (e-is : e ≡ getD (t .ends) j 0) where
     abbrev start : ℕ
@@ -56,13 +56,13 @@ module _ (t : FlatLayer) (o : Origin) (d : DrawTested t o) (k j : ℕ) (b : Belo
     end = getD (t .ends) j 0
 
     here : getElem? (callsOf o t) k ≡ some (callHere o (t .points) start end (k - j))
-    here = call-here o t (d .tested) k j b there
+    here = call-here o t (d .layer .tested) k j b there
 
     -- a point before the end is in the table
     pub point-there : (e ≡ k - j → ⊥) → 2 * (k - j) + 1 < length (t .points)
     point-there n =
-        let rises = end-rises 0 (t .ends) (d .tested .rising) j there in
-        omega (arith, rises .1, b .from, b .to there, d .tested .even, d .tested .last)
+        let rises = end-rises 0 (t .ends) (d .layer .tested .rising) j there in
+        omega (arith, rises .1, b .from, b .to there, d .layer .tested .even, d .layer .tested .last)
 
     pub fetch-close : e ≡ k - j → some Close ≡ getElem? (callsOf o t) k
     fetch-close n = sym (here ∙ ap some (here-close o (t .points) start end (k - j) (sym n ∙ e-is)))
@@ -92,4 +92,4 @@ read-small z h = subst (λ (y : ℤ). natAbs y ≤ largest) (sym (read-is z h)) 
 
 pub point-small : {t : FlatLayer} {o : Origin} (i : ℕ) → DrawTested t o → 2 * i + 1 < length (t .points)
     → (natAbs (tablePoint (t .points) i .x) ≤ largest) × (natAbs (tablePoint (t .points) i .y) ≤ largest)
-point-small i d h = (d .small (2 * i) (omega arith), d .small (2 * i + 1) h)
+point-small i d h = (d .layer .small (2 * i) (omega arith), d .layer .small (2 * i + 1) h)

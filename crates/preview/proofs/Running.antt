@@ -69,11 +69,11 @@ module _ (t : FlatLayer) (o : Origin) (number : ℕ) (u₀ : CallTables) where
           let last : j ≡ length (t .ends) = omega (arith, own .upto) in
           let from : endBefore 0 (t .ends) (length (t .ends)) + length (t .ends) ≤ number + n =
           subst (λ (i : ℕ). endBefore 0 (t .ends) i + i ≤ number + n) last (own .from) in
-          omega (arith, v .left, v .space, length-drop number calls, from, before-all 0 (t .ends), d .tested .last, calls-count o t (d .tested))
+          omega (arith, v .left, v .space, length-drop number calls, from, before-all 0 (t .ends), d .layer .tested .last, calls-count o t (d .layer .tested))
 
       module _ (there : j < length (t .ends)) {s e i : ℕ} (s-is : s ≡ endBefore 0 (t .ends) j) (e-is : e ≡ getD (t .ends) j 0) (i-is : i ≡ number + n - j) where
         rises : (endBefore 0 (t .ends) j + 2 ≤ getD (t .ends) j 0) × (getD (t .ends) j 0 ≤ length (t .points) / 2)
-        rises = let r = end-rises 0 (t .ends) (d .tested .rising) j there in (r .0, omega (arith, r .1, d .tested .last))
+        rises = let r = end-rises 0 (t .ends) (d .layer .tested .rising) j there in (r .0, omega (arith, r .1, d .layer .tested .last))
 
         -- what `fill_contour` asks
         pub next-within : (s < e) × (i ≤ e) × (n < room)
@@ -88,7 +88,7 @@ module _ (t : FlatLayer) (o : Origin) (number : ℕ) (u₀ : CallTables) where
             }
 
         pub next-points : Points (t .points) o e
-        next-points = record { there = omega (arith, rises .1); small = d .small; origin = d .origin }
+        next-points = record { there = omega (arith, rises .1); small = d .layer .small; origin = d .origin }
 
         abbrev rest : List PathCall
         rest = callsLeft o (t .points) s e i
@@ -106,7 +106,7 @@ module _ (t : FlatLayer) (o : Origin) (number : ℕ) (u₀ : CallTables) where
                 let here : number + n + m - j ≡ i + m = omega (arith, own .from) in
                 let belongs : Belongs (t .ends) (number + n + m) j =
                 record { upto = own .upto; from = omega (arith, own .from); to = λ h. omega (arith, own .from) } in
-                call-here o t (d .tested) (number + n + m) j belongs there
+                call-here o t (d .layer .tested) (number + n + m) j belongs there
                 ∙ (λ x. some (callHere o (t .points) (sym s-is x) (sym e-is x) (here x)))
                 ∙ sym (left-here o (t .points) s e i m (next-within .0) (omega (arith, own .from)) within)
 
@@ -141,7 +141,7 @@ module _ (t : FlatLayer) (o : Origin) (number : ℕ) (u₀ : CallTables) where
               (record {
                 upto = there;
                 from = omega (arith, at);
-                to = λ q. omega (arith, at, end-rises 0 (t .ends) (d .tested .rising) (suc j) q .0);
+                to = λ q. omega (arith, at, end-rises 0 (t .ends) (d .layer .tested .rising) (suc j) q .0);
               })
 
           pub running-next : {u′ : CallTables} → u′ ≡ putCalls n (take (room - n) rest) u → CallsFilled room u′ n′ (j + 1)

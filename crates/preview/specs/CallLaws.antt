@@ -13,8 +13,8 @@ use lib.ListN.{length, getD, getElem?, length-append, length-map, List·getD-app
 use lib.Seq.{getD-append-add}
 use Rattle.laws.specs.EntryLaws.{entry-front, entry-behind}
 use Rattle.laws.specs.Booleans.{split-lt, split-eq}
-use Rattle.polygons.specs.Flat.{Point, Each, pointTotal, endsFrom, endBefore}
-use Rattle.polygons.specs.FlatLaws.{noPoint, before-later}
+use Rattle.polygons.specs.Flat.{Point, noPoint, Each, pointTotal, endsFrom, endBefore}
+use Rattle.polygons.specs.FlatLaws.{before-later}
 use Rattle.preview.specs.Calls.{Stroke, move, line, close, contourStrokes, strokesOf}
 
 -- ---- how many

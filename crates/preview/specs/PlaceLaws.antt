@@ -10,8 +10,8 @@ use lib.Dec.{eqb}
 use lib.ListN.{length, getD, getElem?, length-map}
 use lib.IntN.{ℤ, pos}
 use Rattle.laws.specs.EntryLaws.{entry-map, entry-none}
-use Rattle.polygons.specs.Flat.{Point, point, Each, FlatLayer, pointTotal, fewestPoints, endsOf, numbersOf, flatOf, polygonsOf, endBefore, lastEnd}
-use Rattle.polygons.specs.FlatLaws.{noPoint, number-x, number-y, length-ends, length-points, FlatTested, flat-polygons, layer-polygons}
+use Rattle.polygons.specs.Flat.{Point, noPoint, point, Each, FlatLayer, pointTotal, fewestPoints, endsOf, numbersOf, flatOf, polygonsOf, endBefore, lastEnd}
+use Rattle.polygons.specs.FlatLaws.{number-x, number-y, length-ends, length-points, FlatTested, flat-polygons, layer-polygons}
 use Rattle.preview_floats.specs.declared.Origin.{Origin}
 use Rattle.preview.specs.declared.PathCall.{PathCall}
 use Rattle.preview.specs.declared.PathCall.the-variants.{Close}

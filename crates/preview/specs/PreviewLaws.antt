@@ -1,22 +1,19 @@
 -- What Preview and Preview of a run promise: each refuses exactly if a listed condition holds, gives its values exactly if none does, and the outcome is the
 -- only one. Before that what a layer and an origin that are not refused are.
-use Prim.Native.Nat.{ℕ, _+_, _/_, _≤_, _<_}
+use Prim.Native.Nat.{ℕ, _+_, _/_, _≤_}
 use mathlib.Core.Path.{_≡_, refl, sym, ap, _∙_}
 use mathlib.Core.Bool.{true}
 use mathlib.Core.Logic.{_↔_}
 use mathlib.Core.Option.{none, some}
 use native.Mathlib.Omega.{arith}
-use borrow.Author.Tests.{ltb-false, not-false}
-use lib.ListN.{length, getD}
-use lib.IntN.{pos, natAbs}
-use Rattle.mesh.specs.Corners.{largest}
+use borrow.Author.Tests.{not-false}
+use lib.ListN.{length}
 use Rattle.mesh.specs.Operation.{gives, refuses}
 use Rattle.mesh.specs.OperationLaws.{First, None, more, done, fine-none, Recovers, given-verdict, refused-exactly, given-exactly, only-outcome}
 use Rattle.mesh.specs.Refusals.{Told}
 use Rattle.mesh.specs.RefusalLaws.{refusalOf, refusal-once}
-use Rattle.mesh.specs.Tests.{outOfRange}
 use Rattle.polygons.specs.Flat.{FlatLayer}
-use Rattle.polygons.specs.FlatLaws.{FlatTested, layer-parts}
+use Rattle.polygons.specs.FlatLaws.{LayerTested, none-tested}
 use Rattle.preview_floats.specs.declared.Origin.{Origin}
 use Rattle.preview_floats.specs.DrawnPoints.{wholeOrigin}
 use Rattle.preview.specs.PlaceLaws.{past-exactly}
@@ -30,21 +27,14 @@ use Rattle.preview.specs.Preview.{previewTests, Drawable, previewing, te
 
 -- what the tests have told, part by part
 pub record DrawTested (t : FlatLayer) (o : Origin) : Type 0 where
-  pub tested : FlatTested t
-  pub small : (i : ℕ) → i < length (t .points) → natAbs (getD (t .points) i (pos 0)) ≤ largest
+  pub layer : LayerTested t
   pub origin : wholeOrigin o ≡ true
 
 pub draw-tested : (t : FlatLayer) (o : Origin) → Drawable t o → DrawTested t o
-unfolding outOfRange
 draw-tested t o e = go (fine-none (previewTests t o) e)
   where
     go : None (previewTests t o) → DrawTested t o
-    go (more a (more l (more r done))) =
-        record {
-          tested = layer-parts t (not-false _ (l 0 (omega arith)));
-          small = λ i h. ltb-false _ _ (r i h);
-          origin = not-false _ (a 0 (omega arith));
-        }
+    go (more a (more l (more r done))) = record { layer = none-tested t l r; origin = not-false _ (a 0 (omega arith)) }
 
 -- ---- the cases of an answer, from what they tell
 
@@ -72,8 +62,8 @@ module _ {t : FlatLayer} {o : Origin} {number : ℕ} {result : PreviewAnswer} (d
   -- past the last exactly from so many calls on as there are points and contours (PREVIEW-5)
   pub preview-past : (tellPreview result ≡ gives none) ↔ (Drawable t o × (length (t .points) / 2 + length (t .ends) ≤ number))
   preview-past = (
-    (λ e. let g = given-verdict d e in (g .0, past-exactly o t (draw-tested t o (g .0) .tested) number .0 (sym (g .1)))),
-    (λ w. preview-given .1 (fine-none _ (w .0)) ∙ ap gives (past-exactly o t (draw-tested t o (w .0) .tested) number .1 (w .1))),
+    (λ e. let g = given-verdict d e in (g .0, past-exactly o t (draw-tested t o (g .0) .layer .tested) number .0 (sym (g .1)))),
+    (λ w. preview-given .1 (fine-none _ (w .0)) ∙ ap gives (past-exactly o t (draw-tested t o (w .0) .layer .tested) number .1 (w .1))),
   )
 
   pub preview-only : {other : PreviewAnswer} → Previews t o number other → result ≡ other

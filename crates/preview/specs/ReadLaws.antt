@@ -9,8 +9,8 @@ use lib.IntN.{ℤ, pos, natAbs}
 use lib.Ieee.{binary32, sub}
 use Rattle.laws.specs.Booleans.{and-parts}
 use Rattle.mesh.specs.Corners.{largest}
-use Rattle.polygons.specs.Flat.{Point, point, Each, pointTotal, FlatLayer, flatOf, numbersOf, polygonsOf}
-use Rattle.polygons.specs.FlatLaws.{noPoint, number-x, number-y, length-numbers, flat-polygons, each-at, each-join, each-parts}
+use Rattle.polygons.specs.Flat.{Point, noPoint, point, Each, pointTotal, FlatLayer, flatOf, numbersOf, polygonsOf}
+use Rattle.polygons.specs.FlatLaws.{number-x, number-y, length-numbers, flat-polygons, each-at, each-join, each-parts}
 use Rattle.preview_floats.specs.declared.Origin.{Origin}
 use Rattle.preview_floats.specs.WholeFloats.{isWhole, valueOf, float}
 use Rattle.preview_floats.specs.WholeLaws.{cast-stands}
@@ -92,7 +92,7 @@ small-strokes (c ∷ cs) e =
 
 module _ (t : FlatLayer) (o : Origin) (d : DrawTested t o) where
   points-are : numbersOf (flatten (polygonsOf t)) ≡ t .points
-  points-are = ap (λ (u : FlatLayer). u .points) (flat-polygons t (d .tested))
+  points-are = ap (λ (u : FlatLayer). u .points) (flat-polygons t (d .layer .tested))
 
   small-points : Each SmallPoint (flatten (polygonsOf t))
   small-points = each-at SmallPoint noPoint (flatten (polygonsOf t)) small
@@ -105,8 +105,8 @@ module _ (t : FlatLayer) (o : Origin) (d : DrawTested t o) where
           ∙ number-x all i in
           let y-is : getD (t .points) (2 * i + 1) (pos 0) ≡ getD all i noPoint .y =
           ap (λ (ns : List ℤ). getD ns (2 * i + 1) (pos 0)) (sym points-are) ∙ number-y all i in (
-            subst (λ (z : ℤ). natAbs z ≤ largest) x-is (d .small (2 * i) (omega arith)),
-            subst (λ (z : ℤ). natAbs z ≤ largest) y-is (d .small (2 * i + 1) (omega arith)),
+            subst (λ (z : ℤ). natAbs z ≤ largest) x-is (d .layer .small (2 * i) (omega arith)),
+            subst (λ (z : ℤ). natAbs z ≤ largest) y-is (d .layer .small (2 * i + 1) (omega arith)),
           )
 
   pub small-layer : Each Small (strokesOf (polygonsOf t))
@@ -122,6 +122,6 @@ contours-read t o d =
 -- no two different layers have the same calls for one origin
 pub calls-tell : (t u : FlatLayer) (o : Origin) → Drawable t o → Drawable u o → callsOf o t ≡ callsOf o u → t ≡ u
 calls-tell t u o d e same =
-    sym (flat-polygons t (draw-tested t o d .tested))
+    sym (flat-polygons t (draw-tested t o d .layer .tested))
     ∙ ap flatOf (sym (contours-read t o d) ∙ ap (contoursRead o) same ∙ contours-read u o e)
-    ∙ flat-polygons u (draw-tested u o e .tested)
+    ∙ flat-polygons u (draw-tested u o e .layer .tested)

@@ -21,6 +21,7 @@ use Rattle.all_sweep.specs.AllLayers.{WorkTables, filing}
 use Rattle.file_formats.specs.PartFile.{Part}
 use Rattle.read_layer.specs.Reading.{layerReading}
 use Rattle.ink.specs.Inking.{inking}
+use Rattle.nesting.specs.Nesting.{NestTables, contourNesting}
 use Rattle.read_part.specs.Parts.{partReading}
 use Rattle.preview_floats.specs.declared.Origin.{Origin}
 use Rattle.preview.specs.Preview.{previewing, CallTables, previewRunning}
@@ -77,6 +78,10 @@ ReadPartC file t = Exports partReading readPartWords (file, t)
 -- wadroles_ink: the charge
 abbrev pub InkC : List ℕ → ℕ → List ℕ → ℕ → List ℕ → Type 0
 InkC file t out returned = Exports inking oneWord (file, t) out returned tt
+
+-- wadroles_nesting: no values
+abbrev pub NestingC : FlatLayer → NestTables → List ℕ → ℕ → NestTables → List ℕ → Type 0
+NestingC t u = Exports contourNesting noWords (t, u)
 
 -- wadroles_preview: the kind of the call, and its two floats
 pub record PreviewC (t : FlatLayer) (o : Origin) (number : ℕ) (xy : List Float) (out : List ℕ)

@@ -8,9 +8,10 @@ ghost use Rattle.sweep.specs.Sweep.{sweep};
 ghost use Rattle.all_sweep.specs.AllLayers.{work};
 ghost use Rattle.read_part.specs.Parts.{part};
 ghost use Rattle.wadroles.specs.Interface.{CheckC, CutC, CleanC, ContourC, AreaC, StartC, StepC, LayerC, AllLayersC, ReadLayerC, ReadPartC};
-ghost use Rattle.wadroles.specs.Interface.{PreviewC, PreviewRunC, InkC};
+ghost use Rattle.wadroles.specs.Interface.{PreviewC, PreviewRunC, InkC, NestingC};
 ghost use Rattle.preview_floats.specs.DrawnPoints.{originAt};
 ghost use Rattle.preview.specs.Preview.{callTables};
+ghost use Rattle.nesting.specs.Nesting.{nestTables};
 use cleaning::Profile;
 use out_words::tell_all_layers;
 use out_words::tell_area;
@@ -19,6 +20,7 @@ use out_words::tell_clean;
 use out_words::tell_cut;
 use out_words::tell_ink;
 use out_words::tell_layer;
+use out_words::tell_nesting;
 use out_words::tell_preview;
 use out_words::tell_preview_run;
 use out_words::tell_read_layer;
@@ -349,4 +351,20 @@ pub extern "C" fn wadroles_ink(file: &[u8], thickness: u32, out: &mut [u64; 4]) 
 {
     let a = ink::ink(file, thickness);
     tell_ink(a, out)
+}
+
+#[no_mangle]
+pub extern "C" fn wadroles_nesting(
+    points: &[i32],
+    ends: &[u32],
+    depths: &mut [u32],
+    parents: &mut [u32],
+    out: &mut [u64; 4],
+) -> u32
+    ensures outcome { λ r. ⌜ NestingC (flat (points .entry .now) (ends .entry .now))
+        (nestTables (depths .entry .now) (parents .entry .now)) (out .entry .now) r
+        (nestTables (depths .exit .now) (parents .exit .now)) (out .exit .now) ⌝ }
+{
+    let a = nesting::nesting(points, ends, depths, parents);
+    tell_nesting(a, out)
 }

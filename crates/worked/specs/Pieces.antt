@@ -8,7 +8,7 @@ use Rattle.mesh.specs.Corners.{vertexCount}
 use Rattle.mesh.specs.Meshes.{Mesh, mesh, OrderedMesh, ordered}
 use Rattle.mesh.specs.Operation.{Answer, gives, refuses, answerOf, leftBy}
 use Rattle.mesh.specs.Refusals.{Told}
-use Rattle.polygons.specs.Flat.{flat}
+use Rattle.polygons.specs.Flat.{FlatLayer, flat}
 use Rattle.cleaning.specs.declared.Profile.{Profile}
 use Rattle.check_mesh.specs.Check.{CheckTables, checkTables, checking}
 use Rattle.section.specs.Contours.{Traced, contours, stuck, trace}
@@ -19,6 +19,7 @@ use Rattle.sweep.specs.Sweep.{passedAt}
 use Rattle.all_sweep.specs.AllLayers.{work, filing}
 use Rattle.read_layer.specs.Reading.{layerReading}
 use Rattle.ink.specs.Inking.{inking}
+use Rattle.nesting.specs.Nesting.{nestTables, contourNesting}
 
 -- ---- what is asked
 
@@ -39,6 +40,8 @@ pub data Input : Type 0 where
   read : Profile → List ℕ → Input
   -- Ink of these bytes at a thickness
   inked : List ℕ → ℕ → Input
+  -- Nesting of a layer
+  nested : FlatLayer → Input
 
 -- ---- what is answered
 
@@ -62,6 +65,8 @@ pub data Result : Type 0 where
   number : ℤ → Result
   -- the bytes of a file
   bytes : List ℕ → Result
+  -- depths and parents
+  nests : List ℕ → List ℕ → Result
 
 -- of an answer: the refusal, or what its values say
 abbrev pub resultFrom : {G : Type 0} → (G → Result) → Answer Told G → Result
@@ -124,6 +129,12 @@ readFileAs p file = resultFrom (λ v. number (pos (v .0))) (answerOf (layerReadi
 unfoldable pub inkedAs : List ℕ → ℕ → Result
 inkedAs file t = resultFrom (λ n. number (pos n)) (answerOf (inking (file, t)))
 
+unfoldable pub nestedAs : FlatLayer → Result
+nestedAs t =
+    let n = length (t .ends) in
+    let o = contourNesting (t, nestTables (replicate n 0) (replicate n 0)) in
+    resultFrom (λ _. nests (leftBy o .depths) (leftBy o .parents)) (answerOf o)
+
 unfoldable pub resultOf : Input → Result
 resultOf (checked m) = checkedAs m
 resultOf (passed m n) = passedAs (withTables m) n
@@ -133,3 +144,4 @@ resultOf (filed p m heights output) = filedAs p (withTables m) heights output
 resultOf (edgeAt edge h) = edgeAs edge h
 resultOf (read p file) = readFileAs p file
 resultOf (inked file t) = inkedAs file t
+resultOf (nested t) = nestedAs t

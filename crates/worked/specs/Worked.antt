@@ -34,9 +34,11 @@ use Rattle.ink.specs.Inking.{thicknessFits}
 use Rattle.read_layer.specs.Reading.{readLayerRoomFor}
 use Rattle.all_heights.specs.Heights.{heightsTaken, notAboveLast}
 use Rattle.all_sweep.specs.AllLayers.{sweptLayer, climb, workRoomFor}
-use Rattle.worked.specs.Pieces.{Input, checked, passed, cutAt, areaOf, filed, edgeAt, read, inked}
-use Rattle.worked.specs.Pieces.{Result, refused, paired, rings, LayerResult, layer as layered, number, bytes}
+use Rattle.worked.specs.Pieces.{Input, checked, passed, cutAt, areaOf, filed, edgeAt, read, inked, nested}
+use Rattle.worked.specs.Pieces.{Result, refused, paired, rings, LayerResult, layer as layered, number, bytes, nests}
 use Rattle.worked.specs.Pieces.{withTables, checkedAs, passedAs, cutAs, areaAs, filedAs, edgeAs, readFileAs, inkedAs, resultOf}
+use Rattle.nesting.specs.Nests.{noParent}
+use Rattle.worked.specs.Nested.{touching, squaresWithin, twins, touching-nests, within-nests, twins-nest}
 use Rattle.worked.specs.SharedEdge.{cubes, cubesPairing, cubesAtFive, uneven, cubes-accepted, cubes-cut, uneven-refused}
 
 -- part P, and P without triangle 3 (WORKED-13)
@@ -108,6 +110,9 @@ inputs =
     ∷ checked cubes
     ∷ cutAt cubes (pos 5)
     ∷ checked uneven
+    ∷ nested touching
+    ∷ nested squaresWithin
+    ∷ nested twins
     ∷ []
 
 abbrev pub results : List Result
@@ -131,6 +136,9 @@ results =
     ∷ paired cubesPairing
     ∷ layered cubesAtFive
     ∷ refused 6 12
+    ∷ nests (0 ∷ 0 ∷ []) (noParent ∷ noParent ∷ [])
+    ∷ nests (0 ∷ 2 ∷ 0 ∷ 1 ∷ []) (noParent ∷ 3 ∷ noParent ∷ 0 ∷ [])
+    ∷ nests (1 ∷ 1 ∷ 2 ∷ []) (1 ∷ 0 ∷ 0 ∷ [])
     ∷ []
 
 -- ---- P with its pairing and order
@@ -263,4 +271,7 @@ worked = λ i.
     ∷ cubes-accepted i
     ∷ cubes-cut i
     ∷ uneven-refused i
+    ∷ touching-nests i
+    ∷ within-nests i
+    ∷ twins-nest i
     ∷ []

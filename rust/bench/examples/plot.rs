@@ -255,7 +255,7 @@ fn plot(series: &[Series]) -> String {
         title: "growth of time over that of size",
         left: 740.0,
         width: 190.0,
-        most: 1.5,
+        most: 2.5,
         step: 0.5,
     };
     let by_heading: Vec<&[Series]> = series.chunk_by(|a, b| a.heading == b.heading).collect();

@@ -9,9 +9,9 @@ use oracle::{encode_layers, encode_part, FileLayer, Part};
 use std::hint::black_box;
 use std::ptr::read_volatile;
 use wadroles::{
-    all_layers, all_layers_clean, check, clean, ink, layer, preview, preview_run, read_layer,
-    read_layer_clean, read_part, start, CallTables, CheckTables, CutTables, FlatLayer, GivenLayer,
-    OrderedMesh, Origin, PairedMesh, Sweep, WorkTables,
+    all_layers, all_layers_clean, check, clean, ink, layer, nesting, preview, preview_run,
+    read_layer, read_layer_clean, read_part, start, CallTables, CheckTables, CutTables, FlatLayer,
+    GivenLayer, NestTables, OrderedMesh, Origin, PairedMesh, Sweep, WorkTables,
 };
 
 const HEIGHT: i32 = 7;
@@ -191,4 +191,21 @@ fn print_given_depths() {
     print_depth("clean", &mut || {
         clean(layer, &mut cleaned).expect("the layer is right");
     });
+    print_nesting_depth();
+}
+
+/// Of three triangles, the last in both others, so that the area of a parent is found again.
+fn print_nesting_depth() {
+    let layer = GivenLayer {
+        points: &[0, 0, 900, 0, 0, 900, 5, 5, 99, 5, 5, 99, 9, 9, 19, 9, 9, 19],
+        ends: &[3, 6, 9],
+    };
+    let mut nested = NestTables {
+        depths: &mut [0; 3],
+        parents: &mut [0; 3],
+    };
+    print_depth("nesting", &mut || {
+        nesting(layer, &mut nested).expect("the layer is right");
+    });
+    assert_eq!(nested.depths, [0, 1, 2]);
 }

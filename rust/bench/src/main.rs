@@ -5,10 +5,11 @@
 //! into its caller.
 //!
 //! Arguments choose among `check`, `cut`, `area`, `layer`, `all_layers`, `read_layer`, `read_part`,
-//! `preview`, `clean`, `all_layers_clean`, `read_layer_clean`, `ink` and `ink_over_check`; without any,
-//! all are timed. Those of the clean profile are timed against the full one, and the last is Ink against
-//! the check of the same file. For `tools/instructions`, which counts what a call takes, `inputs` lists
-//! operations and inputs, and `once OPERATION INPUT VERSION` makes a single call.
+//! `preview`, `clean`, `all_layers_clean`, `read_layer_clean`, `ink`, `ink_over_check` and `nesting`;
+//! without any, all are timed. Those of the clean profile are timed against the full one, and
+//! `ink_over_check` is Ink against the check of the same file. For `tools/instructions`, which counts what
+//! a call takes, `inputs` lists operations and inputs, and `once OPERATION INPUT VERSION` makes a single
+//! call.
 
 #![forbid(unsafe_code)]
 
@@ -21,6 +22,7 @@ mod cut;
 mod ink;
 mod inputs;
 mod layer;
+mod nesting;
 mod owned;
 mod preview;
 mod profiles;
@@ -34,7 +36,7 @@ use versions::VERSIONS;
 
 type Benches = fn() -> Vec<Box<dyn Bench>>;
 
-const OPERATIONS: [(&str, Benches); 13] = [
+const OPERATIONS: [(&str, Benches); 14] = [
     ("check", check::benches),
     ("cut", cut::benches),
     ("area", area::benches),
@@ -48,6 +50,7 @@ const OPERATIONS: [(&str, Benches); 13] = [
     ("read_layer_clean", profiles::read_layer),
     ("ink", ink::benches),
     ("ink_over_check", ink::over_check),
+    ("nesting", nesting::benches),
 ];
 
 fn main() {

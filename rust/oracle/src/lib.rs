@@ -17,6 +17,7 @@ mod ink;
 mod layer_file;
 mod listing;
 mod mesh;
+mod nesting;
 mod numbers;
 mod part_file;
 mod preview;
@@ -35,6 +36,7 @@ pub use layer_file::{
     decode_layers, encode_layers, read_layer, read_layer_clean, FileLayer, LayerRead,
 };
 pub use listing::listing;
+pub use nesting::nesting;
 pub use numbers::{encode_plain, encode_signed};
 pub use part_file::{decode_part, encode_part, read_part, Part, PartRead};
 pub use preview::{drawn, preview, preview_run, PathCall};

@@ -17,7 +17,7 @@
 //! [`preview_run()`] give the calls with which a screen draws a layer. [`clean()`] drops what is
 //! needless in a layer; [`all_layers_clean()`] writes the file of cleaned layers, and
 //! [`read_layer_clean()`] reads only such files. [`ink()`] gives what the layers of a file are charged
-//! for ink.
+//! for ink. [`nesting()`] tells which contours of a layer lie in which.
 //!
 //! # Example
 //!
@@ -62,8 +62,8 @@
 //!
 //! What belongs together is a struct, of the name that the library's specification has for it:
 //! [`Mesh`], [`PairedMesh`], [`OrderedMesh`], [`GivenLayer`] and [`Origin`] are read;
-//! [`CheckTables`], [`CutTables`], [`WorkTables`], [`FlatLayer`], [`Part`] and [`CallTables`] are
-//! lent to be written; [`Sweep`] is both.
+//! [`CheckTables`], [`CutTables`], [`WorkTables`], [`FlatLayer`], [`Part`], [`CallTables`] and
+//! [`NestTables`] are lent to be written; [`Sweep`] is both.
 //!
 //! The operations work on tables that the caller lends them, and allocate nothing. Each answers with
 //! its values or with a [`Refusal`]: they test all that they are handed, so no input makes them
@@ -120,6 +120,7 @@ mod cut;
 mod ink;
 mod layer;
 mod mesh;
+mod nesting;
 mod preview;
 mod profile;
 pub mod raw;
@@ -140,6 +141,7 @@ pub use cut::cut;
 pub use ink::ink;
 pub use layer::layer;
 pub use mesh::{Mesh, OrderedMesh, PairedMesh};
+pub use nesting::{nesting, NestTables};
 pub use preview::{preview, preview_run, CallTables, GivenLayer, Origin, PathCall};
 pub use read_layer::{read_layer, read_layer_clean, FlatLayer, Reading};
 pub use read_part::{read_part, Part, PartCounts};
@@ -159,7 +161,7 @@ pub const MAX_TRIANGLES: usize = 65_536;
 pub const MAX_COORDINATE: i32 = 1_048_576;
 
 /// The most points that [`area()`] takes, and that a layer may have: one of a layer file and one that
-/// [`preview()`] and [`clean()`] take.
+/// [`preview()`], [`clean()`] and [`nesting()`] take.
 pub const MAX_POINTS: usize = 98_304;
 
 /// The most layers that a layer file may have, and the most heights that [`all_layers()`] and
@@ -171,3 +173,6 @@ pub const MAX_THICKNESS: u32 = 1_000;
 
 /// The ring entry of a corner that is no crossing.
 pub const NO_CORNER: u32 = 4_294_967_295;
+
+/// The parent of a contour that lies in no other.
+pub const NO_PARENT: u32 = 4_294_967_295;

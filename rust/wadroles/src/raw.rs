@@ -321,4 +321,22 @@ extern "C" {
     ///
     /// As [above](self#safety).
     pub fn wadroles_ink(file: *const u8, file_len: usize, thickness: u32, out: *mut u64) -> u32;
+
+    /// Finds depth and parent of each contour of a layer, as [`crate::nesting()`] does. Success writes
+    /// no values.
+    ///
+    /// # Safety
+    ///
+    /// As [above](self#safety).
+    pub fn wadroles_nesting(
+        points: *const i32,
+        points_len: usize,
+        ends: *const u32,
+        ends_len: usize,
+        depths: *mut u32,
+        depths_len: usize,
+        parents: *mut u32,
+        parents_len: usize,
+        out: *mut u64,
+    ) -> u32;
 }

@@ -9,13 +9,14 @@
 use crate::tree;
 
 /// The crates whose top module has the operations, and the public functions that are there at least.
-const OPERATIONS: [(&str, &[&str]); 13] = [
+const OPERATIONS: [(&str, &[&str]); 14] = [
     ("check_mesh", &["check"]),
     ("clean", &["clean"]),
     ("contours", &["area", "contour"]),
     ("cut", &["cut"]),
     ("ink", &["ink"]),
     ("all_layers", &["all_layers"]),
+    ("nesting", &["nesting"]),
     ("list_part", &["list"]),
     ("preview", &["preview", "preview_run"]),
     ("read_part", &["read_part"]),
@@ -41,6 +42,7 @@ const OPERATIONS: [(&str, &[&str]); 13] = [
             "wadroles_all_layers_clean",
             "wadroles_read_layer_clean",
             "wadroles_ink",
+            "wadroles_nesting",
         ],
     ),
 ];

@@ -3,7 +3,7 @@
 use crate::tree;
 use std::collections::{BTreeMap, BTreeSet};
 
-const CUTTING: [&str; 20] = [
+const CUTTING: [&str; 22] = [
     "section",
     "cut_trace",
     "cut_points",
@@ -16,6 +16,8 @@ const CUTTING: [&str; 20] = [
     "clean_contour",
     "clean_layers",
     "clean",
+    "inside",
+    "nesting",
     "ink",
     "sweep",
     "sweep_layer",

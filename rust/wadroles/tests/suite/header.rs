@@ -1,6 +1,6 @@
 use wadroles::{
     Refusal, MAX_COORDINATE, MAX_LAYERS, MAX_POINTS, MAX_THICKNESS, MAX_TRIANGLES, MAX_VERTICES,
-    NO_CORNER,
+    NO_CORNER, NO_PARENT,
 };
 
 const HEADER: &str = include_str!("../../../../include/wadroles.h");
@@ -47,6 +47,7 @@ fn the_header_gives_the_same_limits() {
         format!("#define WADROLES_MAX_LAYERS {MAX_LAYERS}\n"),
         format!("#define WADROLES_MAX_THICKNESS {MAX_THICKNESS}\n"),
         format!("#define WADROLES_NO_CORNER {NO_CORNER}u\n"),
+        format!("#define WADROLES_NO_PARENT {NO_PARENT}u\n"),
     ] {
         assert!(HEADER.contains(&line), "no {line:?} in the header");
     }
@@ -80,7 +81,8 @@ fn the_header_declares_the_same_functions() {
             "wadroles_clean",
             "wadroles_all_layers_clean",
             "wadroles_read_layer_clean",
-            "wadroles_ink"
+            "wadroles_ink",
+            "wadroles_nesting"
         ]
     );
 }

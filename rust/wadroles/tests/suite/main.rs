@@ -21,6 +21,7 @@ mod header;
 mod ink;
 mod inputs;
 mod mesh_operations;
+mod nesting;
 mod operations;
 mod preview;
 mod read_layer;

@@ -5,6 +5,7 @@ mod cleaning;
 mod files;
 mod inks;
 mod meshes;
+mod nestings;
 mod previews;
 
 use crate::harness::{written, Case, Operation};

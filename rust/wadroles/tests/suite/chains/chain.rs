@@ -111,8 +111,8 @@ impl Chain<'_> {
         Ok(given)
     }
 
-    /// Cuts at a height, takes the contours out of the layer, measures them, and previews and cleans the
-    /// layer.
+    /// Cuts at a height, takes the contours out of the layer, measures them, and previews, nests and
+    /// cleans the layer.
     fn cut(&mut self, given: Given) -> Result<(), String> {
         let (answer, case) = self.call::<Cut>(given, self.versions.cut)?;
         if let Ok((contours, points)) = answer {
@@ -125,6 +125,7 @@ impl Chain<'_> {
                 self.area(&points[first..first + length])?;
             }
             self.preview(points, ends)?;
+            self.nest(points, ends)?;
             self.clean(points, ends)?;
         }
         Ok(())
@@ -207,6 +208,7 @@ impl Chain<'_> {
             if let Some(layer) = self.read_layer(file, i)? {
                 self.compare_with_cut(given, &layer)?;
                 self.preview(&layer.points, &layer.ends)?;
+                self.nest(&layer.points, &layer.ends)?;
             }
         }
         for i in 0..2 {

@@ -7,7 +7,7 @@ use crate::preview::spoil_layer;
 use files::Damage as FileDamage;
 
 impl Chain<'_> {
-    /// Cleans a layer, now and then one with something wrong, and previews what is left.
+    /// Cleans a layer, now and then one with something wrong, and previews and nests what is left.
     pub(super) fn clean(&mut self, points: &[i32], ends: &[u32]) -> Result<(), String> {
         let mut layer = GivenLayer::new(points, ends);
         if self.random.one_in(8) {
@@ -18,6 +18,7 @@ impl Chain<'_> {
             let points = &case.tables.points.view()[..2 * points];
             let ends = &case.tables.ends.view()[..contours];
             self.preview(points, ends)?;
+            self.nest(points, ends)?;
         }
         Ok(())
     }

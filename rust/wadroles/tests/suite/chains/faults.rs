@@ -5,8 +5,8 @@ use crate::harness::{assert_told, Answer, Operation, Rounds};
 use crate::operations::{
     AllLayers, AllLayersClean, Area, CallTables, Check, CheckTables, Clean, Contour, Cut,
     CutTables, Drawing, Ends, FileTables, FlatLayer, Given, GivenLayer, Ink, Job, Layer, LayerFile,
-    Part, Preview, PreviewRun, ReadLayer, ReadLayerClean, ReadPart, Ring, Start, Step, Versions,
-    WorkTables, Xy,
+    NestTables, Nesting, Part, Preview, PreviewRun, ReadLayer, ReadLayerClean, ReadPart, Ring,
+    Start, Step, Versions, WorkTables, Xy,
 };
 
 fn last_height_left(file: &Vec<u8>, tables: &mut Part) -> Answer<(usize, usize, usize)> {
@@ -111,10 +111,19 @@ fn one_more_charged(job: &Job, (): &mut ()) -> Answer<u64> {
     Ink::product(job, &mut ()).map(|charge| charge + 1)
 }
 
+fn last_parent_left(layer: &GivenLayer, tables: &mut NestTables) -> Answer<()> {
+    let before = tables.parents.clone();
+    Nesting::product(layer, tables)?;
+    if let Some(last) = layer.ends.len().checked_sub(1) {
+        tables.parents.table()[last] = before.view()[last];
+    }
+    Ok(())
+}
+
 /// The product but for one operation, and that operation.
-fn faulty() -> [(Versions, &'static str); 16] {
+fn faulty() -> [(Versions, &'static str); 17] {
     let right = Versions::default();
-    let faults: [(fn(&mut Versions), _); 16] = [
+    let faults: [(fn(&mut Versions), _); 17] = [
         (|v| v.read_part = Some(last_height_left), ReadPart::NAME),
         (|v| v.check = Some(order_from_above), Check::NAME),
         (|v| v.cut = Some(point_moved), Cut::NAME),
@@ -140,6 +149,7 @@ fn faulty() -> [(Versions, &'static str); 16] {
             ReadLayerClean::NAME,
         ),
         (|v| v.ink = Some(one_more_charged), Ink::NAME),
+        (|v| v.nesting = Some(last_parent_left), Nesting::NAME),
     ];
     faults.map(|(spoil, name)| {
         let mut versions = right;

@@ -1,7 +1,8 @@
 //! Whole chains over random meshes: a part file is read, its mesh checked, cut, swept and written as
-//! a layer file, that file is read back, and layers of cuts and of the file are previewed and cleaned;
-//! so it goes in the clean profile too, and both files are charged. Each operation gets what the one
-//! before it left, now and then spoiled, and every answer and every table is compared with the oracle's.
+//! a layer file, that file is read back, and layers of cuts and of the file are previewed, cleaned and
+//! nested; so it goes in the clean profile too, and both files are charged. Each operation gets what the
+//! one before it left, now and then spoiled, and every answer and every table is compared with the
+//! oracle's.
 //!
 //! Another seed, and more rounds, of which one in twenty is a chain:
 //!
@@ -15,11 +16,12 @@ mod clean;
 mod faults;
 mod ink;
 mod inputs;
+mod nesting;
 
 use crate::harness::{report, Operation, Rounds, DEFAULT_ROUNDS};
 use crate::operations::{
-    AllLayers, AllLayersClean, Area, Check, Clean, Contour, Cut, Ink, Layer, Preview, PreviewRun,
-    ReadLayer, ReadLayerClean, ReadPart, Start, Step, Versions,
+    AllLayers, AllLayersClean, Area, Check, Clean, Contour, Cut, Ink, Layer, Nesting, Preview,
+    PreviewRun, ReadLayer, ReadLayerClean, ReadPart, Start, Step, Versions,
 };
 use chain::compare_chains;
 
@@ -30,7 +32,7 @@ const ONE_IN: u64 = 20;
 const LEAST: u64 = 100;
 
 /// The operations and their refusals.
-const OPERATIONS: [(&str, &[u32]); 16] = [
+const OPERATIONS: [(&str, &[u32]); 17] = [
     (ReadPart::NAME, ReadPart::REFUSALS),
     (Check::NAME, Check::REFUSALS),
     (Cut::NAME, Cut::REFUSALS),
@@ -47,6 +49,7 @@ const OPERATIONS: [(&str, &[u32]); 16] = [
     (AllLayersClean::NAME, AllLayersClean::REFUSALS),
     (ReadLayerClean::NAME, ReadLayerClean::REFUSALS),
     (Ink::NAME, Ink::REFUSALS),
+    (Nesting::NAME, Nesting::REFUSALS),
 ];
 
 #[test]

@@ -7,6 +7,7 @@ mod refusals;
 mod worked;
 
 pub use promises::cleaned;
+pub use random::meaningless;
 
 use crate::harness::{agree, assert_answer, Case, Tables};
 use crate::operations::{Clean, GivenLayer};

@@ -37,7 +37,7 @@ pub fn perhaps_spoiled(random: &mut Random) -> GivenLayer {
 }
 
 /// Numbers that are a layer seldom or never.
-fn meaningless(random: &mut Random) -> GivenLayer {
+pub fn meaningless(random: &mut Random) -> GivenLayer {
     let reach = random.choose(&[0, 1, M, M + 1, i32::MAX]);
     let points = (0..random.below(14)).map(|_| random.within(-reach..=reach));
     let points: Vec<i32> = points.collect();

@@ -1,5 +1,5 @@
-//! The C examples, `examples/c/sweep.c`, `examples/c/preview.c` and `examples/c/ink.c`, as strict C99 with
-//! every warning an error.
+//! The C examples, `examples/c/sweep.c`, `examples/c/preview.c`, `examples/c/ink.c` and
+//! `examples/c/nesting.c`, as strict C99 with every warning an error.
 //!
 //! They are compiled by `cc`, which rustc itself links with on this target, or by the compiler that the
 //! environment variable `CC` names. Where there is none the tests fail: without it there would be no
@@ -7,6 +7,7 @@
 
 use super::part_file::{changed_p, path_of_p, ROOT};
 use super::programs::{lend_file, work_directory, Run};
+use super::NESTED_RINGS;
 use crate::all_layers::file;
 use crate::inputs::LAYER_FILE_P;
 use crate::operations::Given;
@@ -247,4 +248,20 @@ fn ink_without_a_file() {
         errors: "ink: give a layer file and a thickness\n".to_owned(),
     };
     assert_eq!(Run::of(&mut Command::new(ink_example())), expected);
+}
+
+#[test]
+fn nesting_of_rings() {
+    let program = compile("nesting");
+    let run = |arguments: &[&str]| Run::of(Command::new(&program).args(arguments));
+    assert_eq!(run(&[]), Run::content(NESTED_RINGS));
+    assert_eq!(run(&["4"]), Run::content(NESTED_RINGS));
+    for short in ["0", "3"] {
+        let refused = Run {
+            status: 1,
+            output: String::new(),
+            errors: "nesting: refused 9 0\n".to_owned(),
+        };
+        assert_eq!(run(&[short]), refused, "{short}");
+    }
 }

@@ -2,6 +2,7 @@
 
 use super::part_file::{changed_p, path_of_p};
 use super::programs::{lend_file, Run};
+use super::NESTED_RINGS;
 use crate::inputs::LAYER_FILE_P;
 use oracle::{encode_layers, FileLayer};
 use std::env;
@@ -123,4 +124,9 @@ fn ink() {
     let short = lend_file("short for ink.layers", &LAYER_FILE_P[..22]);
     refused(&short, "1001", "number: 13, place: 22");
     assert_eq!(Run::of(example("ink").arg(&file)).status, 1);
+}
+
+#[test]
+fn nesting() {
+    assert_writes("nesting", NESTED_RINGS);
 }

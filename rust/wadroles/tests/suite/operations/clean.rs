@@ -5,7 +5,7 @@ use wadroles::raw::wadroles_clean;
 /// The operation "Clean".
 pub struct Clean;
 
-/// What Clean reads: the tables of a layer.
+/// What Clean and Nesting read: the tables of a layer.
 #[derive(Clone, Debug, PartialEq, Eq)]
 pub struct GivenLayer {
     pub points: Vec<i32>,

@@ -8,6 +8,7 @@ mod contour;
 mod cut;
 mod given;
 mod ink;
+mod nesting;
 mod preview;
 mod read_layer;
 mod read_part;
@@ -21,6 +22,7 @@ pub use contour::{Contour, Ends};
 pub use cut::{Cut, CutTables};
 pub use given::Given;
 pub use ink::{Ink, Job};
+pub use nesting::{NestTables, Nesting};
 pub use preview::{CallTables, Drawing, Preview, PreviewRun, Xy};
 pub use read_layer::{FlatLayer, LayerFile, ReadLayer, ReadLayerClean};
 pub use read_part::{Part, ReadPart};
@@ -47,4 +49,5 @@ pub struct Versions {
     pub all_layers_clean: Version<AllLayersClean>,
     pub read_layer_clean: Version<ReadLayerClean>,
     pub ink: Version<Ink>,
+    pub nesting: Version<Nesting>,
 }
