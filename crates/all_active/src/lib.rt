@@ -1,2 +1,4 @@
 // The corners that rise at each height, kept as one ascending list from height to height.
+#![tactic(auto)]
+
 pub mod unchecked_lists;

@@ -1,4 +1,6 @@
 // The contours of a height from the list of its crossings, at the cost of their points.
+#![tactic(auto)]
+
 pub mod unchecked_contours;
 
 // How many contours and names there are.

@@ -1,4 +1,6 @@
 // The heights that All layers takes: those given, else the default, and the refusals 1 and 12 that are about heights.
+#![tactic(auto)]
+
 ghost use Rattle.std.specs.Prelude.{◌≡◌, ◌<◌, leb, length};
 ghost use Rattle.laws.specs.Least.{least};
 ghost use Rattle.mesh.specs.Operation.{test};

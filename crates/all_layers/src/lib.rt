@@ -1,4 +1,6 @@
 // All layers: the layer file of a mesh at rising heights.
+#![tactic(auto)]
+
 ghost use Rattle.std.specs.Prelude.{◌≡◌};
 ghost use Rattle.mesh.specs.Meshes.{ordered};
 ghost use Rattle.mesh.specs.Operation.{verdict};

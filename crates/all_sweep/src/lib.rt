@@ -1,4 +1,6 @@
 // The layers of a mesh at rising heights. What All layers is stands in specs/; the crate `all_layers` has the function.
+#![tactic(auto)]
+
 use mesh::Refusal;
 
 pub mod unchecked_sweep;

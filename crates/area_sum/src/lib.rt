@@ -1,4 +1,6 @@
 // The doubled area of a contour, added up point by point as they are read.
+#![tactic(auto)]
+
 ghost use Rattle.std.specs.Prelude.{◌≡◌};
 ghost use Rattle.area_sum.specs.Summing.{unsummed};
 

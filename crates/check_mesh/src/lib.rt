@@ -1,4 +1,6 @@
 // Check: whether a mesh is closed, with its pairing and its order.
+#![tactic(auto)]
+
 ghost use Rattle.std.specs.Prelude.{◌≡◌};
 ghost use Rattle.mesh.specs.Meshes.{mesh};
 ghost use Rattle.mesh.specs.Operation.{test, verdict};

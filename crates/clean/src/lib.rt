@@ -1,4 +1,6 @@
 // Clean: a layer that is handed in, cleaned into two lent tables.
+#![tactic(auto)]
+
 ghost use Rattle.polygons.specs.Flat.{flat};
 ghost use Rattle.clean.specs.Clean.{Cleans};
 

@@ -1,5 +1,7 @@
 // Layers cleaned: into other tables, or where they stand.
 
+#![tactic(auto)]
+
 pub mod unchecked;
 
 // How many contours and points a layer has.

@@ -1,4 +1,6 @@
 // Whether a contour is clean, found out point by point.
+#![tactic(auto)]
+
 ghost use Rattle.std.specs.Prelude.{◌≡◌};
 ghost use Rattle.polygons.specs.Flat.{point};
 ghost use Rattle.clean_test.specs.Seeing.{unseen, is_known, one_more, seeing, seen_clean};
@@ -7,7 +9,7 @@ use cleaning::same_point;
 
 // What the points of a contour have shown so far: how many are different, up to three; the first, (x, y), and the latest that differed from all before it,
 // (u, v); and whether none equalled the one before it.
-#[derive(Drop)]
+#[derive(Clone, Copy)]
 pub struct ContourSeen {
     different: u32,
     x: i32,

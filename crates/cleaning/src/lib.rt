@@ -1,12 +1,14 @@
 // The clean profile: what cleaning a contour and a layer is stands in specs/. The crates `clean_contour`, `clean_layers` and `clean` clean, `clean_test` tells
 // whether a contour is clean.
 
+#![tactic(auto)]
+
 ghost use Rattle.std.specs.Prelude.{◌≡◌};
 ghost use Rattle.polygons.specs.Flat.{point};
 ghost use Rattle.cleaning.specs.Cleaning.{same_point};
 
 // Layers as they are cut, or cleaned.
-#[derive(Drop)]
+#[derive(Clone, Copy)]
 pub enum Profile {
     Full,
     Clean,

@@ -1,1 +1,3 @@
 // What the operations do one after another, proved; see specs/. The product has no function here.
+
+#![tactic(auto)]

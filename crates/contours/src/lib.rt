@@ -1,4 +1,6 @@
 // Contours of a layer: where each lies in the table of points, and its area.
+#![tactic(auto)]
+
 ghost use Rattle.std.specs.Prelude.{◌≡◌, ◌<◌, length};
 ghost use Rattle.mesh.specs.Operation.{test, verdict};
 ghost use Rattle.mesh.specs.Refusals.{tell_verdict};

@@ -1,4 +1,6 @@
 // Cut: the layer of a mesh at a height.
+#![tactic(auto)]
+
 ghost use Rattle.std.specs.Prelude.{◌≡◌};
 ghost use Rattle.mesh.specs.Meshes.{paired};
 ghost use Rattle.mesh.specs.Operation.{verdict};

@@ -1,4 +1,6 @@
 // The contours of a table of links, taken out ring by ring.
+#![tactic(auto)]
+
 pub mod unchecked_rings;
 
 // Where a walk ended: at its start again, with the place after its last name, or at a crossing already used.

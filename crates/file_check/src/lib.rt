@@ -1,5 +1,7 @@
 // How far a layer file is as it should be, from a position on.
 
+#![tactic(auto)]
+
 pub mod unchecked_position;
 
 // A coordinate and the position after it, or none that may stand there.

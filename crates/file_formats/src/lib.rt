@@ -1,5 +1,7 @@
 // The formats of the two files, see specs/, and the code that reads and writes the numbers in them.
 
+#![tactic(auto)]
+
 pub mod numbers;
 pub mod unchecked;
 

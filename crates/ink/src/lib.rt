@@ -1,4 +1,6 @@
 // Ink: what a layer file is charged, in whole nanolitres for each layer of a thickness.
+#![tactic(auto)]
+
 ghost use Rattle.std.specs.Prelude.{◌≡◌};
 ghost use Rattle.ink.specs.Inking.{thickness_fits, Inks};
 

@@ -1,9 +1,11 @@
 // A point in a contour, and the extent of a contour.
 
+#![tactic(auto)]
+
 pub mod unchecked;
 
 // The extent of a contour: no point of it is left of, right of, below or above it.
-#[derive(Drop)]
+#[derive(Clone, Copy)]
 pub struct ContourExtent {
     pub left: i32,
     pub right: i32,

@@ -1,4 +1,6 @@
 // The listing of a part file: what the listing program writes, as a function of its input.
+#![tactic(auto)]
+
 ghost use Rattle.list_part.specs.Listing.{Lists};
 
 use crate::unchecked::list_with;

@@ -1,5 +1,7 @@
 // The listing program: reads a part file from standard input (LIST-1)
 // and writes its listing. What it writes is proved in `list_part`.
+#![tactic(auto)]
+
 ghost use Rattle.std.specs.Prelude.{length};
 ghost use Rattle.listing.specs.Inputs.{Within};
 

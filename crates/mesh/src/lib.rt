@@ -1,5 +1,7 @@
 // Meshes: why a call is refused, and the tests of tables that every operation shares.
 
+#![tactic(auto)]
+
 pub mod limits;
 pub mod numbers;
 pub mod refusals;
@@ -7,7 +9,7 @@ pub mod tests;
 pub mod unchecked;
 
 // Why a call is refused: case n is REFUSAL-n, with the place inside (FORM-7).
-#[derive(Drop)]
+#[derive(Clone, Copy)]
 pub enum Refusal {
     // 1: a length or a count does not fit.
     Size(usize),

@@ -1,4 +1,6 @@
 // The tests of a mesh that anyone may hand in (CHECK-15), with its pairing (refusal 7) and its order (refusal 8).
+#![tactic(auto)]
+
 pub mod ordering;
 pub mod tests;
 pub mod unchecked_order;

@@ -1,4 +1,6 @@
 // Nesting: the depth and the parent of each contour of a layer, in two lent tables.
+#![tactic(auto)]
+
 ghost use Rattle.std.specs.Prelude.{◌≡◌};
 ghost use Rattle.polygons.specs.Flat.{flat};
 ghost use Rattle.nesting.specs.Nesting.{nest_room_for, nest_tables, FindsNesting};

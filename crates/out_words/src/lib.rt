@@ -1,4 +1,6 @@
 // Answers as the C interface tells them: 0 or the refusal's number, and `out` with the place, or the values as words.
+#![tactic(auto)]
+
 ghost use Rattle.std.specs.Prelude.{◌≡◌, set};
 ghost use Rattle.std.proofs.Math.Option.{some};
 ghost use Rattle.mesh.specs.Operation.{gives};

@@ -1,4 +1,6 @@
 // Layers as data: contours as lists of points, and the two tables that hold them (specs/). Here the tests of a layer that is handed in.
+#![tactic(auto)]
+
 ghost use Rattle.std.specs.Prelude.{◌≡◌, ◌&&◌, eqb};
 ghost use Rattle.mesh.specs.Operation.{verdict};
 ghost use Rattle.mesh.specs.Refusals.{tell_verdict};

@@ -1,4 +1,6 @@
 // Preview of a layer: the calls with which a screen draws it, after a plate's origin has been added.
+#![tactic(auto)]
+
 ghost use Rattle.std.specs.Prelude.{◌≡◌};
 ghost use Rattle.mesh.specs.Operation.{verdict};
 ghost use Rattle.mesh.specs.Refusals.{tell_verdict};

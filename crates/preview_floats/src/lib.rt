@@ -1,4 +1,6 @@
 // Floats that are whole numbers, and where a point is drawn after a plate's origin has been added.
+#![tactic(auto)]
+
 ghost use Rattle.std.specs.Prelude.{◌≡◌};
 ghost use Rattle.preview_floats.specs.WholeFloats.{is_whole};
 ghost use Rattle.preview_floats.specs.DrawnPoints.{whole_origin};
@@ -8,7 +10,7 @@ use mesh::limits::{LARGEST_COORDINATE_F32, LEAST_COORDINATE_F32};
 pub mod unchecked;
 
 // Where a plate's origin is drawn.
-#[derive(Drop)]
+#[derive(Clone, Copy)]
 pub struct Origin {
     pub x: f32,
     pub y: f32,

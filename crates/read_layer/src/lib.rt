@@ -1,4 +1,6 @@
 // Read layer, in the full profile and the clean one: checks a whole layer file, and fills two lent tables with the points and the ends of one of its layers.
+#![tactic(auto)]
+
 ghost use Rattle.std.specs.Prelude.{◌≡◌};
 ghost use Rattle.polygons.specs.Flat.{flat};
 ghost use Rattle.read_layer.specs.Reading.{entries, read_layer_room_for, ReadsLayer};

@@ -1,4 +1,6 @@
 // Read part: a part file, read into three lent tables.
+#![tactic(auto)]
+
 ghost use Rattle.std.specs.Prelude.{◌≡◌};
 ghost use Rattle.read_part.specs.Parts.{part, part_sizes, read_part_room_for, ReadsPart};
 

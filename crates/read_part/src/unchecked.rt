@@ -10,7 +10,7 @@ use file_formats::numbers::{read_number, signed_of};
 use file_formats::{Extent, LARGEST_WORD, Number};
 
 // So many numbers in a row, from a position of a file on.
-#[derive(Drop)]
+#[derive(Clone, Copy)]
 pub struct FileRun {
     pub at: usize,
     pub count: usize,

@@ -1,4 +1,6 @@
 // The sweep: a plane that starts below a mesh and rises past its vertices, with the rings of the section kept in a lent table.
+#![tactic(auto)]
+
 ghost use Rattle.std.specs.Prelude.{◌≡◌, length};
 ghost use Rattle.mesh.specs.Meshes.{mesh, ordered};
 ghost use Rattle.mesh.specs.Operation.{verdict};

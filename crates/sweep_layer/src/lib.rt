@@ -1,4 +1,6 @@
 // Layer of the sweep: the plane rises past the vertices below a height, and the layer there is written from the ring table.
+#![tactic(auto)]
+
 ghost use Rattle.std.specs.Prelude.{◌≡◌};
 ghost use Rattle.mesh.specs.Meshes.{ordered};
 ghost use Rattle.mesh.specs.Operation.{verdict};

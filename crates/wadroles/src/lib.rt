@@ -1,4 +1,6 @@
 // The C interface. Every function returns 0 or the refusal's number, and fills `out`: the place on refusal, the values on success.
+#![tactic(auto)]
+
 ghost use Rattle.mesh.specs.Meshes.{mesh, paired, ordered};
 ghost use Rattle.polygons.specs.Flat.{flat};
 ghost use Rattle.cleaning.specs.declared.Profile.TheVariants.{Full, Clean};

@@ -1,1 +1,3 @@
 // The worked pieces, proved; see specs/. The product has no function here.
+
+#![tactic(auto)]

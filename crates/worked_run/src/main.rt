@@ -1,4 +1,6 @@
 // The worked pieces that are run (WORKED-2): prints what Check and All layers answer for them.
+#![tactic(auto)]
+
 use crate::unchecked::rise;
 use all_sweep::AllLayersAnswer;
 use check_mesh::CheckAnswer;

@@ -1,0 +1,19 @@
+-- `unchecked_contours::follow_contour` meets its contract.
+use Prim.Native.Nat.{◌-◌}
+use mathlib.Core.Path.{◌∙◌}
+use native.Mathlib.Omega.{arith}
+use lib.ListN.{length, length-set}
+use mir.Syntax.{w32}
+use mir.Val.{to_z}
+use mir.ValLaws.{to_z-of_z}
+use Rattle.mesh.specs.Meshes.{paired}
+use Rattle.all_contours.proofs.ContourWalking.{ContourWalking, walking_start, roundable_held, names_length, marks_length, c_crosses, c_small, c_inside}
+use Rattle.all_contours.proofs.ContourWalking.{k_inside, walking_next, walking_end}
+use Rattle.all_contours.proofs.unchecked_contours.follow_contour.Given as goal
+
+abbrev pub invariant-loop-c : goal.invariant-loop-c
+invariant-loop-c l =
+    ContourWalking (paired l.coords l.corners l.pairing) (to_z w32 l.h) l.stamp l.initial.names l.initial.marks l.start l.at l.names l.marks l.c l.k
+
+abbrev pub decreases-loop-c : goal.decreases-loop-c
+decreases-loop-c l = length l.initial.names - l.k

@@ -1,0 +1,14 @@
+-- `first_falling` meets its contract. The invariant: nothing that fits was passed.
+use Prim.Native.Nat.{◌-◌}
+use mathlib.Core.Path.{sym, ◌∙◌}
+use native.Mathlib.Omega.{arith}
+use lib.ListN.{length}
+use Rattle.laws.specs.LeastLaws.{Scanned, scan_start, scan_hit, scan_miss, scan_end}
+use Rattle.all_heights.specs.Heights.{not_above_last}
+use Rattle.all_heights.proofs.first_falling.Given as goal
+
+abbrev pub invariant-loop-i : goal.invariant-loop-i
+invariant-loop-i l = Scanned (length l.heights) (not_above_last l.heights) l.i
+
+abbrev pub decreases-loop-i : goal.decreases-loop-i
+decreases-loop-i l = length l.heights - l.i

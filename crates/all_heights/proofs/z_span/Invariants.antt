@@ -1,0 +1,12 @@
+-- `z_span` meets its contract. The invariant: low and high are those of the vertices passed.
+use Prim.Native.Nat.{◌-◌}
+use native.Mathlib.Omega.{arith}
+use borrow.Author.Rules.{rules}
+use Rattle.all_heights.proofs.Scans.{Spanned, span_none, span_start, span_more, span_end}
+use Rattle.all_heights.proofs.z_span.Given as goal
+
+abbrev pub invariant-loop-v : goal.invariant-loop-v
+invariant-loop-v l = Spanned l.coords l.low l.high l.v
+
+abbrev pub decreases-loop-v : goal.decreases-loop-v
+decreases-loop-v l = l.n - l.v

@@ -1,0 +1,115 @@
+-- `unchecked_sweep::layers_length` meets its contract: k layers are measured, and the sweep stands before height k.
+use Prim.Native.Nat.{◌-◌}
+use native.Mathlib.Omega.{arith}
+use lib.ListN.{length}
+use mir.Syntax.{w32}
+use mir.Val.{to_z}
+use mir.ValLaws.{to_z-of_z}
+use Rattle.mesh.specs.Meshes.{mesh, paired}
+use Rattle.all_sweep.specs.AllLayers.{work}
+use Rattle.all_sweep.specs.Works.{Works, taken_heights}
+use Rattle.all_sweep.specs.Sweeps.{LayersTested, corner_lists, Sweeping}
+use Rattle.all_sweep.specs.SweepLaws.{climbing}
+use Rattle.all_sweep.specs.PassLaws.{held, LayersMeasured, measured_start, measured_fits, measured_next, measured_end, works_none, works_more, works_long}
+use Rattle.all_sweep.specs.StepLaws.{sweeping_held, tested_held}
+use Rattle.all_sweep.proofs.unchecked_sweep.layers_length.Goals as goal
+use Rattle.all_sweep.proofs.unchecked_sweep.layers_length.Goals.{Start}
+
+-- what the tests establish, with the lowest z as the loop has it
+tested : (start : Start)
+    → let args = start.args in 
+    LayersTested (paired args.coords.now args.corners.now args.pairing.now)
+    (taken_heights (held args.low) args.heights.now args.count)
+    (work args.names.now args.points.now args.ends.now args.marks.now args.ring.now)
+tested start = tested_held (to_z-of_z w32 start.args.low start.ranges.low) start.requires.fact_1
+
+pub number_length-total-requires : goal.number_length-total-requires
+number_length-total-requires c = tt
+
+pub loop-k-init : goal.loop-k-init
+loop-k-init c =
+    (
+      measured_start _ _ (tested (goal.at.loop-k-init c).Start).listed c.number_length-total.ensures.value,
+      (works_none, sweeping_held (to_z-of_z w32 c.args.low c.ranges.low) c.requires.fact_2),
+    )
+
+pub next_layer-s-requires : goal.next_layer-s-requires
+next_layer-s-requires c =
+    
+    let inv = c.loop-k.invariant in record {
+      fact_1 = c.requires.fact_1.right;
+      fact_2 = works_long c.requires.fact_1.long inv.1.0;
+      fact_3 = climbing (tested (goal.at.next_layer-s-requires c).Start).listed;
+      fact_4 = inv.1.1;
+      fact_5 = c.loop-k-test.true;
+    }
+
+pub taken_height-h-requires : goal.taken_height-h-requires
+taken_height-h-requires c =
+    
+    
+    (tested (goal.at.taken_height-h-requires c).Start).listed.each _ c.loop-k-test.true
+
+pub layer_length-total-requires : goal.layer_length-total-requires
+layer_length-total-requires c =
+    
+    FIXME[c at After-next_layer-arg4: at_next.next-layer.ensures.0.tables]
+
+pub overflow_add-total : goal.overflow_add-total
+overflow_add-total c =
+    
+    
+    
+    let ready = tested (goal.at.overflow_add-total c).Start in
+    record {
+      fits = measured_fits _ _ ready.listed ready.right FIXME[c at After-number_length: at_test.before.loop.invariant.0] FIXME[c at After-number_length: at_test.loop-test.true] FIXME[c at After-ring: at_height.taken-height.type-inv]
+          FIXME[c at After-ring: at_height.taken-height.ensures] FIXME[c at After-next_layer-arg4: at_next.next-layer.ensures.0] c.layer_length-total.ensures.value;
+    }
+
+pub overflow_add-k : goal.overflow_add-k
+overflow_add-k c =
+    
+    
+    
+    record { fits = omega (arith, FIXME[c at After-number_length: at_test.loop-test.true], c.requires.fact_1.listed.few) }
+
+pub loop-k-smaller : goal.loop-k-smaller
+loop-k-smaller c =
+    
+    
+    omega (arith, FIXME[c at After-number_length: at_test.loop-test.true])
+
+pub loop-k-preserved : goal.loop-k-preserved
+loop-k-preserved c =
+    
+    
+    
+    let inv = FIXME[c at After-number_length: at_test.before.loop.invariant] in 
+    let ready = tested (goal.at.loop-k-preserved c).Start in
+    let done = FIXME[c at After-next_layer-arg4: at_next.next-layer.ensures] in (
+      measured_next _ _ ready.listed ready.right inv.0 FIXME[c at After-number_length: at_test.loop-test.true] FIXME[c at After-ring: at_height.taken-height.type-inv] FIXME[c at After-ring: at_height.taken-height.ensures]
+          done.0 c.layer_length-total.ensures.value,
+      (works_more inv.1.0 done.1.0, done.1.1),
+    )
+
+pub shape_of-names : goal.shape_of-names
+shape_of-names c = c.loop-k.invariant.1.0.names_spent.same_length
+
+pub shape_of-points : goal.shape_of-points
+shape_of-points c = c.loop-k.invariant.1.0.points_spent.same_length
+
+pub shape_of-ends : goal.shape_of-ends
+shape_of-ends c = c.loop-k.invariant.1.0.ends_spent.same_length
+
+pub shape_of-marks : goal.shape_of-marks
+shape_of-marks c = c.loop-k.invariant.1.0.marks_spent.same_length
+
+pub shape_of-ring : goal.shape_of-ring
+shape_of-ring c = c.loop-k.invariant.1.0.ring_spent.same_length
+
+pub returns : goal.returns
+returns c =
+    let inv = c.loop-k.invariant in record {
+      value = measured_end _ _ (tested (goal.at.returns c).Start).listed inv.0 c.loop-k-test.false;
+      work = inv.1.0;
+    }

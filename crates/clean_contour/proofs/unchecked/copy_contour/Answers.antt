@@ -1,0 +1,16 @@
+-- `unchecked::copy_contour` meets its contract.
+use Rattle.clean_contour.proofs.Contours.{contour_dropped, contour_stands}
+use borrow.Author.Rules.{rules}
+use Rattle.clean_contour.proofs.unchecked.copy_contour.Goals as goal
+
+pub clean_end-last-requires : goal.clean_end-last-requires
+clean_end-last-requires c = FIXME[fact_1 fact_2] search rules
+
+pub returns-then-last-from : goal.returns-then-last-from
+returns-then-last-from c = record { outcome = contour_dropped c.clean_end-last.ensures.found c.if-last-from.true }
+
+pub copy_run-requires : goal.copy_run-requires
+copy_run-requires c = FIXME[fact_1 fact_2] search rules
+
+pub returns : goal.returns
+returns c = record { outcome = contour_stands c.clean_end-last.ensures.found c.copy_run.ensures.outcome }

@@ -1,0 +1,41 @@
+-- `unchecked::copy_run` meets its contract. The loop's invariant: the points before i are in the table, and x and y are those of the last of them.
+use Prim.Native.Nat.{◌-◌}
+use mathlib.Core.Path.{refl}
+use native.Mathlib.Omega.{arith}
+use borrow.Author.Tests.{not-true, not-false}
+use Rattle.clean_contour.proofs.Comparing.{point_of, held_is}
+use Rattle.clean_contour.proofs.Copying.{RunCopying, copy_start, copy_skip, copy_next, copy_end, run_stands}
+use Rattle.clean_contour.proofs.unchecked.copy_run.Goals as goal
+
+pub loop-i-init : goal.loop-i-init
+loop-i-init c = copy_start (omega arith) (omega arith) (omega arith) (omega arith)
+
+pub same_point-requires : goal.same_point-requires
+same_point-requires c = tt
+
+pub loop-i-preserved-then-not-same_point : goal.loop-i-preserved-then-not-same_point
+loop-i-preserved-then-not-same_point c =
+    
+    
+    
+    
+    
+    copy_next c.loop-i.invariant c.loop-i-test.true (held_is c.u-1.given c.v-1.given) c.same_point.ensures.value
+    (not-true _ c.if-not-same_point.true-raw) c.write_point-then-not-same_point.ensures.outcome
+
+pub loop-i-preserved : goal.loop-i-preserved
+loop-i-preserved c =
+    
+    
+    
+    copy_skip c.loop-i.invariant c.loop-i-test.true (held_is c.u-1.given c.v-1.given) c.same_point.ensures.value
+    (not-false _ c.if-not-same_point.false-raw)
+
+pub shape_of-table : goal.shape_of-table
+shape_of-table c = omega (arith, c.loop-i.invariant.size)
+
+pub returns : goal.returns
+returns c = record {
+      outcome = run_stands _ _ _ _ c.requires.fact_2 c.requires.fact_1.there (held_is c.x-1.given c.y-1.given) refl c.write_point.ensures.outcome
+    (copy_end c.loop-i.invariant c.loop-i-test.false);
+    }

@@ -1,0 +1,64 @@
+-- `unchecked::doubled_area` meets its contract.
+use Prim.Native.Nat.{◌+◌, ◌-◌}
+use native.Mathlib.Omega.{arith}
+use borrow.Author.Rules.{rules}
+use Rattle.contours.proofs.Sums.{TrapezoidsSummed, area_empty, widened, loaded, start, held_x, held_y, sum_ok, again, closed}
+use Rattle.contours.proofs.unchecked.doubled_area.Goals as goal
+
+pub returns-then-points-eq0 : goal.returns-then-points-eq0
+returns-then-points-eq0 c = record { value = area_empty _ c.if-points-eq0.true }
+
+pub overflow_sub-last : goal.overflow_sub-last
+overflow_sub-last c = omega (arith, c.requires.even)
+
+pub bounds-points-0 : goal.bounds-points-0
+bounds-points-0 c = omega (arith, c.requires.even)
+
+pub overflow_cast-x0 : goal.overflow_cast-x0
+overflow_cast-x0 c = widened c.requires 0
+
+pub bounds-points-1 : goal.bounds-points-1
+bounds-points-1 c = omega (arith, c.requires.even)
+
+pub overflow_cast-y0 : goal.overflow_cast-y0
+overflow_cast-y0 c = widened c.requires 1
+
+pub loop-k-init : goal.loop-k-init
+loop-k-init c = start c.requires (omega (arith, c.requires.even))
+
+pub overflow_cast-u : goal.overflow_cast-u
+overflow_cast-u c = widened c.loop-k.invariant.run _
+
+pub overflow_cast-v : goal.overflow_cast-v
+overflow_cast-v c = widened c.loop-k.invariant.run _
+
+pub trapezoid-sum-requires : goal.trapezoid-sum-requires
+trapezoid-sum-requires c =
+    let at-loop = c.loop-k in 
+    let s = at-loop.invariant in
+    let next = loaded s.run (at-loop.k + 1) in
+    search (rules, held_x s s.held, held_y s s.held, held_x s next, held_y s next)
+
+pub overflow_add-sum : goal.overflow_add-sum
+overflow_add-sum c = sum_ok c.loop-k.invariant c.trapezoid-sum.result c.trapezoid-sum.type-inv c.trapezoid-sum.ensures.result.1
+
+pub loop-k-preserved : goal.loop-k-preserved
+loop-k-preserved c =
+    
+    let at-loop = c.loop-k in 
+    let next = loaded at-loop.invariant.run (at-loop.k + 1) in
+    again at-loop.invariant c.trapezoid-sum.result c.trapezoid-sum.type-inv c.trapezoid-sum.ensures.result.1 next c.trapezoid-sum.ensures.result.0 c.loop-k-test.true
+
+pub trapezoid-requires : goal.trapezoid-requires
+trapezoid-requires c =
+    let s = c.loop-k.invariant in 
+    let first = loaded s.run 0 in
+    search (rules, held_x s s.held, held_y s s.held, held_x s first, held_y s first)
+
+pub overflow_add-result : goal.overflow_add-result
+overflow_add-result c = sum_ok c.loop-k.invariant c.trapezoid.result c.trapezoid.type-inv c.trapezoid.ensures.result.1
+
+pub returns : goal.returns
+returns c =
+    let s = c.loop-k.invariant in 
+    let first = loaded s.run 0 in record { value = closed s c.trapezoid.result c.trapezoid.type-inv c.trapezoid.ensures.result.1 first c.trapezoid.ensures.result.0 c.loop-k-test.false }

@@ -1,0 +1,49 @@
+-- `unchecked_rings::seek` meets its contract.
+use Prim.Native.Nat.{◌+◌, ◌-◌}
+use native.Mathlib.Omega.{arith}
+use Rattle.cut_trace.specs.Walks.{Sought}
+use Rattle.cut_trace.proofs.Seeking.{sought_more, one_none}
+use Rattle.cut_trace.proofs.unchecked_rings.seek.Goals as goal
+
+pub leap-d-requires : goal.leap-d-requires
+leap-d-requires c = c.requires
+
+pub loop-d-init : goal.loop-d-init
+loop-d-init c = c.leap-d.ensures.sought
+
+pub offset_bounds-links-d : goal.offset_bounds-links-d
+offset_bounds-links-d c = omega (arith, c.loop-d-test.true, c.requires.few)
+
+pub bounds-links-d : goal.bounds-links-d
+bounds-links-d c =
+    
+    omega (arith, c.loop-d-test.true, c.requires.there)
+
+pub returns-then-links-d : goal.returns-then-links-d
+returns-then-links-d c = record {
+      sought = c.loop-d.invariant;
+      result = λ l. c.if-links-d.true;
+    }
+
+pub overflow_add-d : goal.overflow_add-d
+overflow_add-d c =
+    
+    
+    omega (arith, c.loop-d-test.true, c.requires.few)
+
+pub loop-d-smaller : goal.loop-d-smaller
+loop-d-smaller c = omega (arith, c.loop-d-test.true)
+
+pub loop-d-preserved : goal.loop-d-preserved
+loop-d-preserved c =
+    
+    
+    
+    sought_more c.loop-d.invariant (c.loop-d.d + 1) (omega arith) (omega (arith, c.loop-d-test.true))
+    (one_none c.args.links.now c.loop-d.d c.if-links-d.false)
+
+pub returns : goal.returns
+returns c = record {
+      sought = c.loop-d.invariant;
+      result = λ l. absurd (omega (arith, l, c.loop-d-test.false));
+    }

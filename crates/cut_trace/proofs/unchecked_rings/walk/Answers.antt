@@ -1,0 +1,82 @@
+-- `unchecked_rings::walk` meets its contract.
+use Prim.Native.Nat.{◌-◌}
+use mathlib.Core.Path.{ap, ◌∙◌}
+use native.Mathlib.Omega.{arith}
+use borrow.Author.Rules.{rules}
+use lib.ListN.{length, length-set}
+use Rattle.section.specs.Section.{no_corner}
+use Rattle.cut_trace.specs.declared.WalkAnswer.TheVariants.{Closed}
+use Rattle.cut_trace.proofs.RingWalking.{RingWalking, walking_start, names_length, links_length, c_inside, c_small, k_inside, d_inside, d_small}
+use Rattle.cut_trace.proofs.RingWalking.{walking_next, walking_end, never_met}
+use Rattle.cut_trace.proofs.unchecked_rings.walk.Goals as goal
+
+pub loop-start-init : goal.loop-start-init
+loop-start-init c = walking_start c.requires
+
+pub offset_bounds-links-c : goal.offset_bounds-links-c
+offset_bounds-links-c c = omega (arith, c_small c.loop-start.invariant)
+
+pub bounds-links-c : goal.bounds-links-c
+bounds-links-c c = c_inside c.loop-start.invariant
+
+pub overflow_cast-e : goal.overflow_cast-e
+overflow_cast-e c = omega (arith, c_small c.loop-start.invariant)
+
+pub offset_bounds-names-k : goal.offset_bounds-names-k
+offset_bounds-names-k c = let l = k_inside c.loop-start.invariant in omega arith
+
+pub bounds-names-k : goal.bounds-names-k
+bounds-names-k c = k_inside c.loop-start.invariant
+
+pub offset_bounds-links-c-in-loop-start : goal.offset_bounds-links-c-in-loop-start
+offset_bounds-links-c-in-loop-start c = omega (arith, c_small c.loop-start.invariant)
+
+pub bounds-links-c-in-loop-start : goal.bounds-links-c-in-loop-start
+bounds-links-c-in-loop-start c = c_inside c.loop-start.invariant
+
+pub overflow_add-k : goal.overflow_add-k
+overflow_add-k c = let l = k_inside c.loop-start.invariant in omega arith
+
+pub shape_of-links-then-d-start : goal.shape_of-links-then-d-start
+shape_of-links-then-d-start c = let l = c.loop-start in length-set l.links l.c no_corner ∙ links_length l.invariant
+
+pub shape_of-names-then-d-start : goal.shape_of-names-then-d-start
+shape_of-names-then-d-start c = let l = c.loop-start in length-set l.names l.k l.c ∙ names_length l.invariant
+
+pub returns-then-d-start : goal.returns-then-d-start
+returns-then-d-start c =
+    
+    let e = walking_end c.loop-start.invariant c.wide-d.ensures.value c.if-d-start.true in FIXME[value names_left links_left] (ap Closed e.0, e.1)
+
+pub offset_bounds-links-d : goal.offset_bounds-links-d
+offset_bounds-links-d c = omega (arith, d_small c.loop-start.invariant c.wide-d.ensures.value)
+
+pub bounds-links-d : goal.bounds-links-d
+bounds-links-d c = d_inside c.loop-start.invariant c.wide-d.ensures.value
+
+pub shape_of-links-then-links-d : goal.shape_of-links-then-links-d
+shape_of-links-then-links-d c =
+    
+    let l = c.loop-start in 
+    length-set l.links l.c no_corner ∙ links_length l.invariant
+
+pub shape_of-names-then-links-d : goal.shape_of-names-then-links-d
+shape_of-names-then-links-d c =
+    
+    let l = c.loop-start in 
+    length-set l.names l.k l.c ∙ names_length l.invariant
+
+pub returns-then-links-d : goal.returns-then-links-d
+returns-then-links-d c = FIXME[value names_left links_left] absurd (never_met (walking_next c.loop-start.invariant c.wide-d.ensures.value c.if-d-start.false) c.if-links-d.true)
+
+pub loop-start-smaller : goal.loop-start-smaller
+loop-start-smaller c =
+    
+    omega (arith, k_inside c.loop-start.invariant, names_length c.loop-start.invariant)
+
+pub loop-start-preserved : goal.loop-start-preserved
+loop-start-preserved c =
+    
+    
+    
+    walking_next c.loop-start.invariant c.wide-d.ensures.value c.if-d-start.false

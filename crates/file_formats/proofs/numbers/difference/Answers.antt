@@ -1,0 +1,27 @@
+-- `numbers::difference` meets its contract.
+use mathlib.Core.Path.{ap, ◌∙◌}
+use mir.Syntax.{w32}
+use Rattle.laws.specs.Machine.{Rd, fit, cast, cast_ok, sub, sub_ok}
+use Rattle.file_formats.specs.Numbers.{zigzag}
+use borrow.Author.Rules.{rules}
+use Rattle.file_formats.proofs.numbers.difference.Goals as goal
+use Rattle.file_formats.proofs.numbers.difference.Goals.{Start}
+
+module _ (c : Start) where
+  abbrev z : Rd w32 c.args.z 2147483648
+  z = fit c.ranges.z
+
+  abbrev before : Rd w32 c.args.before 2147483648
+  before = fit c.ranges.before
+
+pub overflow_cast-z : goal.overflow_cast-z
+overflow_cast-z c = cast_ok (z (goal.at.overflow_cast-z c).Start) tt
+
+pub overflow_cast-before : goal.overflow_cast-before
+overflow_cast-before c = cast_ok (before (goal.at.overflow_cast-before c).Start) tt
+
+pub overflow_sub-z : goal.overflow_sub-z
+overflow_sub-z c = sub_ok (cast (z (goal.at.overflow_sub-z c).Start) tt) (cast (before (goal.at.overflow_sub-z c).Start) tt) tt
+
+pub returns : goal.returns
+returns c = record { value = FIXME[c at After-unsigned_of: c.Unsigned-of.ensures] ∙ ap zigzag (sub (cast (z (goal.at.returns c).Start) tt) (cast (before (goal.at.returns c).Start) tt) tt).is }

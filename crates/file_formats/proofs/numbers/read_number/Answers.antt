@@ -1,0 +1,95 @@
+-- `numbers::read_number` meets its contract. The invariant: the number is the one at i above the groups that were read.
+use Prim.Native.Nat.{◌-◌, ◌<◌, ◌≤◌}
+use native.Mathlib.Omega.{arith}
+use borrow.Author.Rules.{rules}
+use lib.ListN.{length}
+use Rattle.file_formats.proofs.NumberReading.{NumberReading, number_reading, group_fits, ends, too_many_lem, too_large, needless, last, next}
+use Rattle.file_formats.proofs.numbers.read_number.Goals as goal
+use Rattle.file_formats.proofs.numbers.read_number.Goals.{Else-rest-lt128}
+
+pub loop-i-init : goal.loop-i-init
+loop-i-init c = number_reading _ _ _
+
+pub bounds-file-i : goal.bounds-file-i
+bounds-file-i c = c.loop-i-test.true
+
+pub wide_byte-b-requires : goal.wide_byte-b-requires
+wide_byte-b-requires c = tt
+
+pub returns-then-b-least : goal.returns-then-b-least
+returns-then-b-least c = record { value = needless c.loop-i.invariant c.loop-i-test.true c.wide_byte-b.ensures.value c.if-b-lt128.true c.if-b-least.true }
+
+pub returns-then-rest-b : goal.returns-then-rest-b
+returns-then-rest-b c = record { value = too_large c.loop-i.invariant c.loop-i-test.true c.wide_byte-b.ensures.value c.if-b-lt128.true c.if-rest-b.true }
+
+pub overflow_mul-result : goal.overflow_mul-result
+overflow_mul-result c =
+    
+    
+    
+    omega (arith, group_fits c.loop-i.invariant c.wide_byte-b.result c.if-rest-b.false, c.ranges.top.fits)
+
+pub overflow_add-result : goal.overflow_add-result
+overflow_add-result c =
+    
+    
+    
+    omega (arith, group_fits c.loop-i.invariant c.wide_byte-b.result c.if-rest-b.false, c.ranges.top.fits)
+
+pub returns-then-b-lt128 : goal.returns-then-b-lt128
+returns-then-b-lt128 c = record { value = last c.loop-i.invariant c.loop-i-test.true c.wide_byte-b.ensures.value c.if-b-lt128.true c.if-b-least.false c.if-rest-b.false }
+
+pub returns-then-rest-lt128 : goal.returns-then-rest-lt128
+returns-then-rest-lt128 c = record { value = too_many_lem c.loop-i.invariant c.loop-i-test.true c.wide_byte-b.ensures.value c.if-b-lt128.false c.if-rest-lt128.true }
+
+-- a byte, and its group, which is below what is left
+byte : (c : Else-rest-lt128) → c.wide_byte-b.result < 256
+byte c =
+    
+    
+    
+    omega (
+      arith,
+      c.wide_byte-b.ensures.value,
+      (c.shared_slice_known-in-loop-i-1.given c.loop-i.i
+          ).fits,
+    )
+
+low : (c : Else-rest-lt128)
+    → 
+    
+    c.wide_byte-b.result - 128 ≤ c.loop-i.rest
+low c = omega (arith, byte c, c.if-rest-lt128.false)
+
+pub overflow_mul-value : goal.overflow_mul-value
+overflow_mul-value c =
+    
+    
+    
+    omega (arith, group_fits c.loop-i.invariant (c.wide_byte-b.result - 128) (low (goal.at.overflow_mul-value c).Else-rest-lt128), c.ranges.top.fits)
+
+pub overflow_add-value : goal.overflow_add-value
+overflow_add-value c =
+    
+    
+    
+    omega (arith, group_fits c.loop-i.invariant (c.wide_byte-b.result - 128) (low (goal.at.overflow_add-value c).Else-rest-lt128), c.ranges.top.fits)
+
+pub overflow_mul-unit : goal.overflow_mul-unit
+overflow_mul-unit c =
+    
+    
+    omega (arith, group_fits c.loop-i.invariant 128 c.if-rest-lt128.false, c.ranges.top.fits)
+
+pub overflow_sub-rest : goal.overflow_sub-rest
+overflow_sub-rest c = low (goal.at.overflow_sub-rest c).Else-rest-lt128
+
+pub loop-i-preserved : goal.loop-i-preserved
+loop-i-preserved c =
+    
+    
+    
+    next c.loop-i.invariant c.loop-i-test.true c.wide_byte-b.ensures.value c.if-b-lt128.false (byte (goal.at.loop-i-preserved c).Else-rest-lt128) c.if-rest-lt128.false
+
+pub returns : goal.returns
+returns c = record { value = ends c.loop-i.invariant c.loop-i-test.false }

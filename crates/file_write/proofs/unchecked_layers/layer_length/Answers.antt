@@ -1,0 +1,47 @@
+-- `unchecked_layers::layer_length` meets its contract.
+use mathlib.Core.Path.{◌≡◌, ap, ◌∙◌}
+use Prim.Native.Nat.{◌≤◌}
+use native.Mathlib.Omega.{arith}
+use borrow.Author.Rules.{rules}
+use mir.Syntax.{w32, w64}
+use Rattle.laws.specs.Machine.{Rd, fit, cast, cast_ok}
+use Rattle.file_formats.specs.Numbers.{zigzag}
+use Rattle.file_formats.specs.NumberLaws.{number_bytes}
+use Rattle.file_write.proofs.Measuring.{layer_measured, height_short}
+use Rattle.file_write.proofs.unchecked_layers.layer_length.Goals as goal
+use Rattle.file_write.proofs.unchecked_layers.layer_length.Goals.{After-number_length-2, Start}
+
+-- the height
+module _ (c : Start) where
+  abbrev height : Rd w32 c.args.h 2147483648
+  height = fit c.ranges.h
+
+pub overflow_cast-h : goal.overflow_cast-h
+overflow_cast-h c = cast_ok (height (goal.at.overflow_cast-h c).Start) tt
+
+-- what the height is sent as, and that it takes few bytes, and so does the count
+module _ (c : After-number_length-2) where
+  sent : FIXME[c at After-number_length2: c.before.before.Unsigned-of.result] ≡ zigzag c.args.h
+  sent = FIXME[c at After-number_length2: c.before.before.Unsigned-of.ensures] ∙ ap zigzag (cast {w' = w64} (height FIXME[c as Start]) tt).is
+
+  height-few : c.number_length.result ≤ 5
+  height-few =
+      height_short c.args.h c.ranges.h.sfits sent c.number_length.ensures.value
+
+  count_few : c.number_length-2.result ≤ 10
+  count_few =
+      omega (arith, c.number_length-2.ensures.value, number_bytes c.args.j c.ranges.j.fits)
+
+pub overflow_add-result : goal.overflow_add-result
+overflow_add-result c = omega (arith, height-few (goal.at.overflow_add-result c).After-number_length-2, count_few (goal.at.overflow_add-result c).After-number_length-2)
+
+pub overflow_add-result-2 : goal.overflow_add-result-2
+overflow_add-result-2 c =
+    
+    omega (arith, height-few (goal.at.overflow_add-result-2 c).After-number_length-2, count_few (goal.at.overflow_add-result-2 c).After-number_length-2, c.contours_length.ensures.result.1, c.requires.there)
+
+pub returns : goal.returns
+returns c = record {
+      value = layer_measured c.requires _ (sent (goal.at.returns c).After-number_length-2) c.number_length.ensures.value c.number_length-2.ensures.value
+    c.contours_length.ensures.result.0;
+    }

@@ -1,0 +1,60 @@
+-- `unchecked_layers::points_length` meets its contract.
+use Prim.Native.Nat.{◌+◌, ◌-◌, ◌≤◌}
+use native.Mathlib.Omega.{arith}
+use mir.Syntax.{w32}
+use mir.Val.{to_z}
+use Rattle.laws.specs.Machine.{same}
+use Rattle.file_write.proofs.Measuring.{PointsMeasured, measure_points_start, point_short, points_next, points_end}
+use Rattle.file_write.proofs.unchecked_layers.points_length.Goals as goal
+use Rattle.file_write.proofs.unchecked_layers.points_length.Goals.{After-number_length-in-loop-k}
+
+pub loop-k-init : goal.loop-k-init
+loop-k-init c = measure_points_start
+
+pub difference-requires : goal.difference-requires
+difference-requires c = tt
+
+pub number_length-requires : goal.number_length-requires
+number_length-requires c = tt
+
+pub difference-requires-in-loop-k : goal.difference-requires-in-loop-k
+difference-requires-in-loop-k c = tt
+
+pub number_length-requires-in-loop-k : goal.number_length-requires-in-loop-k
+number_length-requires-in-loop-k c = tt
+
+-- the two numbers of a point take at most ten bytes
+short : (c : After-number_length-in-loop-k) → c.number_length.result + c.number_length-in-loop-k.result ≤ 10
+short c =
+    
+    
+    
+    
+    
+    
+    point_short c.loop-k.invariant c.loop-k-test.true
+    (same w32 _ c.nx-1.given) (same w32 _ c.ny-1.given)
+    c.nx-1.given c.ny-1.given
+    c.difference.ensures.value c.difference-in-loop-k.ensures.value c.number_length.ensures.value
+    c.number_length-in-loop-k.ensures.value
+
+pub overflow_add-total : goal.overflow_add-total
+overflow_add-total c = omega (arith, short (goal.at.overflow_add-total c).After-number_length-in-loop-k)
+
+pub overflow_add-total-in-loop-k : goal.overflow_add-total-in-loop-k
+overflow_add-total-in-loop-k c = omega (arith, short (goal.at.overflow_add-total-in-loop-k c).After-number_length-in-loop-k)
+
+pub loop-k-preserved : goal.loop-k-preserved
+loop-k-preserved c =
+    
+    
+    
+    
+    
+    
+    points_next c.loop-k.invariant c.loop-k-test.true (same w32 _ c.nx-1.given) (same w32 _ c.ny-1.given) c.nx-1.given
+    c.ny-1.given c.difference.ensures.value c.difference-in-loop-k.ensures.value c.number_length.ensures.value
+    c.number_length-in-loop-k.ensures.value
+
+pub returns : goal.returns
+returns c = record { result = points_end c.loop-k.invariant c.loop-k-test.false }

@@ -1,0 +1,14 @@
+-- `unchecked_layers::points_length` meets its contract.
+use Prim.Native.Nat.{◌+◌, ◌-◌, ◌≤◌}
+use native.Mathlib.Omega.{arith}
+use mir.Syntax.{w32}
+use mir.Val.{to_z}
+use Rattle.laws.specs.Machine.{same}
+use Rattle.file_write.proofs.Measuring.{PointsMeasured, measure_points_start, point_short, points_next, points_end}
+use Rattle.file_write.proofs.unchecked_layers.points_length.Given as goal
+
+abbrev pub invariant-loop-k : goal.invariant-loop-k
+invariant-loop-k l = PointsMeasured l.points (to_z w32 l.x) (to_z w32 l.y) l.total l.k
+
+abbrev pub decreases-loop-k : goal.decreases-loop-k
+decreases-loop-k l = l.n - l.k

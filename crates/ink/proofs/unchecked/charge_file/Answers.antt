@@ -1,0 +1,52 @@
+-- `unchecked::charge_file` meets its contract.
+use mathlib.Core.Path.{◌≡◌, sym, ◌∙◌}
+use mathlib.Core.List.{List}
+use Prim.Native.Nat.{ℕ}
+use native.Mathlib.Omega.{arith}
+use borrow.Author.Rules.{rules}
+use Rattle.file_formats.specs.LayerFile.{most_layers}
+use Rattle.file_formats.specs.Positions.{number_at}
+use Rattle.file_formats.specs.PositionLaws.{took}
+use Rattle.file_formats.specs.declared.Number.TheVariants.{Value}
+use Rattle.ink.specs.Steps.{charges_at}
+use Rattle.ink.specs.declared.ChargeExtent.{ChargeExtent}
+use Rattle.ink.proofs.FileCharges.{no_count, layers_refused, left_over_lem, all_charged}
+use Rattle.ink.proofs.unchecked.charge_file.Goals as goal
+use Rattle.ink.proofs.unchecked.charge_file.Goals.{After-charge_layers-c, In-Value, Start}
+
+pub returns-in_default : goal.returns-in_default
+returns-in_default c = record { value = no_count c.args.thickness _ (sym c.read_number-n.ensures.value ∙ c.in_default.is) }
+
+-- the layer count, and where the layers start
+module _ (c : In-Value) where
+  abbrev entry : Start
+  entry = FIXME[c as Start]
+
+  abbrev file : List ℕ
+  file = entry.args.file.now
+
+  abbrev number : ℕ
+  number = c.in-Value.count
+
+  abbrev start : ℕ
+  start = c.in-Value.start
+
+  count : number_at most_layers file 0 ≡ Value number start
+  count = sym c.read_number-n.ensures.value ∙ c.in-Value.is
+
+pub charge_layers-c-requires : goal.charge_layers-c-requires
+charge_layers-c-requires c = let n = took (count (goal.at.charge_layers-c-requires c).In-Value) in (n.inside, n.low, (entry (goal.at.charge_layers-c-requires c).In-Value).requires)
+
+-- what the layers are charged
+charges : (c : After-charge_layers-c) {s : ChargeExtent} → c.charge_layers-c.result ≡ s
+    → charges_at (entry FIXME[c as In-Value]).args.thickness (number FIXME[c as In-Value]) (file FIXME[c as In-Value]) (start FIXME[c as In-Value]) ≡ s
+charges c e = sym c.charge_layers-c.ensures.value ∙ e
+
+pub returns-then-e-file : goal.returns-then-e-file
+returns-then-e-file c = record { value = left_over_lem _ _ (count (goal.at.returns-then-e-file c).In-Value) (charges (goal.at.returns-then-e-file c).After-charge_layers-c c.in-End.is) (omega (arith, c.if-e-file.true)) }
+
+pub returns-in-Refused : goal.returns-in-Refused
+returns-in-Refused c = record { value = layers_refused _ _ (count (goal.at.returns-in-Refused c).In-Value) (charges (goal.at.returns-in-Refused c).After-charge_layers-c c.in-Refused.is) }
+
+pub returns-else-e-file : goal.returns-else-e-file
+returns-else-e-file c = record { value = all_charged _ _ (count (goal.at.returns-else-e-file c).In-Value) (charges (goal.at.returns-else-e-file c).After-charge_layers-c c.in-End.is) (omega (arith, c.if-e-file.false)) }

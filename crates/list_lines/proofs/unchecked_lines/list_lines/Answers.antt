@@ -1,0 +1,84 @@
+-- `unchecked_lines::list_lines` meets its contract.
+use Prim.Native.Nat.{◌-◌, ◌<◌}
+use mathlib.Core.Path.{◌≡◌, ap}
+use native.Mathlib.Omega.{arith}
+use lib.ListN.{length, get_or}
+use lib.IntN.{pos}
+use mir.Syntax.{w32}
+use mir.Val.{to_z, of_z}
+use Rattle.mesh.specs.Meshes.{paired}
+use Rattle.cut.specs.Cut.{Lengths, lent}
+use Rattle.all_heights.specs.Heights.{heights_taken}
+use Rattle.list_lines.proofs.Layers.{LinesPut, lines_start, next_line_room, lines_next, lines_end, can_take, height_is}
+use Rattle.list_lines.proofs.Layers.{SameLengths, lengths_start, still_workable, lengths_next}
+use borrow.Author.Rules.{rules}
+use Rattle.list_lines.proofs.unchecked_lines.list_lines.Goals as goal
+use Rattle.list_lines.proofs.unchecked_lines.list_lines.Goals.{After-taken_height-h, In-loop-k}
+
+-- a height is left
+height-left : (c : In-loop-k)
+    → 
+    
+    c.loop-k.k < length (heights_taken c.args.coords.now c.args.heights.now)
+height-left c = omega (arith, c.loop-k-test.true, c.taken_count-n.ensures.value)
+
+-- the height at hand, as the call gets it
+height : (c : After-taken_height-h)
+    → 
+    
+    to_z w32 (of_z w32 c.taken_height-h.result)
+    ≡ get_or (heights_taken c.args.coords.now c.args.heights.now) c.loop-k.k (pos 0)
+height c =
+    
+    
+    let taken = c.taken_height-h in 
+    height_is c.requires.fact_1 c.base_z-low.ensures.value c.base_z-low.type-inv _ (height-left FIXME[c as In-loop-k]) taken.ensures taken.type-inv
+
+pub loop-k-init : goal.loop-k-init
+loop-k-init c =
+    
+    (lines_start c.requires.fact_3, lengths_start)
+
+pub taken_height-h-requires : goal.taken_height-h-requires
+taken_height-h-requires c =
+    
+    
+    can_take c.requires.fact_1 c.base_z-low.ensures.value c.base_z-low.type-inv c.loop-k.k (height-left (goal.at.taken_height-h-requires c).In-loop-k)
+
+pub list_layer-p-requires : goal.list_layer-p-requires
+list_layer-p-requires c =
+    
+    
+    let inv = c.loop-k.invariant in record {
+      fact_1 = c.requires.fact_1.right;
+      fact_2 = still_workable inv.1 c.requires.fact_2;
+      fact_3 = next_line_room inv.0 (height-left (goal.at.list_layer-p-requires c).In-loop-k) c.requires.fact_1.few c.requires.fact_3;
+    }
+
+pub loop-k-preserved : goal.loop-k-preserved
+loop-k-preserved c =
+    
+    
+    let inv = c.loop-k.invariant in 
+    let kept = c.list_layer-p.auto.1.1.1.1 in (
+      lines_next inv.0 (height-left (goal.at.loop-k-preserved c).In-loop-k) (height (goal.at.loop-k-preserved c).After-taken_height-h) c.list_layer-p.ensures.outcome,
+      lengths_next inv.1 kept.0 kept.1.0 kept.1.1.0 kept.1.1.1.0,
+    )
+
+pub shape_of-names : goal.shape_of-names
+shape_of-names c = ap (λ (l : Lengths). l.names) c.loop-k.invariant.1.are
+
+pub shape_of-points : goal.shape_of-points
+shape_of-points c = ap (λ (l : Lengths). l.points) c.loop-k.invariant.1.are
+
+pub shape_of-ends : goal.shape_of-ends
+shape_of-ends c = ap (λ (l : Lengths). l.ends) c.loop-k.invariant.1.are
+
+pub shape_of-marks : goal.shape_of-marks
+shape_of-marks c = ap (λ (l : Lengths). l.marks) c.loop-k.invariant.1.are
+
+pub shape_of-output : goal.shape_of-output
+shape_of-output c = c.loop-k.invariant.0.lines.size
+
+pub returns : goal.returns
+returns c = record { outcome = lines_end c.loop-k.invariant.0 (omega (arith, c.loop-k-test.false, c.taken_count-n.ensures.value)) }

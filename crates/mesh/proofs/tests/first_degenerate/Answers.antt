@@ -1,0 +1,23 @@
+-- `tests::first_degenerate` meets its contract. The invariant: nothing that fits was passed.
+use mathlib.Core.Path.{◌≡◌, refl, sym, ◌∙◌}
+use Prim.Native.Nat.{◌-◌}
+use native.Mathlib.Omega.{arith}
+use lib.ListN.{length}
+use Rattle.laws.specs.LeastLaws.{Scanned, scan_start, scan_hit, scan_miss, scan_end}
+use Rattle.mesh.specs.Tests.{names_twice}
+use Rattle.mesh.specs.Corners.{triangle_count}
+use Rattle.mesh.proofs.tests.first_degenerate.Goals as goal
+
+pub loop-t-init : goal.loop-t-init
+loop-t-init c = (scan_start, refl)
+
+pub returns-then-names_twice : goal.returns-then-names_twice
+returns-then-names_twice c = record { value = scan_hit c.loop-t.invariant.0 (omega arith) (sym c.names_twice.ensures.value ∙ c.if-names_twice.true) }
+
+pub loop-t-preserved : goal.loop-t-preserved
+loop-t-preserved c =
+    
+    (scan_miss c.loop-t.invariant.0 (omega arith) (sym c.names_twice.ensures.value ∙ c.if-names_twice.false), c.loop-t.invariant.1)
+
+pub returns : goal.returns
+returns c = record { value = scan_end c.loop-t.invariant.0 (omega arith) }

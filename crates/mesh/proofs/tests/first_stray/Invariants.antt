@@ -1,0 +1,14 @@
+-- `tests::first_stray` meets its contract. The invariant: nothing that fits was passed.
+use mathlib.Core.Path.{◌≡◌, refl, sym, ◌∙◌}
+use Prim.Native.Nat.{◌-◌}
+use native.Mathlib.Omega.{arith}
+use lib.ListN.{length}
+use Rattle.laws.specs.LeastLaws.{Scanned, scan_start, scan_hit, scan_miss, scan_end}
+use Rattle.mesh.specs.Tests.{names_none}
+use Rattle.mesh.proofs.tests.first_stray.Given as goal
+
+abbrev pub invariant-loop-c : goal.invariant-loop-c
+invariant-loop-c l = Scanned (length l.corners) (names_none l.vertices l.corners) l.c
+
+abbrev pub decreases-loop-c : goal.decreases-loop-c
+decreases-loop-c l = length l.corners - l.c

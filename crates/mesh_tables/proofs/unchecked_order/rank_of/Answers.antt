@@ -1,0 +1,30 @@
+-- `unchecked_order::rank_of` meets its contract: r counts the vertices below u that stand before v.
+use Prim.Native.Nat.{ℕ, ◌≤◌, ◌-◌}
+use mathlib.Core.Path.{◌≡◌, sym, ap, ◌∙◌}
+use mathlib.Core.Logic.{⊎_elim}
+use mathlib.Core.Bool.{Bool}
+use native.Mathlib.Omega.{arith}
+use Rattle.laws.specs.Count.{count}
+use Rattle.mesh.specs.Corners.{vertex_count}
+use Rattle.mesh.specs.Order.{before}
+use Rattle.laws.specs.CountLaws.{count_start, count_one, count_none}
+use Rattle.mesh_tables.proofs.unchecked_order.rank_of.Goals as goal
+
+pub loop-u-init : goal.loop-u-init
+loop-u-init c = (omega arith, omega arith, count_start _)
+
+pub loop-u-preserved : goal.loop-u-preserved
+loop-u-preserved c =
+    
+    let a = c.args in 
+    let t : ℕ → Bool = λ w. before a.coords.now w a.v in
+    ⊎_elim
+    (λ w. omega (arith, w.1, count_one c.loop-u.u t (sym c.comes_before.ensures.value ∙ w.0.taken)))
+    (λ w. omega (arith, w.1, count_none c.loop-u.u t (sym c.comes_before.ensures.value ∙ w.0.left)))
+    c.if-comes_before.branch
+
+pub returns : goal.returns
+returns c =
+    
+    let a = c.args in 
+    let e : c.loop-u.u ≡ vertex_count a.coords.now = omega (arith, c.loop-u-test.false) in record { value = c.loop-u.invariant.2 ∙ ap (λ (n : ℕ). count n (λ w. before a.coords.now w a.v)) e }

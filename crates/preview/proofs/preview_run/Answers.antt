@@ -1,0 +1,35 @@
+-- `preview_run` meets its contract.
+use Prim.Native.Nat.{ℕ}
+use mathlib.Core.Path.{refl, sym, ap, ◌∙◌}
+use lib.ListN.{take, drop}
+use Rattle.mesh.specs.Operation.{gives, unless_refused}
+use Rattle.mesh.specs.OperationLaws.{does_refuse, does_give}
+use Rattle.mesh.specs.Refusals.{tell_verdict}
+use Rattle.polygons.specs.Flat.{flat}
+use Rattle.preview.specs.Calls.{calls_of}
+use Rattle.preview.specs.Preview.{call_tables, filled_with}
+use borrow.Author.Rules.{rules}
+use Rattle.preview.proofs.preview_run.Goals as goal
+
+pub returns-in-Refused : goal.returns-in-Refused
+unfolding unless_refused
+returns-in-Refused c = record { outcome = does_refuse c.preview_test-v.ensures.told (ap tell_verdict c.in-Refused.is) refl refl }
+
+pub fill_calls-requires : goal.fill_calls-requires
+fill_calls-requires c =
+    
+    sym c.preview_test-v.ensures.told ∙ ap tell_verdict c.in_default.is
+
+pub returns : goal.returns
+unfolding unless_refused
+returns c =
+    
+    
+    
+    
+    let calls = calls_of c.args.origin (flat c.args.points.now c.args.ends.now) in
+    let u = call_tables c.args.kinds.now c.args.floats.now in
+    let filled = FIXME[c at After-fill_calls: at_fill_lem.fill-calls.ensures] in record {
+      outcome = does_give c.preview_test-v.ensures.told (ap tell_verdict c.in_default.is) (ap gives filled.0)
+    (filled.1 ∙ ap (λ (n : ℕ). filled_with (take n (drop c.args.number calls)) u) filled.0);
+    }

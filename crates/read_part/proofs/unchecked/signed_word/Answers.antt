@@ -1,0 +1,10 @@
+-- `unchecked::signed_word` meets its contract.
+use Rattle.read_part.proofs.Words.{narrow_ok, narrow}
+use borrow.Author.Rules.{rules}
+use Rattle.read_part.proofs.unchecked.signed_word.Goals as goal
+
+pub overflow_cast-result : goal.overflow_cast-result
+overflow_cast-result c = narrow_ok _ c.requires _ FIXME[c at After-signed_of: c.Signed-of.type-inv] FIXME[c at After-signed_of: c.Signed-of.ensures]
+
+pub returns : goal.returns
+returns c = record { value = narrow _ c.requires _ FIXME[c at After-signed_of: c.Signed-of.type-inv] FIXME[c at After-signed_of: c.Signed-of.ensures] }

@@ -1,0 +1,48 @@
+-- `step_test` meets its contract: 1, 2, 3, 4 and 7, then 8, 10 and 11.
+use mathlib.Core.Path.{◌≡◌, ap, ◌∙◌}
+use mathlib.Core.Bool.{true}
+use mathlib.Core.List.{List, [], ◌∷◌, ◌++◌}
+use lib.ListN.{length}
+use Rattle.mesh.specs.Meshes.{PairedMesh, paired}
+use Rattle.mesh.specs.Operation.{Condition, verdict}
+use Rattle.mesh.specs.OperationLaws.{join_stop, join_next, verdict_one}
+use Rattle.mesh.specs.Refusals.{Told, tell_verdict}
+use Rattle.mesh_tables.specs.MeshTests.{opening_tests}
+use Rattle.mesh_tables.specs.OpeningLaws.{opening_bare}
+use Rattle.sweep.specs.Operations.{short_ring, linked_tests, state_tests}
+use borrow.Author.Rules.{rules}
+use Rattle.sweep.proofs.step_test.Goals as goal
+use Rattle.sweep.proofs.step_test.Goals.{Start}
+
+abbrev mesh_of : Start → PairedMesh
+mesh_of start = paired start.args.coords.now start.args.corners.now start.args.pairing.now
+
+abbrev first : Start → List (Condition Told)
+first start = linked_tests (mesh_of start)
+
+abbrev second : Start → List (Condition Told)
+second start = state_tests start.args.coords.now start.args.order.now start.args.n
+
+abbrev third : Start → List (Condition Told)
+third start = short_ring start.args.corners.now (length start.args.ring.now) ∷ []
+
+bare : (start : Start) → verdict (opening_tests (mesh_of start) true true) ≡ verdict (first start)
+bare start = opening_bare (mesh_of start)
+
+pub returns-in-Refused : goal.returns-in-Refused
+returns-in-Refused c = record { told = join_stop (first (goal.at.returns-in-Refused c).Start) (second (goal.at.returns-in-Refused c).Start ++ third (goal.at.returns-in-Refused c).Start) (c.opening_test-a.ensures.told ∙ bare (goal.at.returns-in-Refused c).Start) (ap tell_verdict c.in-Refused.is) }
+
+pub returns-in-Refused-b : goal.returns-in-Refused-b
+returns-in-Refused-b c = record {
+      told = join_next (first (goal.at.returns-in-Refused-b c).Start) (second (goal.at.returns-in-Refused-b c).Start ++ third (goal.at.returns-in-Refused-b c).Start) (c.opening_test-a.ensures.told ∙ bare (goal.at.returns-in-Refused-b c).Start)
+    (ap tell_verdict c.in_default.is)
+    (join_stop (second (goal.at.returns-in-Refused-b c).Start) (third (goal.at.returns-in-Refused-b c).Start) c.state_test-b.ensures.told (ap tell_verdict c.in-Refused-b.is));
+    }
+
+pub returns : goal.returns
+returns c = record {
+      told = join_next (first (goal.at.returns c).Start) (second (goal.at.returns c).Start ++ third (goal.at.returns c).Start) (c.opening_test-a.ensures.told ∙ bare (goal.at.returns c).Start)
+    (ap tell_verdict c.in_default.is)
+    (join_next (second (goal.at.returns c).Start) (third (goal.at.returns c).Start) c.state_test-b.ensures.told (ap tell_verdict c.in_default-b.is)
+    (c.one_sweep_test.ensures.told ∙ verdict_one _));
+    }

@@ -1,0 +1,51 @@
+-- `unchecked::first_wrong` meets its contract.
+use Prim.Native.Nat.{ℕ, ◌-◌}
+use mathlib.Core.Path.{sym, ap, ◌∙◌}
+use native.Mathlib.Omega.{arith}
+use lib.ListN.{length}
+use lib.IntN.{ℤ}
+use mir.Syntax.{w32}
+use mir.Val.{to_z}
+use Rattle.laws.specs.Least.{least}
+use Rattle.laws.specs.LeastLaws.{Scanned, scan_start, scan_hit, scan_miss, scan_end}
+use Rattle.section.specs.Section.{under}
+use Rattle.sweep.specs.Places.{wrong_for}
+use Rattle.sweep.proofs.Moves.{back}
+use Rattle.sweep.proofs.unchecked.first_wrong.Goals as goal
+use Rattle.sweep.proofs.unchecked.first_wrong.Goals.{Start}
+
+-- the least corner with a wrong entry, at height z
+abbrev first : Start → ℤ → ℕ
+first start z =
+    least (length start.args.corners.now)
+    (wrong_for (under start.args.coords.now z start.args.k) start.args.corners.now start.args.pairing.now start.args.ring.now)
+
+pub loop-c-init : goal.loop-c-init
+loop-c-init c = scan_start
+
+pub is_wrong-requires : goal.is_wrong-requires
+is_wrong-requires c = record {
+      fact_1 = c.requires.fact_1;
+      fact_2 = c.requires.fact_2;
+      fact_3 = c.loop-c-test.true;
+    }
+
+pub returns-then-is_wrong : goal.returns-then-is_wrong
+returns-then-is_wrong c = record {
+      value = scan_hit c.loop-c.invariant c.loop-c-test.true (sym c.is_wrong.ensures.value ∙ c.if-is_wrong.true)
+    ∙ ap (first (goal.at.returns-then-is_wrong c).Start) (back c.ranges.h);
+    }
+
+pub overflow_add-c : goal.overflow_add-c
+overflow_add-c c =
+    
+    omega (arith, c.loop-c-test.true, c.requires.fact_1.whole.few)
+
+pub loop-c-smaller : goal.loop-c-smaller
+loop-c-smaller c = omega (arith, c.loop-c-test.true)
+
+pub loop-c-preserved : goal.loop-c-preserved
+loop-c-preserved c = scan_miss c.loop-c.invariant c.loop-c-test.true (sym c.is_wrong.ensures.value ∙ c.if-is_wrong.false)
+
+pub returns : goal.returns
+returns c = record { value = scan_end c.loop-c.invariant c.loop-c-test.false ∙ ap (first (goal.at.returns c).Start) (back c.ranges.h) }

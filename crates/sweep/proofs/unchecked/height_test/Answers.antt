@@ -1,0 +1,30 @@
+-- `unchecked::height_test` meets its contract.
+use Prim.Native.Nat.{◌-◌}
+use native.Mathlib.Omega.{arith}
+use Rattle.sweep.proofs.Moves.{got_lt, none_high, low_last, high_last}
+use Rattle.sweep.proofs.unchecked.height_test.Goals as goal
+
+pub returns-then-n-eq0 : goal.returns-then-n-eq0
+returns-then-n-eq0 c = record { told = none_high _ _ _ _ c.if-n-eq0.true }
+
+pub height_behind-requires : goal.height_behind-requires
+height_behind-requires c =
+    
+    let r = c.requires.fact_2 (c.args.n - 1) (omega (arith, c.if-n-eq0.false, c.requires.fact_1)) in record {
+      fact_1 = omega (arith, r.there, c.if-n-eq0.false);
+      fact_2 = λ z. r.vertex;
+    }
+
+pub returns-then-height_behind-h : goal.returns-then-height_behind-h
+returns-then-height_behind-h c = record {
+      told = low_last c.args.coords.now c.args.order.now c.args.h c.requires.fact_2 c.args.n c.requires.fact_1 c.if-n-eq0.false
+    c.height_behind.result c.height_behind.ensures.value
+    (got_lt c.height_behind.result c.args.h c.height_behind.type-inv c.ranges.h c.if-height_behind-h.true);
+    }
+
+pub returns : goal.returns
+returns c = record {
+      told = high_last c.args.coords.now c.args.order.now c.args.h c.requires.fact_2 c.args.n c.requires.fact_1 c.if-n-eq0.false
+    c.height_behind.result c.height_behind.ensures.value
+    (got_lt c.height_behind.result c.args.h c.height_behind.type-inv c.ranges.h c.if-height_behind-h.false);
+    }

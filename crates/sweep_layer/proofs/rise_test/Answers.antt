@@ -1,0 +1,47 @@
+-- `rise_test` meets its contract.
+use mathlib.Core.Path.{ap, ◌∙◌}
+use lib.IntN.{ℤ}
+use mir.Syntax.{w32}
+use mir.ValLaws.{to_z-of_z}
+use Rattle.mesh.specs.Meshes.{ordered}
+use Rattle.mesh.specs.Operation.{verdict}
+use Rattle.mesh.specs.OperationLaws.{join_stop, join_next}
+use Rattle.mesh.specs.Refusals.{tell_verdict}
+use Rattle.cut.specs.Cut.{Lengths, lengths, cut_tests}
+use Rattle.sweep.specs.Sweep.{Sweep, sweep}
+use Rattle.sweep.specs.Operations.{sweep_tests}
+use Rattle.sweep_layer.proofs.Lifting.{right_tested}
+use borrow.Author.Rules.{rules}
+use Rattle.sweep_layer.proofs.rise_test.Goals as goal
+use Rattle.sweep_layer.proofs.rise_test.Goals.{Start}
+
+abbrev sweepOf : Start → Sweep
+sweepOf start =
+    sweep (ordered start.args.coords.now start.args.corners.now start.args.pairing.now start.args.order.now)
+    start.args.ring.now start.args.n
+
+abbrev roomOf : Start → Lengths
+roomOf start = lengths start.args.names start.args.points start.args.ends start.args.marks
+
+pub returns-in-Refused : goal.returns-in-Refused
+returns-in-Refused c =
+    
+    let s = sweepOf (goal.at.returns-in-Refused c).Start in record {
+      told = join_stop (cut_tests s.ordered.paired (roomOf (goal.at.returns-in-Refused c).Start)) (sweep_tests s c.args.h) c.tables_test-a.ensures.told
+    (ap tell_verdict c.in-Refused.is);
+    }
+
+pub sweep_test-requires : goal.sweep_test-requires
+sweep_test-requires c =
+    
+    right_tested (sweepOf (goal.at.sweep_test-requires c).Start).ordered.paired (roomOf (goal.at.sweep_test-requires c).Start) c.tables_test-a.ensures.told (ap tell_verdict c.in_default.is)
+
+pub returns : goal.returns
+returns c =
+    
+    
+    let s = sweepOf (goal.at.returns c).Start in record {
+      told = join_next (cut_tests s.ordered.paired (roomOf (goal.at.returns c).Start)) (sweep_tests s c.args.h) c.tables_test-a.ensures.told
+    (ap tell_verdict c.in_default.is)
+    (c.sweep_test.ensures.told ∙ ap (λ (z : ℤ). verdict (sweep_tests s z)) (to_z-of_z w32 c.args.h c.ranges.h));
+    }

@@ -1,0 +1,63 @@
+-- `unchecked::sweep_test` meets its contract: 8, 10, 11 and 12 in turn.
+use mathlib.Core.Path.{ap, ◌∙◌}
+use mathlib.Core.List.{List, [], ◌∷◌}
+use lib.IntN.{ℤ}
+use mir.Syntax.{w32}
+use mir.ValLaws.{to_z-of_z}
+use Rattle.mesh.specs.Meshes.{ordered}
+use Rattle.mesh.specs.Operation.{Condition, test}
+use Rattle.mesh.specs.OperationLaws.{join_stop, join_next, verdict_stop, verdict_next, verdict_one}
+use Rattle.mesh.specs.Refusals.{Told, tell_verdict}
+use Rattle.sweep.specs.declared.SweepTest.TheVariants.{Height}
+use Rattle.sweep.specs.Sweep.{Sweep, sweep}
+use Rattle.sweep.specs.Operations.{wrong_ring, not_above, state_tests}
+use Rattle.sweep.specs.SweepTests.{sweep_condition}
+use Rattle.sweep.specs.Places.{Placed}
+use Rattle.sweep_layer.proofs.Lifting.{placed_of}
+use borrow.Author.Rules.{rules}
+use Rattle.sweep_layer.proofs.unchecked.sweep_test.Goals as goal
+use Rattle.sweep_layer.proofs.unchecked.sweep_test.Goals.{In_default, Start}
+
+abbrev sweepOf : Start → Sweep
+sweepOf start =
+    sweep (ordered start.args.coords.now start.args.corners.now start.args.pairing.now start.args.order.now)
+    start.args.ring.now start.args.n
+
+abbrev first : Start → List (Condition Told)
+first start = state_tests start.args.coords.now start.args.order.now start.args.n
+
+abbrev second : Start → List (Condition Told)
+second start = wrong_ring (sweepOf start) ∷ not_above start.args.coords.now start.args.order.now start.args.n start.args.h ∷ []
+
+-- what 8 and 10 establish
+placed : (c : In_default)
+    → 
+    Placed (sweepOf FIXME[c as Start]).ordered c.args.n
+placed c =
+    
+    placed_of (sweepOf FIXME[c as Start]).ordered c.args.n c.requires c.state_test-a.ensures.told (ap tell_verdict c.in_default.is)
+
+pub returns-in-Refused : goal.returns-in-Refused
+returns-in-Refused c = record { told = join_stop (first (goal.at.returns-in-Refused c).Start) (second (goal.at.returns-in-Refused c).Start) c.state_test-a.ensures.told (ap tell_verdict c.in-Refused.is) }
+
+pub one_sweep_test-b-requires : goal.one_sweep_test-b-requires
+one_sweep_test-b-requires c = placed (goal.at.one_sweep_test-b-requires c).In_default
+
+pub returns-in-Refused-b : goal.returns-in-Refused-b
+returns-in-Refused-b c = record {
+      told = join_next (first (goal.at.returns-in-Refused-b c).Start) (second (goal.at.returns-in-Refused-b c).Start) c.state_test-a.ensures.told (ap tell_verdict c.in_default.is)
+    (verdict_stop _ _ c.one_sweep_test-b.ensures.told (ap tell_verdict c.in-Refused-b.is));
+    }
+
+pub one_sweep_test-requires : goal.one_sweep_test-requires
+one_sweep_test-requires c =
+    let p = placed (goal.at.one_sweep_test-requires c).In_default in
+    (p.few, p.ranked)
+
+pub returns : goal.returns
+returns c = record {
+      told = join_next (first (goal.at.returns c).Start) (second (goal.at.returns c).Start) c.state_test-a.ensures.told (ap tell_verdict c.in_default.is)
+    (verdict_next _ _ c.one_sweep_test-b.ensures.told (ap tell_verdict c.in_default-b.is)
+    (c.one_sweep_test.ensures.told ∙ ap (λ (z : ℤ). test (sweep_condition Height (sweepOf (goal.at.returns c).Start) z)) (to_z-of_z w32 c.args.h c.ranges.h)
+    ∙ verdict_one _));
+    }

@@ -1,0 +1,21 @@
+-- `wadroles_preview` meets its contract.
+use mathlib.Core.Path.{ap, ◌∙◌}
+use mathlib.Core.Option.{Option}
+use Rattle.mesh.specs.Operation.{Answer}
+use Rattle.mesh.specs.Refusals.{Told}
+use Rattle.preview.specs.declared.PathCall.{PathCall}
+use Rattle.out_words.specs.Words.{xy_after}
+use Rattle.wadroles.specs.ExportLaws.{exports_told}
+use borrow.Author.Rules.{rules}
+use Rattle.wadroles.proofs.wadroles_preview.Goals as goal
+
+pub returns : goal.returns
+returns c =
+    
+    let xy = c.args.xy.now in 
+    let told = FIXME[c at After-tell_preview: c.tell-preview.ensures] in record {
+      outcome = record {
+      exports = exports_told c.preview-a.ensures.outcome told.0;
+      writes = told.1 ∙ ap (λ (a : Answer Told (Option PathCall)). xy_after a xy) c.preview-a.ensures.outcome.answers;
+    };
+    }
