@@ -12,6 +12,6 @@ returns-then-heights-gt0 c = record { value = base_given c.args.coords.now c.arg
 
 pub returns : goal.returns
 returns c = record {
-      value = same w32 c.z_span.result.low c.struct_told-1.given.0.1 ∙ c.z_span.ensures.result.0
-    ∙ base_default c.args.coords.now c.args.heights.now (omega arith);
-    }
+  value = same w32 c.z_span.result.low c.struct_told-1.given.0.1 ∙ c.z_span.ensures.result.0
+      ∙ base_default c.args.coords.now c.args.heights.now (omega arith);
+}

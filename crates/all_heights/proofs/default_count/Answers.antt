@@ -19,10 +19,9 @@ overflow_cast-high c = cast_ok (word_held c.z_span-s.result.high c.struct_told-2
 
 -- what `z_span` gave
 found : (c : After-struct_told-2-1)
-    → 
+    →
     SpanFound c.args.coords.now c.z_span-s.result.low c.z_span-s.result.high
 found c =
-    
     record {
       some = omega arith;
       low_fits = c.struct_told-2-1.given.0.1;

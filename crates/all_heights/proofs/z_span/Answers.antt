@@ -13,8 +13,6 @@ loop-v-init c = span_start c.args.coords.now c.low-1.given
 
 pub loop-v-preserved : goal.loop-v-preserved
 loop-v-preserved c =
-    
-    
     span_more c.args.coords.now c.loop-v.invariant c.lower-low.result c.higher-high.result
     c.z-1.given c.lower-low.type-inv c.higher-high.type-inv c.lower-low.ensures.value c.higher-high.ensures.value (omega arith)
 

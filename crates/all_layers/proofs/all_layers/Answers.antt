@@ -29,19 +29,16 @@ tested at-fine =
 
 pub returns-in-Refused : goal.returns-in-Refused
 returns-in-Refused c = record {
-      outcome = files_refused c.args.profile (mesh_of (goal.at.returns-in-Refused c).Start) c.args.heights.now (workOf (goal.at.returns-in-Refused c).Start) c.args.output.now c.layers_test-v.ensures.told
-    (ap tell_verdict c.in-Refused.is);
-    }
+  outcome = files_refused c.args.profile (mesh_of (goal.at.returns-in-Refused c).Start) c.args.heights.now (workOf (goal.at.returns-in-Refused c).Start) c.args.output.now c.layers_test-v.ensures.told
+      (ap tell_verdict c.in-Refused.is);
+}
 
 pub put_file-f-requires : goal.put_file-f-requires
 put_file-f-requires c =
-    
-    
     layers_tested (tested (goal.at.put_file-f-requires c).In_default) (held_word_is c.base_z-low.type-inv c.base_z-low.ensures.value) c.taken_count-count.ensures.value
 
 pub clear_work-requires : goal.clear_work-requires
 clear_work-requires c =
-    
     let t = tested (goal.at.clear_work-requires c).In_default in
     let w = c.put_file-f.ensures.work in record {
       fact_1 = works_long t.long w;
@@ -51,12 +48,8 @@ clear_work-requires c =
 
 pub returns : goal.returns
 returns c =
-    
-    
-    
-    
     let start = start_of (goal.at.returns c).In_default in
     let passed = ap tell_verdict c.in_default.is in record {
       outcome = files_put start.args.profile (mesh_of start) start.args.heights.now (workOf start) start.args.output.now
-    c.layers_test-v.ensures.told passed c.put_file-f.ensures.outcome c.put_file-f.ensures.work c.clear_work.ensures.left;
+          c.layers_test-v.ensures.told passed c.put_file-f.ensures.outcome c.put_file-f.ensures.work c.clear_work.ensures.left;
     }

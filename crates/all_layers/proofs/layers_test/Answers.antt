@@ -12,20 +12,20 @@ mesh_of start = ordered start.args.coords.now start.args.corners.now start.args.
 
 pub returns-in-Refused : goal.returns-in-Refused
 returns-in-Refused c = record {
-      told = opening_refused (mesh_of (goal.at.returns-in-Refused c).Start) c.args.heights.now _ _ c.few_heights-few.ensures.value c.work_room_for-room.ensures.value
-    c.opening_test-a.ensures.told (ap tell_verdict c.in-Refused.is);
-    }
+  told = opening_refused (mesh_of (goal.at.returns-in-Refused c).Start) c.args.heights.now _ _ c.few_heights-few.ensures.value c.work_room_for-room.ensures.value
+      c.opening_test-a.ensures.told (ap tell_verdict c.in-Refused.is);
+}
 
 pub returns-in-Refused-b : goal.returns-in-Refused-b
 returns-in-Refused-b c = record {
-      told = order_refused (mesh_of (goal.at.returns-in-Refused-b c).Start) c.args.heights.now _ _ c.few_heights-few.ensures.value c.work_room_for-room.ensures.value
-    c.opening_test-a.ensures.told (ap tell_verdict c.in_default.is) c.one_mesh_test-b.ensures.told
-    (ap tell_verdict c.in-Refused-b.is);
-    }
+  told = order_refused (mesh_of (goal.at.returns-in-Refused-b c).Start) c.args.heights.now _ _ c.few_heights-few.ensures.value c.work_room_for-room.ensures.value
+      c.opening_test-a.ensures.told (ap tell_verdict c.in_default.is) c.one_mesh_test-b.ensures.told
+      (ap tell_verdict c.in-Refused-b.is);
+}
 
 pub returns : goal.returns
 returns c = record {
-      told = heights_tested (mesh_of (goal.at.returns c).Start) c.args.heights.now _ _ c.few_heights-few.ensures.value c.work_room_for-room.ensures.value
-    c.opening_test-a.ensures.told (ap tell_verdict c.in_default.is) c.one_mesh_test-b.ensures.told
-    (ap tell_verdict c.in_default-b.is) c.heights_test.ensures.told;
-    }
+  told = heights_tested (mesh_of (goal.at.returns c).Start) c.args.heights.now _ _ c.few_heights-few.ensures.value c.work_room_for-room.ensures.value
+      c.opening_test-a.ensures.told (ap tell_verdict c.in_default.is) c.one_mesh_test-b.ensures.told
+      (ap tell_verdict c.in_default-b.is) c.heights_test.ensures.told;
+}

@@ -10,12 +10,12 @@ returns-in-Refused c = record { told = verdict_stop _ _ c.size_test-a.ensures.to
 
 pub returns-in-Refused-b : goal.returns-in-Refused-b
 returns-in-Refused-b c = record {
-      told = verdict_next _ _ c.size_test-a.ensures.told (ap tell_verdict c.in_default.is)
-    (verdict_stop _ _ c.room_test-b.ensures.told (ap tell_verdict c.in-Refused-b.is));
-    }
+  told = verdict_next _ _ c.size_test-a.ensures.told (ap tell_verdict c.in_default.is)
+      (verdict_stop _ _ c.room_test-b.ensures.told (ap tell_verdict c.in-Refused-b.is));
+}
 
 pub returns : goal.returns
 returns c = record {
-      told = verdict_next _ _ c.size_test-a.ensures.told (ap tell_verdict c.in_default.is)
-    (verdict_next _ _ c.room_test-b.ensures.told (ap tell_verdict c.in_default-b.is) c.mesh_test.ensures.told);
-    }
+  told = verdict_next _ _ c.size_test-a.ensures.told (ap tell_verdict c.in_default.is)
+      (verdict_next _ _ c.room_test-b.ensures.told (ap tell_verdict c.in_default-b.is) c.mesh_test.ensures.told);
+}

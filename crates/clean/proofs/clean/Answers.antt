@@ -17,13 +17,11 @@ returns-then-cleanends-ends c = record { outcome = ends_short c.layer_test-v.ens
 
 pub copy_layer-counts-requires : goal.copy_layer-counts-requires
 copy_layer-counts-requires c =
-    
-    
     tables_there c.layer_test-v.ensures.told (ap tell_verdict c.in_default.is) (omega (arith, c.if-cleanpoints-points.false))
     (omega (arith, c.if-cleanends-ends.false))
 
 pub returns : goal.returns
 returns c = record {
-      outcome = layer_cleaned c.layer_test-v.ensures.told (ap tell_verdict c.in_default.is) (omega (arith, c.if-cleanpoints-points.false))
-    (omega (arith, c.if-cleanends-ends.false)) c.copy_layer-counts.ensures.outcome;
-    }
+  outcome = layer_cleaned c.layer_test-v.ensures.told (ap tell_verdict c.in_default.is) (omega (arith, c.if-cleanpoints-points.false))
+      (omega (arith, c.if-cleanends-ends.false)) c.copy_layer-counts.ensures.outcome;
+}

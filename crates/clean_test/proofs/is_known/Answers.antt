@@ -11,21 +11,19 @@ returns-then-s-eq3 c = record { value = known_three c.args.s _ c.if-s-eq3.true }
 
 pub returns : goal.returns
 returns c =
-    
-    
-    let s = c.args.s in 
+    let s = c.args.s in
     let fits = c.struct_told-4-1.given.1 in record {
       value = known_points s _ c.if-s-eq3.false
-    (simp (
-      held w32 s.x fits.0.1,
-      held w32 s.y fits.1.0.1,
-      to_z-of_z w32 c.args.x c.ranges.x,
-      to_z-of_z w32 c.args.y c.ranges.y,
-    ) at c.same_point.ensures.value)
-    (simp (
-      held w32 s.u fits.1.1.0.1,
-      held w32 s.v fits.1.1.1.0.1,
-      to_z-of_z w32 c.args.x c.ranges.x,
-      to_z-of_z w32 c.args.y c.ranges.y,
-    ) at c.same_point-2.ensures.value);
+          (simp (
+            held w32 s.x fits.0.1,
+            held w32 s.y fits.1.0.1,
+            to_z-of_z w32 c.args.x c.ranges.x,
+            to_z-of_z w32 c.args.y c.ranges.y,
+          ) at c.same_point.ensures.value)
+          (simp (
+            held w32 s.u fits.1.1.0.1,
+            held w32 s.v fits.1.1.1.0.1,
+            to_z-of_z w32 c.args.x c.ranges.x,
+            to_z-of_z w32 c.args.y c.ranges.y,
+          ) at c.same_point-2.ensures.value);
     }

@@ -11,7 +11,7 @@ use Rattle.contours.proofs.contour.Goals.{After-contour_part-part}
 -- the part ends within the points
 fits : (c : After-contour_part-part) → c.contour_part-part.result.first + c.contour_part-part.result.length ≤ length c.args.points.now
 fits c =
-    let a = c.args in 
+    let a = c.args in
     omega (arith, c.contour_part-part.ensures.result.0, c.contour_part-part.ensures.result.1, span_fits (length a.points.now) a.ends.now a.j)
 
 pub overflow_add-end : goal.overflow_add-end

@@ -12,8 +12,6 @@ returns-then-end-start c = record { result = part_falls _ _ _ c.prior_end-start.
 
 pub overflow_mul-end : goal.overflow_mul-end
 overflow_mul-end c =
-    
-    
     omega (arith, c.shared_slice_known-2-1.given c.args.j)
 
 pub returns-then-numbers-end : goal.returns-then-numbers-end

@@ -10,6 +10,6 @@ returns-in-Refused c = record { told = verdict_stop _ _ c.run_test-a.ensures.tol
 
 pub returns : goal.returns
 returns c = record {
-      told = verdict_next _ _ c.run_test-a.ensures.told (ap tell_verdict c.in_default.is)
-    (c.range_test.ensures.told ∙ verdict_one _);
-    }
+  told = verdict_next _ _ c.run_test-a.ensures.told (ap tell_verdict c.in_default.is)
+      (c.range_test.ensures.told ∙ verdict_one _);
+}

@@ -17,21 +17,15 @@ returns-in-Refused c = record { outcome = cuts_refused _ _ _ c.tables_test-v.ens
 
 pub slice-requires : goal.slice-requires
 slice-requires c =
-    
-    
     let m = paired c.args.coords.now c.args.corners.now c.args.pairing.now in
     let t = lent c.args.names.now c.args.points.now c.args.ends.now c.args.marks.now in FIXME[fact_1 fact_2] passed m c.args.h t c.tables_test-v.ensures.told (ap tell_verdict c.in_default.is)
 
 pub returns : goal.returns
 returns c =
-    
-    
-    
-    
     let m = paired c.args.coords.now c.args.corners.now c.args.pairing.now in
     let t = lent c.args.names.now c.args.points.now c.args.ends.now c.args.marks.now in
     let left = c.slice.new.1.1.1.1 in record {
       outcome = cuts_traced m c.args.h t c.tables_test-v.ensures.told (ap tell_verdict c.in_default.is)
-    (subst (λ (z : ℤ). Traces (section m z) m.mesh z t c.slice.result (lent left.0 left.1.0 left.1.1.0 left.1.1.1.0))
-    (to_z-of_z w32 c.args.h c.ranges.h) c.slice.ensures.outcome);
+          (subst (λ (z : ℤ). Traces (section m z) m.mesh z t c.slice.result (lent left.0 left.1.0 left.1.1.0 left.1.1.1.0))
+          (to_z-of_z w32 c.args.h c.ranges.h) c.slice.ensures.outcome);
     }

@@ -13,9 +13,9 @@ use Rattle.cut.proofs.tables_test.Goals as goal
 
 pub returns : goal.returns
 returns c =
-    let a = c.args in 
+    let a = c.args in
     let m = paired a.coords.now a.corners.now a.pairing.now in record {
       told = c.opening_test.ensures.told
-    ∙ opening_few m c.cut_room_for-room.result
-    ∙ ap (λ (b : Bool). verdict (size m.mesh ∷ whole (refusal 9) (not b) ∷ content_tests m)) c.cut_room_for-room.ensures.value;
+          ∙ opening_few m c.cut_room_for-room.result
+          ∙ ap (λ (b : Bool). verdict (size m.mesh ∷ whole (refusal 9) (not b) ∷ content_tests m)) c.cut_room_for-room.ensures.value;
     }

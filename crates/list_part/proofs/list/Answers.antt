@@ -10,10 +10,10 @@ returns-then-output-lt-MOST_OUTPUT c = record { outcome = too_short c.if-output-
 
 pub list_with-n-requires : goal.list_with-n-requires
 list_with-n-requires c = record {
-      fact_1 = refl;
-      fact_2 = zeros_held refl refl refl refl refl refl;
-      fact_3 = omega (arith, c.if-output-lt-MOST_OUTPUT.false);
-    }
+  fact_1 = refl;
+  fact_2 = zeros_held refl refl refl refl refl refl;
+  fact_3 = omega (arith, c.if-output-lt-MOST_OUTPUT.false);
+}
 
 pub returns : goal.returns
 returns c = record { outcome = written (omega (arith, c.if-output-lt-MOST_OUTPUT.false)) c.list_with-n.ensures.outcome }

@@ -8,5 +8,4 @@ slice_bounds-input-end c = (position 0 _ _ c.in-Bytes.is c.read_input-a.ensures.
 
 pub slice_bounds-write_listing-end : goal.slice_bounds-write_listing-end
 slice_bounds-write_listing-end c =
-    
     front_length _ _ (position 0 _ _ c.in-Bytes.is c.read_input-a.ensures.outcome).1

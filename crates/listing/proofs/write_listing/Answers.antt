@@ -11,5 +11,4 @@ slice_bounds-output-end c = (written c.list-a.ensures.outcome (ap tell_list c.in
 
 pub slice_bounds-write_all-end : goal.slice_bounds-write_all-end
 slice_bounds-write_all-end c =
-    
     front_length _ _ (written c.list-a.ensures.outcome (ap tell_list c.in-Length.is)).within

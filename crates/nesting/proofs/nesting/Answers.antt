@@ -11,19 +11,17 @@ returns-in-Refused c = record { outcome = layer_refused c.layer_test-v.ensures.t
 
 pub returns-then-not-nest_room_for : goal.returns-then-not-nest_room_for
 returns-then-not-nest_room_for c = record {
-      outcome = tables_short c.layer_test-v.ensures.told (ap tell_verdict c.in_default.is) c.nest_room_for.ensures.value
-    (not-true _ c.if-not-nest_room_for.true-raw);
-    }
+  outcome = tables_short c.layer_test-v.ensures.told (ap tell_verdict c.in_default.is) c.nest_room_for.ensures.value
+      (not-true _ c.if-not-nest_room_for.true-raw);
+}
 
 pub nest-requires : goal.nest-requires
 nest-requires c =
-    
-    
     tables_there _ _ c.layer_test-v.ensures.told (ap tell_verdict c.in_default.is) c.nest_room_for.ensures.value
     (not-false _ c.if-not-nest_room_for.false-raw)
 
 pub returns : goal.returns
 returns c = record {
-      outcome = layer_nested c.layer_test-v.ensures.told (ap tell_verdict c.in_default.is) c.nest_room_for.ensures.value
-    (not-false _ c.if-not-nest_room_for.false-raw) c.nest.ensures.left;
-    }
+  outcome = layer_nested c.layer_test-v.ensures.told (ap tell_verdict c.in_default.is) c.nest_room_for.ensures.value
+      (not-false _ c.if-not-nest_room_for.false-raw) c.nest.ensures.left;
+}

@@ -11,8 +11,7 @@ use Rattle.out_words.proofs.tell_area.Goals as goal
 
 pub returns-in-Area : goal.returns-in-Area
 returns-in-Area c =
-    let found = c.a-1.given in 
-    
+    let found = c.a-1.given in
     let sent = c.word_of.ensures.value ∙ ap word_of (same w64 found.0.0 c.known_told-1.given.0.1) in record { outcome = says_values (ap tell_area found.1) (ap (set c.args.out.now 0) sent) }
 
 pub returns-in-Refused : goal.returns-in-Refused

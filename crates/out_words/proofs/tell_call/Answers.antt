@@ -10,7 +10,7 @@ use Rattle.out_words.proofs.tell_call.Goals as goal
 
 pub returns-in-Move : goal.returns-in-Move
 returns-in-Move c =
-    let is = c.in-Move.is in 
+    let is = c.in-Move.is in
     let xy = c.args.xy.now in record {
       outcome = says_values (ap (λ (k : PathCall). gives (some k)) is) refl;
       left = ap (λ (k : PathCall). xy_after (gives (some k)) xy) (sym is);
@@ -18,7 +18,7 @@ returns-in-Move c =
 
 pub returns-in-Line : goal.returns-in-Line
 returns-in-Line c =
-    let is = c.in-Line.is in 
+    let is = c.in-Line.is in
     let xy = c.args.xy.now in record {
       outcome = says_values (ap (λ (k : PathCall). gives (some k)) is) refl;
       left = ap (λ (k : PathCall). xy_after (gives (some k)) xy) (sym is);
@@ -26,7 +26,7 @@ returns-in-Line c =
 
 pub returns-in-Close : goal.returns-in-Close
 returns-in-Close c =
-    let is = c.in-Close.is in 
+    let is = c.in-Close.is in
     let xy = c.args.xy.now in record {
       outcome = says_values (ap (λ (k : PathCall). gives (some k)) is) refl;
       left = ap (λ (k : PathCall). xy_after (gives (some k)) xy) (sym is);

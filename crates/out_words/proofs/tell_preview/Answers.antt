@@ -9,9 +9,8 @@ use Rattle.out_words.proofs.tell_preview.Goals as goal
 
 pub returns-in-Call : goal.returns-in-Call
 returns-in-Call c =
-    let is = c.in-Call.is in 
-    
-    let xy = c.args.xy.now in 
+    let is = c.in-Call.is in
+    let xy = c.args.xy.now in
     let told = FIXME[c at After-tell_call: c.tell-call.ensures] in record {
       outcome = says_as (ap tell_preview (sym is)) told.0;
       left = told.1 ∙ ap (λ (k : PreviewAnswer). xy_after (tell_preview k) xy) (sym is);
@@ -19,7 +18,7 @@ returns-in-Call c =
 
 pub returns-in-Past : goal.returns-in-Past
 returns-in-Past c =
-    let is = c.in-Past.is in 
+    let is = c.in-Past.is in
     let xy = c.args.xy.now in record {
       outcome = says_values (ap tell_preview is) refl;
       left = ap (λ (k : PreviewAnswer). xy_after (tell_preview k) xy) (sym is);
@@ -27,7 +26,7 @@ returns-in-Past c =
 
 pub returns-in-Refused : goal.returns-in-Refused
 returns-in-Refused c =
-    let is = c.in-Refused.is in 
+    let is = c.in-Refused.is in
     let xy = c.args.xy.now in record {
       outcome = says_refusal (ap tell_preview is) c.refuse.ensures.outcome;
       left = ap (λ (k : PreviewAnswer). xy_after (tell_preview k) xy) (sym is);

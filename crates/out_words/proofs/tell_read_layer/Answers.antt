@@ -14,7 +14,7 @@ overflow_cast-z c = wide_fits c.in-Layer.z c.known_told-1.given.1.0.1
 
 pub returns-in-Layer : goal.returns-in-Layer
 returns-in-Layer c =
-    let found = c.a-1.given in 
+    let found = c.a-1.given in
     let sent = c.word_of.ensures.value ∙ ap word_of (wide_held found.0.1.0 c.known_told-1.given.1.0.1) in record { outcome = says_values (ap tell_read_layer found.1) (λ i. sets c.args.out.now 0 (found.0.0 ∷ sent i ∷ found.0.1.1.0 ∷ found.0.1.1.1.0 ∷ [])) }
 
 pub returns-in-Refused : goal.returns-in-Refused

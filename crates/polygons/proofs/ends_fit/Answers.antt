@@ -15,10 +15,10 @@ returns-then-e-a c =
 
 pub loop-i-preserved : goal.loop-i-preserved
 loop-i-preserved c =
-    let loop = c.loop-i in 
+    let loop = c.loop-i in
     let small = c.shared_slice_known-in-loop-i-1.given loop.i in
-    let there = c.loop-i-test.true in 
-    let read = c.wide-e.ensures.value in 
+    let there = c.loop-i-test.true in
+    let read = c.wide-e.ensures.value in
     passed_next loop.invariant read there (omega (arith, small, read)) c.if-e-a.false
 
 pub returns : goal.returns

@@ -10,9 +10,9 @@ layer_of start = flat start.args.points.now start.args.ends.now
 
 pub returns-then-ends_fit : goal.returns-then-ends_fit
 returns-then-ends_fit c = record {
-      told = layer_passed (layer_of (goal.at.returns-then-ends_fit c).Start) c.run_fits.ensures.value c.if-run_fits.true c.ends_fit.ensures.value c.if-ends_fit.true
-    c.range_test.ensures.told;
-    }
+  told = layer_passed (layer_of (goal.at.returns-then-ends_fit c).Start) c.run_fits.ensures.value c.if-run_fits.true c.ends_fit.ensures.value c.if-ends_fit.true
+      c.range_test.ensures.told;
+}
 
 pub returns-else-ends_fit : goal.returns-else-ends_fit
 returns-else-ends_fit c = record { told = ends_refused (layer_of (goal.at.returns-else-ends_fit c).Start) c.run_fits.ensures.value c.if-run_fits.true c.ends_fit.ensures.value c.if-ends_fit.false }

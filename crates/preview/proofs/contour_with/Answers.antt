@@ -10,18 +10,18 @@ loop-a-init c = halved_start _ _
 
 pub overflow_add-wide : goal.overflow_add-wide
 overflow_add-wide c =
-    let loop = c.loop-a in 
+    let loop = c.loop-a in
     let m = loop.a + (loop.b - loop.a) / 2 in
     omega (arith, c.shared_slice_known-in-loop-a-1.given m, c.wide.ensures.value)
 
 pub loop-a-preserved-then-wide-m : goal.loop-a-preserved-then-wide-m
 loop-a-preserved-then-wide-m c =
-    let loop = c.loop-a in 
+    let loop = c.loop-a in
     halve_low loop.invariant _ c.wide.ensures.value (omega arith) c.if-wide-m.true
 
 pub loop-a-preserved : goal.loop-a-preserved
 loop-a-preserved c =
-    let loop = c.loop-a in 
+    let loop = c.loop-a in
     halve_high loop.invariant _ c.wide.ensures.value (omega arith) (omega arith) c.if-wide-m.false
 
 pub returns : goal.returns

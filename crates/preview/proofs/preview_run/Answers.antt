@@ -17,19 +17,14 @@ returns-in-Refused c = record { outcome = does_refuse c.preview_test-v.ensures.t
 
 pub fill_calls-requires : goal.fill_calls-requires
 fill_calls-requires c =
-    
     sym c.preview_test-v.ensures.told ∙ ap tell_verdict c.in_default.is
 
 pub returns : goal.returns
 unfolding unless_refused
 returns c =
-    
-    
-    
-    
     let calls = calls_of c.args.origin (flat c.args.points.now c.args.ends.now) in
     let u = call_tables c.args.kinds.now c.args.floats.now in
     let filled = FIXME[c at After-fill_calls: at_fill_lem.fill-calls.ensures] in record {
       outcome = does_give c.preview_test-v.ensures.told (ap tell_verdict c.in_default.is) (ap gives filled.0)
-    (filled.1 ∙ ap (λ (n : ℕ). filled_with (take n (drop c.args.number calls)) u) filled.0);
+          (filled.1 ∙ ap (λ (n : ℕ). filled_with (take n (drop c.args.number calls)) u) filled.0);
     }

@@ -9,8 +9,7 @@ truncating_f32_to_i64-cut-requires c = FIXME[lower_bound upper_bound] within_i64
 
 pub int_to_float-result : goal.int_to_float-result
 int_to_float-result c =
-    let call = c.truncating_f32_to_i64-cut in 
-    
+    let call = c.truncating_f32_to_i64-cut in
     cut_float _ _ (inside _ c.if-x.true c.if-x-2.true) (same w64 call.result call.type-inv ∙ call.ensures)
 
 pub returns-then-x-2 : goal.returns-then-x-2

@@ -11,8 +11,7 @@ returns-in-Refused c = record { outcome = starts_refused _ _ c.start_test-v.ensu
 
 pub fill-requires : goal.fill-requires
 fill-requires c =
-    
-    let a = c.args in 
+    let a = c.args in
     start_long (mesh a.coords.now a.corners.now) a.ring.now c.start_test-v.ensures.told (ap tell_verdict c.in_default.is)
 
 pub returns : goal.returns

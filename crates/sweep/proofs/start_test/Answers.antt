@@ -11,12 +11,12 @@ returns-in-Refused c = record { told = verdict_stop _ _ c.size_test-a.ensures.to
 
 pub returns-then-ring-corners : goal.returns-then-ring-corners
 returns-then-ring-corners c = record {
-      told = verdict_next _ _ c.size_test-a.ensures.told (ap tell_verdict c.in_default.is)
-    (whole_refused (refusal 9) _ (lt-ltb _ _ c.if-ring-corners.true) ∙ verdict_one _);
-    }
+  told = verdict_next _ _ c.size_test-a.ensures.told (ap tell_verdict c.in_default.is)
+      (whole_refused (refusal 9) _ (lt-ltb _ _ c.if-ring-corners.true) ∙ verdict_one _);
+}
 
 pub returns : goal.returns
 returns c = record {
-      told = verdict_next _ _ c.size_test-a.ensures.told (ap tell_verdict c.in_default.is)
-    (whole_fine (refusal 9) _ (le-ltb _ _ c.if-ring-corners.false) ∙ verdict_one _);
-    }
+  told = verdict_next _ _ c.size_test-a.ensures.told (ap tell_verdict c.in_default.is)
+      (whole_fine (refusal 9) _ (le-ltb _ _ c.if-ring-corners.false) ∙ verdict_one _);
+}

@@ -34,15 +34,15 @@ returns-in-Refused c = record { told = join_stop (first (goal.at.returns-in-Refu
 
 pub returns-in-Refused-b : goal.returns-in-Refused-b
 returns-in-Refused-b c = record {
-      told = join_next (first (goal.at.returns-in-Refused-b c).Start) (second (goal.at.returns-in-Refused-b c).Start ++ third (goal.at.returns-in-Refused-b c).Start) (c.opening_test-a.ensures.told ∙ bare (goal.at.returns-in-Refused-b c).Start)
-    (ap tell_verdict c.in_default.is)
-    (join_stop (second (goal.at.returns-in-Refused-b c).Start) (third (goal.at.returns-in-Refused-b c).Start) c.state_test-b.ensures.told (ap tell_verdict c.in-Refused-b.is));
-    }
+  told = join_next (first (goal.at.returns-in-Refused-b c).Start) (second (goal.at.returns-in-Refused-b c).Start ++ third (goal.at.returns-in-Refused-b c).Start) (c.opening_test-a.ensures.told ∙ bare (goal.at.returns-in-Refused-b c).Start)
+      (ap tell_verdict c.in_default.is)
+      (join_stop (second (goal.at.returns-in-Refused-b c).Start) (third (goal.at.returns-in-Refused-b c).Start) c.state_test-b.ensures.told (ap tell_verdict c.in-Refused-b.is));
+}
 
 pub returns : goal.returns
 returns c = record {
-      told = join_next (first (goal.at.returns c).Start) (second (goal.at.returns c).Start ++ third (goal.at.returns c).Start) (c.opening_test-a.ensures.told ∙ bare (goal.at.returns c).Start)
-    (ap tell_verdict c.in_default.is)
-    (join_next (second (goal.at.returns c).Start) (third (goal.at.returns c).Start) c.state_test-b.ensures.told (ap tell_verdict c.in_default-b.is)
-    (c.one_sweep_test.ensures.told ∙ verdict_one _));
-    }
+  told = join_next (first (goal.at.returns c).Start) (second (goal.at.returns c).Start ++ third (goal.at.returns c).Start) (c.opening_test-a.ensures.told ∙ bare (goal.at.returns c).Start)
+      (ap tell_verdict c.in_default.is)
+      (join_next (second (goal.at.returns c).Start) (third (goal.at.returns c).Start) c.state_test-b.ensures.told (ap tell_verdict c.in_default-b.is)
+      (c.one_sweep_test.ensures.told ∙ verdict_one _));
+}

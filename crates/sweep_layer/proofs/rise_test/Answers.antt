@@ -25,23 +25,19 @@ roomOf start = lengths start.args.names start.args.points start.args.ends start.
 
 pub returns-in-Refused : goal.returns-in-Refused
 returns-in-Refused c =
-    
     let s = sweepOf (goal.at.returns-in-Refused c).Start in record {
       told = join_stop (cut_tests s.ordered.paired (roomOf (goal.at.returns-in-Refused c).Start)) (sweep_tests s c.args.h) c.tables_test-a.ensures.told
-    (ap tell_verdict c.in-Refused.is);
+          (ap tell_verdict c.in-Refused.is);
     }
 
 pub sweep_test-requires : goal.sweep_test-requires
 sweep_test-requires c =
-    
     right_tested (sweepOf (goal.at.sweep_test-requires c).Start).ordered.paired (roomOf (goal.at.sweep_test-requires c).Start) c.tables_test-a.ensures.told (ap tell_verdict c.in_default.is)
 
 pub returns : goal.returns
 returns c =
-    
-    
     let s = sweepOf (goal.at.returns c).Start in record {
       told = join_next (cut_tests s.ordered.paired (roomOf (goal.at.returns c).Start)) (sweep_tests s c.args.h) c.tables_test-a.ensures.told
-    (ap tell_verdict c.in_default.is)
-    (c.sweep_test.ensures.told ∙ ap (λ (z : ℤ). verdict (sweep_tests s z)) (to_z-of_z w32 c.args.h c.ranges.h));
+          (ap tell_verdict c.in_default.is)
+          (c.sweep_test.ensures.told ∙ ap (λ (z : ℤ). verdict (sweep_tests s z)) (to_z-of_z w32 c.args.h c.ranges.h));
     }

@@ -13,7 +13,6 @@ use Rattle.all_contours.proofs.unchecked_contours.follow_contour.Goals as goal
 
 pub loop-c-init : goal.loop-c-init
 loop-c-init c =
-    
     walking_start (roundable_held (to_z-of_z w32 c.args.h c.ranges.h) c.requires)
 
 pub overflow_cast-names : goal.overflow_cast-names
@@ -36,19 +35,16 @@ overflow_add-k c = omega (arith, k_inside c.loop-c.invariant, names_length c.loo
 
 pub successor-c-requires : goal.successor-c-requires
 successor-c-requires c = record {
-      fact_1 = c.loop-c.invariant.way.right;
-      fact_2 = c_crosses c.loop-c.invariant;
-    }
+  fact_1 = c.loop-c.invariant.way.right;
+  fact_2 = c_crosses c.loop-c.invariant;
+}
 
 pub shape_of-names-then-c-start : goal.shape_of-names-then-c-start
 shape_of-names-then-c-start c =
-    
     length-set c.loop-c.names c.loop-c.k c.loop-c.c ∙ names_length c.loop-c.invariant
 
 pub shape_of-marks-then-c-start : goal.shape_of-marks-then-c-start
 shape_of-marks-then-c-start c =
-    
-    
     length-set c.loop-c.marks c.loop-c.c c.args.stamp ∙ marks_length c.loop-c.invariant
 
 pub returns-then-c-start : goal.returns-then-c-start
@@ -56,10 +52,8 @@ returns-then-c-start c = record { outcome = walking_end c.loop-c.invariant c.suc
 
 pub loop-c-smaller : goal.loop-c-smaller
 loop-c-smaller c =
-    
     omega (arith, k_inside c.loop-c.invariant, names_length c.loop-c.invariant)
 
 pub loop-c-preserved : goal.loop-c-preserved
 loop-c-preserved c =
-    
     walking_next c.loop-c.invariant c.successor-c.ensures.value c.if-c-start.false

@@ -12,7 +12,6 @@ use Rattle.all_contours.proofs.unchecked_contours.outline_crossings.Goals as goa
 
 pub loop-c-init : goal.loop-c-init
 loop-c-init c =
-    
     outlining_start _ _ (outlinable_held (to_z-of_z w32 c.args.h c.ranges.h) c.requires)
 
 pub offset_bounds-ring-c : goal.offset_bounds-ring-c
@@ -20,87 +19,61 @@ offset_bounds-ring-c c = omega (arith, c_small _ _ c.loop-c.invariant c.loop-c-t
 
 pub bounds-ring-c : goal.bounds-ring-c
 bounds-ring-c c =
-    
     (c_inside _ _ c.loop-c.invariant c.loop-c-test.true).0
 
 pub offset_bounds-marks-c : goal.offset_bounds-marks-c
 offset_bounds-marks-c c =
-    
     omega (arith, c_small _ _ c.loop-c.invariant c.loop-c-test.true)
 
 pub bounds-marks-c : goal.bounds-marks-c
 bounds-marks-c c =
-    
     (c_inside _ _ c.loop-c.invariant c.loop-c-test.true).1
 
 pub loop-c-smaller-then-marks-c : goal.loop-c-smaller-then-marks-c
 loop-c-smaller-then-marks-c c =
-    
-    
-    let inv = c.loop-c.invariant in 
+    let inv = c.loop-c.invariant in
     let after = d_after _ _ inv c.loop-c-test.true c.wide-d.ensures.value in
     omega (arith, c.loop-c-test.true)
 
 pub loop-c-preserved-then-marks-c : goal.loop-c-preserved-then-marks-c
 loop-c-preserved-then-marks-c c =
-    
-    
-    let inv = c.loop-c.invariant in 
+    let inv = c.loop-c.invariant in
     outlining_skip _ _ inv c.loop-c-test.true c.wide-d.ensures.value c.if-marks-c.true
 
 pub follow_contour-k-requires : goal.follow_contour-k-requires
 follow_contour-k-requires c =
-    
-    
-    
     roundable _ _ c.loop-c.invariant c.loop-c-test.true c.wide-d.ensures.value c.if-marks-c.false
 
 pub overflow_cast-ends : goal.overflow_cast-ends
 overflow_cast-ends c =
-    
-    
-    
-    
-    let inv = c.loop-c.invariant in 
+    let inv = c.loop-c.invariant in
     let few = end_few _ _ inv c.loop-c-test.true c.wide-d.ensures.value c.if-marks-c.false c.follow_contour-k.ensures.outcome in
     omega (arith, few, inv.given.right.named.whole.few)
 
 pub offset_bounds-ends-j : goal.offset_bounds-ends-j
 offset_bounds-ends-j c =
-    
-    
-    let inv = c.loop-c.invariant in 
+    let inv = c.loop-c.invariant in
     omega (arith, j_small _ _ inv c.loop-c-test.true)
 
 pub bounds-ends-j : goal.bounds-ends-j
 bounds-ends-j c =
-    
-    
-    let inv = c.loop-c.invariant in 
+    let inv = c.loop-c.invariant in
     j_inside _ _ inv c.loop-c-test.true
 
 pub overflow_add-j : goal.overflow_add-j
 overflow_add-j c =
-    
-    
-    let inv = c.loop-c.invariant in 
+    let inv = c.loop-c.invariant in
     omega (arith, j_small _ _ inv c.loop-c-test.true)
 
 pub loop-c-smaller : goal.loop-c-smaller
 loop-c-smaller c =
-    
-    
-    let inv = c.loop-c.invariant in 
+    let inv = c.loop-c.invariant in
     let after = d_after _ _ inv c.loop-c-test.true c.wide-d.ensures.value in
     omega (arith, c.loop-c-test.true)
 
 pub loop-c-preserved : goal.loop-c-preserved
 loop-c-preserved c =
-    
-    
-    
-    
-    let inv = c.loop-c.invariant in 
+    let inv = c.loop-c.invariant in
     outlining_ring _ _ inv c.loop-c-test.true c.wide-d.ensures.value c.if-marks-c.false c.follow_contour-k.ensures.outcome
 
 pub shape_of-names : goal.shape_of-names
@@ -114,7 +87,6 @@ shape_of-marks c = marks_length _ _ c.loop-c.invariant
 
 pub returns : goal.returns
 returns c =
-    
     let e = to_z-of_z w32 c.args.h c.ranges.h in record {
       outcome = outlined_end _ _ c.loop-c.invariant c.loop-c-test.false e;
       marked = marked_end _ _ c.loop-c.invariant e;

@@ -6,34 +6,26 @@ use Rattle.all_layers.proofs.unchecked.clear_work.Goals as goal
 
 pub fill-requires : goal.fill-requires
 fill-requires c =
-    
     c.requires.fact_1.names_long
 
 pub overflow_mul-n : goal.overflow_mul-n
 overflow_mul-n c =
-    
     omega (arith, c.requires.fact_3)
 
 pub clear_points-requires : goal.clear_points-requires
 clear_points-requires c =
-    
     c.requires.fact_1.points_long
 
 pub fill-requires-2 : goal.fill-requires-2
 fill-requires-2 c =
-    
     c.requires.fact_1.ends_long
 
 pub fill-requires-3 : goal.fill-requires-3
 fill-requires-3 c =
-    
     c.requires.fact_1.marks_long
 
 pub fill-requires-4 : goal.fill-requires-4
 fill-requires-4 c =
-    
-    
-    
     omega (arith, c.requires.fact_2)
 
 pub returns : goal.returns

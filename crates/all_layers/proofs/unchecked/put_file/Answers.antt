@@ -7,9 +7,9 @@ use Rattle.all_layers.proofs.unchecked.put_file.Goals as goal
 
 pub put_layers-requires : goal.put_layers-requires
 put_layers-requires c = record {
-      fact_1 = tested_held (to_z-of_z w32 c.args.low c.ranges.low) c.requires;
-      fact_2 = c.requires.listed.few;
-    }
+  fact_1 = tested_held (to_z-of_z w32 c.args.low c.ranges.low) c.requires;
+  fact_2 = c.requires.listed.few;
+}
 
 pub returns : goal.returns
 returns c = FIXME[outcome work] search rules

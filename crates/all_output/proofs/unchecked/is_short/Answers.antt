@@ -12,14 +12,13 @@ use Rattle.all_output.proofs.unchecked.is_short.Goals as goal
 
 pub returns-then-bound-room : goal.returns-then-bound-room
 returns-then-bound-room c = record {
-      value = room_bound c.requires.fact_3 c.if-bound-room.true;
-      work = works_none;
-      outcome = (λ e. c.requires.fact_2);
-    }
+  value = room_bound c.requires.fact_3 c.if-bound-room.true;
+  work = works_none;
+  outcome = (λ e. c.requires.fact_2);
+}
 
 pub layers_length-n-requires : goal.layers_length-n-requires
 layers_length-n-requires c =
-    
     let e = to_z-of_z w32 c.args.low c.ranges.low in record {
       fact_1 = tested_held e c.requires.fact_1;
       fact_2 = sweeping_held e c.requires.fact_2;
@@ -27,16 +26,14 @@ layers_length-n-requires c =
 
 pub returns-then-room-n : goal.returns-then-room-n
 returns-then-room-n c = record {
-      value = room_short c.layers_length-n.ensures.value c.if-room-n.true;
-      work = c.layers_length-n.ensures.work;
-      outcome = (λ e. absurd (clash refl e));
-    }
+  value = room_short c.layers_length-n.ensures.value c.if-room-n.true;
+  work = c.layers_length-n.ensures.work;
+  outcome = (λ e. absurd (clash refl e));
+}
 
 pub begin-requires : goal.begin-requires
 begin-requires c =
-    
-    
-    let spent = c.layers_length-n.ensures.work in 
+    let spent = c.layers_length-n.ensures.work in
     let t = tested_more (tested_held (to_z-of_z w32 c.args.low c.ranges.low) c.requires.fact_1) spent in record {
       fact_1 = right_ranged t.right;
       fact_2 = climbing t.listed;
@@ -45,10 +42,6 @@ begin-requires c =
 
 pub returns : goal.returns
 returns c =
-    
-    
-    
-    
     let e = to_z-of_z w32 c.args.low c.ranges.low in
     let measured = FIXME[c at After-layers_length: at_length.layers-length.ensures] in record {
       value = not_short measured.0 c.if-room-n.false;

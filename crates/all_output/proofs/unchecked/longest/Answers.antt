@@ -25,7 +25,6 @@ loop-k-init c = bounding_start c.ranges.count.fits c.number_length.ensures.value
 
 pub taken_height-h-requires : goal.taken_height-h-requires
 taken_height-h-requires c =
-    
     (climbing_held (to_z-of_z w32 c.args.low c.ranges.low) c.requires.fact_1).each _ c.loop-k-test.true
 
 pub height_length-requires : goal.height_length-requires
@@ -36,7 +35,6 @@ overflow_add-total-in-loop-k c = record { fits = omega (arith, c.height_length.e
 
 pub overflow_add-total-in-loop-k-2 : goal.overflow_add-total-in-loop-k-2
 overflow_add-total-in-loop-k-2 c =
-    
     record {
       fits = omega (
         arith,
@@ -50,7 +48,6 @@ overflow_add-total-in-loop-k-2 c =
 
 pub overflow_add-k : goal.overflow_add-k
 overflow_add-k c =
-    
     record { fits = omega (arith, c.loop-k-test.true, c.requires.fact_1.few) }
 
 pub loop-k-smaller : goal.loop-k-smaller
@@ -58,7 +55,6 @@ loop-k-smaller c = omega (arith, c.loop-k-test.true)
 
 pub loop-k-preserved : goal.loop-k-preserved
 loop-k-preserved c =
-    
     bounding_next c.loop-k.invariant c.loop-k-test.true
     (held_word_is c.taken_height-h.type-inv c.taken_height-h.ensures.value) c.height_length.ensures.result.0 c.height_length.ensures.result.1
 

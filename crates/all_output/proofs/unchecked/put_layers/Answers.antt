@@ -13,7 +13,6 @@ use Rattle.all_output.proofs.unchecked.put_layers.Goals as goal
 
 pub begin-crossings-requires : goal.begin-crossings-requires
 begin-crossings-requires c =
-    
     let t = tested_held (to_z-of_z w32 c.args.low c.ranges.low) c.requires.fact_1 in record {
       fact_1 = right_ranged t.right;
       fact_2 = climbing t.listed;
@@ -22,8 +21,6 @@ begin-crossings-requires c =
 
 pub longest-bound-requires : goal.longest-bound-requires
 longest-bound-requires c =
-    
-    
     let t = tested_held (to_z-of_z w32 c.args.low c.ranges.low) c.requires.fact_1 in record {
       fact_1 = climbing t.listed;
       fact_2 = c.begin-crossings.ensures.total.few;
@@ -31,11 +28,8 @@ longest-bound-requires c =
 
 pub is_short-short-requires : goal.is_short-short-requires
 is_short-short-requires c =
-    
-    
-    
     let t = tested_held (to_z-of_z w32 c.args.low c.ranges.low) c.requires.fact_1 in
-    let begun = FIXME[c at After-begin: at-begin.begin.ensures] in 
+    let begun = FIXME[c at After-begin: at-begin.begin.ensures] in
     let bound = file_bound c.args.profile _ t.right t.listed begun.1.1 c.longest-bound.ensures.value in record {
       fact_1 = tested_more t (works_begun begun.1.0);
       fact_2 = begun.0;
@@ -44,8 +38,6 @@ is_short-short-requires c =
 
 pub returns-then-short : goal.returns-then-short
 returns-then-short c =
-    
-    
     let tested = FIXME[c at After-is_short: at-short.is-short.ensures] in record {
       outcome = puts_short _ _ (sym tested.0 ∙ c.if-short.true);
       work = works_more (works_begun c.begin-crossings.ensures.spent) tested.1.0;
@@ -53,10 +45,6 @@ returns-then-short c =
 
 pub write_layers-n-requires : goal.write_layers-n-requires
 write_layers-n-requires c =
-    
-    
-    
-    
     let t = tested_held (to_z-of_z w32 c.args.low c.ranges.low) c.requires.fact_1 in
     let tested = FIXME[c at After-is_short-arg6: at-short.is-short.ensures] in record {
       fact_1 = tested_more t (works_more (works_begun FIXME[c at After-begin-arg3: at-begin.begin.ensures.1.0]) tested.1.0);
@@ -66,37 +54,21 @@ write_layers-n-requires c =
 
 pub shape_of-marks : goal.shape_of-marks
 shape_of-marks c =
-    
-    
-    
-    
     (works_more (works_more (works_begun FIXME[c at After-begin-arg3: at-begin.begin.ensures.1.0]) FIXME[c at After-is_short-arg6: at-short.is-short.ensures.1.0]) c.write_layers-n.ensures.work
     ).marks_spent.same_length
 
 pub shape_of-ring : goal.shape_of-ring
 shape_of-ring c =
-    
-    
-    
-    
     (works_more (works_more (works_begun FIXME[c at After-begin-arg3: at-begin.begin.ensures.1.0]) FIXME[c at After-is_short-arg6: at-short.is-short.ensures.1.0]) c.write_layers-n.ensures.work
     ).ring_spent.same_length
 
 pub shape_of-heads : goal.shape_of-heads
 shape_of-heads c =
-    
-    
-    
-    
     FIXME[c at After-is_short-arg6: at-short.is-short.auto.1.1.1.1.1.1.1.1.1.1.1.1.0] ∙ FIXME[c at After-begin-arg3: at-begin.begin.auto.1.1.1.1.1.1.1.0]
 
 pub returns : goal.returns
 returns c =
-    
-    
-    
-    
-    let tested = FIXME[c at After-is_short-arg6: at-short.is-short.ensures] in 
+    let tested = FIXME[c at After-is_short-arg6: at-short.is-short.ensures] in
     let written = FIXME[c at After-write_layers: at-write.write-layers.ensures] in record {
       outcome = puts_whole _ _ (sym tested.0 ∙ FIXME[c at After-slice_known14: at_test.if1.false]) written.0 written.1.0;
       work = works_more (works_more (works_begun FIXME[c at After-begin-arg3: at-begin.begin.ensures.1.0]) tested.1.0) written.1.1;

@@ -8,7 +8,6 @@ use Rattle.all_sweep.proofs.unchecked_sweep.begin.Goals as goal
 
 pub deal_lists-requires : goal.deal_lists-requires
 deal_lists-requires c =
-    
     let rooms = c.requires.fact_3 in record {
       fact_1 = c.requires.fact_1.named;
       fact_2 = climbing_held (to_z-of_z w32 c.args.low c.ranges.low) c.requires.fact_2;
@@ -17,13 +16,11 @@ deal_lists-requires c =
 
 pub returns : goal.returns
 returns c =
-    
-    
     let e = to_z-of_z w32 c.args.low c.ranges.low in
-    let heights = c.args.heights.now in 
-    let heads = c.args.heads.now in 
-    let rooms = c.requires.fact_3 in 
-    let dealt = c.deal_lists.ensures.lists in 
+    let heights = c.args.heights.now in
+    let heads = c.args.heads.now in
+    let rooms = c.requires.fact_3 in
+    let dealt = c.deal_lists.ensures.lists in
     let size = c.deal_lists.auto.1.1.1.1.1.1.0 in record {
       lists = begun_sweep c.requires.fact_1 heights e heads rooms.1 rooms.2 dealt size;
       spent = begun_spent c.requires.fact_1 heights e heads rooms.1 rooms.2 dealt size;

@@ -17,7 +17,7 @@ use Rattle.all_sweep.proofs.unchecked_sweep.layers_length.Goals.{Start}
 
 -- what the tests establish, with the lowest z as the loop has it
 tested : (start : Start)
-    → let args = start.args in 
+    → let args = start.args in
     LayersTested (paired args.coords.now args.corners.now args.pairing.now)
     (taken_heights (held args.low) args.heights.now args.count)
     (work args.names.now args.points.now args.ends.now args.marks.now args.ring.now)
@@ -27,15 +27,13 @@ pub number_length-total-requires : goal.number_length-total-requires
 number_length-total-requires c = tt
 
 pub loop-k-init : goal.loop-k-init
-loop-k-init c =
-    (
-      measured_start _ _ (tested (goal.at.loop-k-init c).Start).listed c.number_length-total.ensures.value,
-      (works_none, sweeping_held (to_z-of_z w32 c.args.low c.ranges.low) c.requires.fact_2),
-    )
+loop-k-init c = (
+  measured_start _ _ (tested (goal.at.loop-k-init c).Start).listed c.number_length-total.ensures.value,
+  (works_none, sweeping_held (to_z-of_z w32 c.args.low c.ranges.low) c.requires.fact_2),
+)
 
 pub next_layer-s-requires : goal.next_layer-s-requires
 next_layer-s-requires c =
-    
     let inv = c.loop-k.invariant in record {
       fact_1 = c.requires.fact_1.right;
       fact_2 = works_long c.requires.fact_1.long inv.1.0;
@@ -46,20 +44,14 @@ next_layer-s-requires c =
 
 pub taken_height-h-requires : goal.taken_height-h-requires
 taken_height-h-requires c =
-    
-    
     (tested (goal.at.taken_height-h-requires c).Start).listed.each _ c.loop-k-test.true
 
 pub layer_length-total-requires : goal.layer_length-total-requires
 layer_length-total-requires c =
-    
     FIXME[c at After-next_layer-arg4: at_next.next-layer.ensures.0.tables]
 
 pub overflow_add-total : goal.overflow_add-total
 overflow_add-total c =
-    
-    
-    
     let ready = tested (goal.at.overflow_add-total c).Start in
     record {
       fits = measured_fits _ _ ready.listed ready.right FIXME[c at After-number_length: at_test.before.loop.invariant.0] FIXME[c at After-number_length: at_test.loop-test.true] FIXME[c at After-ring: at_height.taken-height.type-inv]
@@ -68,23 +60,15 @@ overflow_add-total c =
 
 pub overflow_add-k : goal.overflow_add-k
 overflow_add-k c =
-    
-    
-    
     record { fits = omega (arith, FIXME[c at After-number_length: at_test.loop-test.true], c.requires.fact_1.listed.few) }
 
 pub loop-k-smaller : goal.loop-k-smaller
 loop-k-smaller c =
-    
-    
     omega (arith, FIXME[c at After-number_length: at_test.loop-test.true])
 
 pub loop-k-preserved : goal.loop-k-preserved
 loop-k-preserved c =
-    
-    
-    
-    let inv = FIXME[c at After-number_length: at_test.before.loop.invariant] in 
+    let inv = FIXME[c at After-number_length: at_test.before.loop.invariant] in
     let ready = tested (goal.at.loop-k-preserved c).Start in
     let done = FIXME[c at After-next_layer-arg4: at_next.next-layer.ensures] in (
       measured_next _ _ ready.listed ready.right inv.0 FIXME[c at After-number_length: at_test.loop-test.true] FIXME[c at After-ring: at_height.taken-height.type-inv] FIXME[c at After-ring: at_height.taken-height.ensures]

@@ -36,7 +36,6 @@ level at =
 
 pub taken_height-h-requires : goal.taken_height-h-requires
 taken_height-h-requires c =
-    
     (climbing_held (to_z-of_z w32 c.args.low c.ranges.low) c.requires.fact_3).each c.args.k c.requires.fact_5
 
 pub advance-a-requires : goal.advance-a-requires
@@ -44,14 +43,10 @@ advance-a-requires c = advancing (level (goal.at.advance-a-requires c).After-tak
 
 pub outline_crossings-f-requires : goal.outline_crossings-f-requires
 outline_crossings-f-requires c =
-    
-    
     outlinable (level (goal.at.outline_crossings-f-requires c).After-slice_known-4-1) FIXME[c at After-advance-arg: at-advance.advance.ensures] (start_of (goal.at.outline_crossings-f-requires c).After-slice_known-4-1).requires.1.0 refl
 
 pub put_points-requires : goal.put_points-requires
 put_points-requires c =
-    
-    
     let start = start_of (goal.at.put_points-requires c).After-slice_known-3-1 in
     let contours = FIXME[c at After-outline_crossings-arg3: at-outline.outline-crossings.ensures.0] in record {
       fact_1 = points_asked (level (goal.at.put_points-requires c).After-slice_known-3-1) start.args.points.now start.pre.1.0 contours;
@@ -60,26 +55,18 @@ put_points-requires c =
 
 pub bring_into-contours-requires : goal.bring_into-contours-requires
 bring_into-contours-requires c =
-    
-    
-    
     let start = start_of (goal.at.bring_into-contours-requires c).After-slice_known-3-1 in
     level_tables (level (goal.at.bring_into-contours-requires c).After-slice_known-3-1) start.args.points.now start.pre.1.0 FIXME[c at After-outline_crossings-arg3: at-outline.outline-crossings.ensures.0] c.put_points.ensures.left
 
 pub returns : goal.returns
 returns c =
-    
-    
-    
-    
-    
     let v = level (goal.at.returns c).After-slice_known-3-1 in
     let start = start_of (goal.at.returns c).After-slice_known-3-1 in
     let points = start.args.points.now in
     let long = start.pre.1.0 in
-    let o = FIXME[c at After-outline_crossings-arg3: at-outline.outline-crossings.ensures] in 
-    let written = c.put_points.ensures.left in 
-    let list = FIXME[c at After-wide: at-advance.advance.ensures] in 
+    let o = FIXME[c at After-outline_crossings-arg3: at-outline.outline-crossings.ensures] in
+    let written = c.put_points.ensures.left in
+    let list = FIXME[c at After-wide: at-advance.advance.ensures] in
     let left = level_brought v points long o.0 written start.args.profile c.bring_into-contours.ensures.outcome in record {
       layer = level_holds v points long o.0 written list o.1 left;
       work = level_works v points long o.0 written list o.1 left;

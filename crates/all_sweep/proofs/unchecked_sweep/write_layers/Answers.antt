@@ -18,7 +18,7 @@ use Rattle.all_sweep.proofs.unchecked_sweep.write_layers.Goals.{After-next_layer
 
 -- what the tests establish, with the lowest z as the loop has it
 tested : (start : Start)
-    → let args = start.args in 
+    → let args = start.args in
     LayersTested (paired args.coords.now args.corners.now args.pairing.now)
     (taken_heights (held args.low) args.heights.now args.count)
     (work args.names.now args.points.now args.ends.now args.marks.now args.ring.now)
@@ -39,21 +39,17 @@ start_of at_test = at_test.before.before.before.before.before.before.before.befo
 
 pub write_number-p-requires : goal.write_number-p-requires
 write_number-p-requires c =
-    
     number_room c.args.profile _ (tested (goal.at.write_number-p-requires c).Start).listed c.args.output.now c.requires.fact_3
 
 pub loop-i-init : goal.loop-i-init
-loop-i-init c =
-    
-    (
-      wrote_start _ _ (tested (goal.at.loop-i-init c).Start).listed _ c.requires.fact_3 c.write_number-p.ensures.outcome,
-      (works_none, sweeping_held (to_z-of_z w32 c.args.low c.ranges.low) c.requires.fact_2),
-    )
+loop-i-init c = (
+  wrote_start _ _ (tested (goal.at.loop-i-init c).Start).listed _ c.requires.fact_3 c.write_number-p.ensures.outcome,
+  (works_none, sweeping_held (to_z-of_z w32 c.args.low c.ranges.low) c.requires.fact_2),
+)
 
 pub next_layer-s-requires : goal.next_layer-s-requires
 next_layer-s-requires c =
-    
-    let inv = c.loop-i.invariant in 
+    let inv = c.loop-i.invariant in
     let start = start_of (goal.at.next_layer-s-requires c).In-loop-i in record {
       fact_1 = start.pre.0.right;
       fact_2 = works_long start.pre.0.long inv.1.0;
@@ -69,7 +65,6 @@ taken_height-h-requires c =
 
 pub write_layer-p-requires : goal.write_layer-p-requires
 write_layer-p-requires c =
-    
     let at-layer = next_of (goal.at.write_layer-p-requires c).After-ring-1 in
     let at_test = test_of at-layer in
     let layer = at-layer.next-layer.ensures.0 in record {
@@ -117,15 +112,11 @@ shape_of-ring c = c.loop-i.invariant.1.0.ring_spent.same_length
 
 pub shape_of-output : goal.shape_of-output
 shape_of-output c =
-    
-    
     wrote_size _ _ (tested (goal.at.shape_of-output c).Start).listed _ c.requires.fact_3 c.write_number-p.ensures.outcome c.loop-i.invariant.0
 
 pub returns : goal.returns
 returns c =
-    
-    
-    let inv = c.loop-i.invariant in 
+    let inv = c.loop-i.invariant in
     let e = wrote_end _ _ (tested (goal.at.returns c).Start).listed _ c.requires.fact_3 c.write_number-p.ensures.outcome inv.0 c.loop-i-test.false in record {
       value = e.0;
       output_left = e.1;

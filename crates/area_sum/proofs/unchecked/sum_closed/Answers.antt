@@ -24,26 +24,22 @@ overflow_cast-y c = wide_fits c.args.y c.requires.1.1
 
 pub trapezoid-requires : goal.trapezoid-requires
 trapezoid-requires c =
-    
     edge_near (last (goal.at.trapezoid-requires c).Start) (first_summed c.args.s) c.requires.1 c.requires.0.near
 
 pub overflow_add-result : goal.overflow_add-result
 overflow_add-result c =
-    let t = c.trapezoid in 
-    
+    let t = c.trapezoid in
     sum_ok c.requires.0 t.result t.type-inv t.ensures.1
 
 pub trapezoid-requires-2 : goal.trapezoid-requires-2
 trapezoid-requires-2 c =
-    
-    let near = c.requires.0.near in 
+    let near = c.requires.0.near in
     let e = edge_near (first_summed c.args.s) (first_summed c.args.s) near near in
     (e.0, e.1, omega arith, omega arith)
 
 pub overflow_add-result-2 : goal.overflow_add-result-2
 overflow_add-result-2 c =
-    let t = c.trapezoid in 
-    
+    let t = c.trapezoid in
     sum_twice_ok c.requires.0 t.result t.type-inv t.ensures.1
     c.trapezoid-2.result c.trapezoid-2.type-inv c.trapezoid-2.ensures.result.1
 
@@ -51,5 +47,5 @@ pub returns : goal.returns
 returns c =
     let t = c.trapezoid in record {
       value = closes c.args.s (last (goal.at.returns c).Start) c.requires.0 c.requires.1
-    t.result t.type-inv t.ensures.1 t.ensures.0 c.trapezoid-2.result c.trapezoid-2.type-inv c.trapezoid-2.ensures.result.1 c.trapezoid-2.ensures.result.0;
+          t.result t.type-inv t.ensures.1 t.ensures.0 c.trapezoid-2.result c.trapezoid-2.type-inv c.trapezoid-2.ensures.result.1 c.trapezoid-2.ensures.result.0;
     }

@@ -12,9 +12,9 @@ returns-then-not-is_kept c = record { found = end_dropped _ _ _ c.requires.fact_
 
 pub trimmed_end-requires : goal.trimmed_end-requires
 trimmed_end-requires c = record {
-      fact_1 = c.requires.fact_1;
-      fact_2 = kept_some _ _ _ c.requires.fact_1 c.requires.fact_2 c.is_kept.ensures.value (not-false _ c.if-not-is_kept.false-raw);
-    }
+  fact_1 = c.requires.fact_1;
+  fact_2 = kept_some _ _ _ c.requires.fact_1 c.requires.fact_2 c.is_kept.ensures.value (not-false _ c.if-not-is_kept.false-raw);
+}
 
 pub returns : goal.returns
 returns c = record { found = end_kept _ _ _ c.requires.fact_1 c.requires.fact_2 c.is_kept.ensures.value (not-false _ c.if-not-is_kept.false-raw) c.trimmed_end.ensures.found }

@@ -15,19 +15,11 @@ same_point-requires c = tt
 
 pub loop-i-preserved-then-not-same_point : goal.loop-i-preserved-then-not-same_point
 loop-i-preserved-then-not-same_point c =
-    
-    
-    
-    
-    
     copy_next c.loop-i.invariant c.loop-i-test.true (held_is c.u-1.given c.v-1.given) c.same_point.ensures.value
     (not-true _ c.if-not-same_point.true-raw) c.write_point-then-not-same_point.ensures.outcome
 
 pub loop-i-preserved : goal.loop-i-preserved
 loop-i-preserved c =
-    
-    
-    
     copy_skip c.loop-i.invariant c.loop-i-test.true (held_is c.u-1.given c.v-1.given) c.same_point.ensures.value
     (not-false _ c.if-not-same_point.false-raw)
 
@@ -36,6 +28,6 @@ shape_of-table c = omega (arith, c.loop-i.invariant.size)
 
 pub returns : goal.returns
 returns c = record {
-      outcome = run_stands _ _ _ _ c.requires.fact_2 c.requires.fact_1.there (held_is c.x-1.given c.y-1.given) refl c.write_point.ensures.outcome
-    (copy_end c.loop-i.invariant c.loop-i-test.false);
-    }
+  outcome = run_stands _ _ _ _ c.requires.fact_2 c.requires.fact_1.there (held_is c.x-1.given c.y-1.given) refl c.write_point.ensures.outcome
+      (copy_end c.loop-i.invariant c.loop-i-test.false);
+}

@@ -10,9 +10,9 @@ loop-i-init c = seek_start c.requires.fact_2.0
 
 pub returns-then-not-is_either : goal.returns-then-not-is_either
 returns-then-not-is_either c = record {
-      found = seek_hit c.requires.fact_1 c.loop-i.invariant c.loop-i-test.true
-    c.is_either.ensures.value (not-true _ c.if-not-is_either.true-raw);
-    }
+  found = seek_hit c.requires.fact_1 c.loop-i.invariant c.loop-i-test.true
+      c.is_either.ensures.value (not-true _ c.if-not-is_either.true-raw);
+}
 
 pub loop-i-preserved : goal.loop-i-preserved
 loop-i-preserved c =

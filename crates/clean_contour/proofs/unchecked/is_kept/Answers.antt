@@ -18,6 +18,6 @@ first_other-third-requires c = FIXME[fact_1 fact_2] search rules
 
 pub returns : goal.returns
 returns c = record {
-      value = kept_more _ _ _ c.requires.fact_1 (omega (arith, c.if-from-end.false)) c.first_other-second.ensures.found c.if-second-end.false
-    c.first_other-third.ensures.found;
-    }
+  value = kept_more _ _ _ c.requires.fact_1 (omega (arith, c.if-from-end.false)) c.first_other-second.ensures.found c.if-second-end.false
+      c.first_other-third.ensures.found;
+}

@@ -15,21 +15,13 @@ same_point-requires c = tt
 
 pub loop-i-preserved-then-not-same_point : goal.loop-i-preserved-then-not-same_point
 loop-i-preserved-then-not-same_point c =
-    
-    
-    
-    
-    
-    let s = c.loop-i.invariant in 
+    let s = c.loop-i.invariant in
     copy_next s c.loop-i-test.true (held_is c.u-1.given c.v-1.given ∙ copy_read s refl) c.same_point.ensures.value
     (not-true _ c.if-not-same_point.true-raw) c.write_point-then-not-same_point.ensures.outcome
 
 pub loop-i-preserved : goal.loop-i-preserved
 loop-i-preserved c =
-    
-    
-    
-    let s = c.loop-i.invariant in 
+    let s = c.loop-i.invariant in
     copy_skip s c.loop-i-test.true (held_is c.u-1.given c.v-1.given ∙ copy_read s refl) c.same_point.ensures.value
     (not-false _ c.if-not-same_point.false-raw)
 
@@ -38,13 +30,9 @@ shape_of-points c = omega (arith, c.loop-i.invariant.size)
 
 pub returns : goal.returns
 returns c =
-    
-    
-    
-    
-    let room = c.requires.fact_1 in 
+    let room = c.requires.fact_1 in
     let with_point = c.write_point.ensures.outcome in record {
       outcome = run_stands _ _ _ _ c.requires.fact_2 room.there (held_is c.x-1.given c.y-1.given) (moved_part _ _ _ _ _ room.behind with_point)
-    with_point
-    (copy_end c.loop-i.invariant c.loop-i-test.false);
+          with_point
+          (copy_end c.loop-i.invariant c.loop-i-test.false);
     }

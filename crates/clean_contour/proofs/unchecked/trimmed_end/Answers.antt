@@ -12,7 +12,6 @@ returns-then-not-equal_points c = record { found = ending_stop c.requires.fact_1
 
 pub loop-r-preserved : goal.loop-r-preserved
 loop-r-preserved c =
-    
     ending_next c.requires.fact_1 c.loop-r.invariant c.loop-r-test.true c.equal_points.ensures.value (not-false _ c.if-not-equal_points.false-raw)
 
 pub returns : goal.returns

@@ -10,8 +10,6 @@ loop-j-init c = let pre = c.requires in fill_start pre.rise pre.points_room pre.
 
 pub copy_contour-next-requires : goal.copy_contour-next-requires
 copy_contour-next-requires c =
-    
-    
     let loop = c.loop-j in record {
       fact_1 = fill_room loop.invariant c.loop-j-test.true c.wide-end.ensures.value;
       fact_2 = fill_up loop.invariant c.loop-j-test.true c.wide-end.ensures.value;
@@ -19,31 +17,23 @@ copy_contour-next-requires c =
 
 pub overflow_cast-cleanends : goal.overflow_cast-cleanends
 overflow_cast-cleanends c =
-    
-    
-    let loop = c.loop-j in 
+    let loop = c.loop-j in
     let small : c.wide-end.result < 2 ^ 32 = omega (arith, c.wide-end.ensures.value, c.shared_slice_known-in-loop-j-1.given loop.j) in
     omega (arith, fill_next loop.invariant c.loop-j-test.true c.wide-end.ensures.value c.copy_contour-next.ensures.outcome, small)
 
 pub bounds-cleanends-kept : goal.bounds-cleanends-kept
 bounds-cleanends-kept c =
-    
-    
-    let loop = c.loop-j in 
+    let loop = c.loop-j in
     omega (arith, c.loop-j-test.true, loop.invariant.few, loop.invariant.ends_room)
 
 pub loop-j-preserved-then-at-next : goal.loop-j-preserved-then-at-next
 loop-j-preserved-then-at-next c =
-    
-    
-    let loop = c.loop-j in 
+    let loop = c.loop-j in
     fill_kept loop.invariant c.loop-j-test.true c.wide-end.ensures.value c.copy_contour-next.ensures.outcome c.if-at-next.true
 
 pub loop-j-preserved : goal.loop-j-preserved
 loop-j-preserved c =
-    
-    
-    let loop = c.loop-j in 
+    let loop = c.loop-j in
     fill_dropped loop.invariant c.loop-j-test.true c.wide-end.ensures.value c.copy_contour-next.ensures.outcome c.if-at-next.false
 
 pub shape_of-cleanpoints : goal.shape_of-cleanpoints

@@ -10,14 +10,12 @@ loop-j-init c = here_start c.requires
 
 pub bounds-ends-j : goal.bounds-ends-j
 bounds-ends-j c =
-    let loop = c.loop-j in 
+    let loop = c.loop-j in
     omega (arith, c.loop-j-test.true, c.requires.there, fill_ends loop.invariant)
 
 pub move_contour-next-requires : goal.move_contour-next-requires
 move_contour-next-requires c =
-    
-    
-    let loop = c.loop-j in 
+    let loop = c.loop-j in
     let there = c.requires.there in record {
       fact_1 = here_room loop.invariant c.loop-j-test.true there c.wide-end.ensures.value;
       fact_2 = here_up loop.invariant c.loop-j-test.true there c.wide-end.ensures.value;
@@ -25,35 +23,27 @@ move_contour-next-requires c =
 
 pub overflow_cast-ends : goal.overflow_cast-ends
 overflow_cast-ends c =
-    
-    
-    let loop = c.loop-j in 
-    let there = c.requires.there in 
+    let loop = c.loop-j in
+    let there = c.requires.there in
     let small : c.wide-end.result < 2 ^ 32 = omega (arith, c.wide-end.ensures.value, c.slice_known-in-loop-j-1.given loop.j) in
     omega (arith, here_next loop.invariant c.loop-j-test.true there c.wide-end.ensures.value c.move_contour-next.ensures.outcome, small)
 
 pub bounds-ends-kept : goal.bounds-ends-kept
 bounds-ends-kept c =
-    
-    
-    let loop = c.loop-j in 
-    let there = c.requires.there in 
+    let loop = c.loop-j in
+    let there = c.requires.there in
     omega (arith, c.loop-j-test.true, loop.invariant.few, there, fill_ends loop.invariant)
 
 pub loop-j-preserved-then-at-next : goal.loop-j-preserved-then-at-next
 loop-j-preserved-then-at-next c =
-    
-    
-    let loop = c.loop-j in 
-    let there = c.requires.there in 
+    let loop = c.loop-j in
+    let there = c.requires.there in
     here_kept loop.invariant c.loop-j-test.true there c.wide-end.ensures.value c.move_contour-next.ensures.outcome c.if-at-next.true
 
 pub loop-j-preserved : goal.loop-j-preserved
 loop-j-preserved c =
-    
-    
-    let loop = c.loop-j in 
-    let there = c.requires.there in 
+    let loop = c.loop-j in
+    let there = c.requires.there in
     here_dropped loop.invariant c.loop-j-test.true there c.wide-end.ensures.value c.move_contour-next.ensures.outcome c.if-at-next.false
 
 pub shape_of-points : goal.shape_of-points

@@ -34,7 +34,7 @@ overflow_cast-v c = widened c.loop-k.invariant.run _
 
 pub trapezoid-sum-requires : goal.trapezoid-sum-requires
 trapezoid-sum-requires c =
-    let at-loop = c.loop-k in 
+    let at-loop = c.loop-k in
     let s = at-loop.invariant in
     let next = loaded s.run (at-loop.k + 1) in
     search (rules, held_x s s.held, held_y s s.held, held_x s next, held_y s next)
@@ -44,14 +44,13 @@ overflow_add-sum c = sum_ok c.loop-k.invariant c.trapezoid-sum.result c.trapezoi
 
 pub loop-k-preserved : goal.loop-k-preserved
 loop-k-preserved c =
-    
-    let at-loop = c.loop-k in 
+    let at-loop = c.loop-k in
     let next = loaded at-loop.invariant.run (at-loop.k + 1) in
     again at-loop.invariant c.trapezoid-sum.result c.trapezoid-sum.type-inv c.trapezoid-sum.ensures.result.1 next c.trapezoid-sum.ensures.result.0 c.loop-k-test.true
 
 pub trapezoid-requires : goal.trapezoid-requires
 trapezoid-requires c =
-    let s = c.loop-k.invariant in 
+    let s = c.loop-k.invariant in
     let first = loaded s.run 0 in
     search (rules, held_x s s.held, held_y s s.held, held_x s first, held_y s first)
 
@@ -60,5 +59,5 @@ overflow_add-result c = sum_ok c.loop-k.invariant c.trapezoid.result c.trapezoid
 
 pub returns : goal.returns
 returns c =
-    let s = c.loop-k.invariant in 
+    let s = c.loop-k.invariant in
     let first = loaded s.run 0 in record { value = closed s c.trapezoid.result c.trapezoid.type-inv c.trapezoid.ensures.result.1 first c.trapezoid.ensures.result.0 c.loop-k-test.false }

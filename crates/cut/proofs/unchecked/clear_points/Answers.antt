@@ -30,6 +30,5 @@ shape_of-t c = let v = c.loop-i.invariant in ap length v.2 ∙ length_refill _ _
 
 pub returns : goal.returns
 returns c =
-    
-    let v = c.loop-i.invariant in 
+    let v = c.loop-i.invariant in
     let e : c.loop-i.i ≡ c.args.n = omega arith in record { left = v.2 ∙ ap (λ (k : ℕ). refill k (λ i. pos 0) c.args.t.now) e ∙ ap (λ (l : List ℤ). overwrite l c.args.t.now) (tabulate_const _ _) }

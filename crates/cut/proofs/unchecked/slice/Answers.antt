@@ -16,8 +16,6 @@ link_at-requires c = FIXME[fact_1 fact_2 fact_3] search rules
 
 pub outline_rings-requires : goal.outline_rings-requires
 outline_rings-requires c =
-    
-    
     let m = paired c.args.coords.now c.args.corners.now c.args.pairing.now in record {
       fact_1 = outlined m (held c.args.h) c.requires.fact_1 _ _ c.link_at.ensures.left;
       fact_2 = long_links c.requires.fact_2 c.link_at.auto.1.1.1.1.0;
@@ -25,13 +23,10 @@ outline_rings-requires c =
 
 pub returns : goal.returns
 returns c =
-    
-    
-    
     let m = paired c.args.coords.now c.args.corners.now c.args.pairing.now in
     let t = lent c.args.names.now c.args.points.now c.args.ends.now c.args.marks.now in
     let left = c.outline_rings.new.marks in record {
       outcome = subst (λ (z : ℤ). Traces (section m z) m.mesh z t c.outline_rings.result (lent left.0 left.1.0 left.1.1.0 left.1.1.1.0))
-    (to_z-of_z w32 c.args.h c.ranges.h)
-    (sliced m (held c.args.h) c.requires.fact_1 _ _ c.link_at.ensures.left c.outline_rings.ensures.outcome);
+          (to_z-of_z w32 c.args.h c.ranges.h)
+          (sliced m (held c.args.h) c.requires.fact_1 _ _ c.link_at.ensures.left c.outline_rings.ensures.outcome);
     }

@@ -20,8 +20,6 @@ returns-then-not-no_links c = record { sought = c.loop-d.invariant }
 
 pub overflow_add-d-in-loop-d : goal.overflow_add-d-in-loop-d
 overflow_add-d-in-loop-d c =
-    
-    
     omega (arith, c.loop-d.invariant.upto, c.requires.few)
 
 pub loop-d-smaller : goal.loop-d-smaller
@@ -29,8 +27,6 @@ loop-d-smaller c = omega (arith, c.loop-d-test.true)
 
 pub loop-d-preserved : goal.loop-d-preserved
 loop-d-preserved c =
-    
-    
     sought_more c.loop-d.invariant (c.loop-d.d + 4) (omega arith) c.loop-d-test.true
     (c.no_links.ensures.sound (not-false _ c.if-not-no_links.false-raw))
 

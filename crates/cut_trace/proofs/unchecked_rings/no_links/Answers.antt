@@ -14,25 +14,17 @@ small c i = (c.shared_slice_known-1.given i).fits
 
 pub overflow_add-a : goal.overflow_add-a
 overflow_add-a c =
-    
-    
-    let at = c.args.c in 
+    let at = c.args.c in
     omega (arith, c.wide.ensures.value, c.wide-2.ensures.value, small (goal.at.overflow_add-a c).After-shared_slice_known-1 at, small (goal.at.overflow_add-a c).After-shared_slice_known-1 (at + 1))
 
 pub overflow_add-b : goal.overflow_add-b
 overflow_add-b c =
-    
-    
-    let at = c.args.c in 
+    let at = c.args.c in
     omega (arith, c.wide-3.ensures.value, c.wide-4.ensures.value, small (goal.at.overflow_add-b c).After-shared_slice_known-1 (at + 2), small (goal.at.overflow_add-b c).After-shared_slice_known-1 (at + 3))
 
 pub overflow_add-result : goal.overflow_add-result
 overflow_add-result c =
-    
-    
-    
-    
-    let at = c.args.c in 
+    let at = c.args.c in
     omega (
       arith,
       c.wide.ensures.value,
@@ -47,6 +39,6 @@ overflow_add-result c =
 
 pub returns : goal.returns
 returns c = record {
-      sound = λ e. four_none c.args.links.now c.args.c (small (goal.at.returns c).After-shared_slice_known-1)
-    c.wide.ensures.value c.wide-2.ensures.value c.wide-3.ensures.value c.wide-4.ensures.value (eqb-true _ _ e);
-    }
+  sound = λ e. four_none c.args.links.now c.args.c (small (goal.at.returns c).After-shared_slice_known-1)
+      c.wide.ensures.value c.wide-2.ensures.value c.wide-3.ensures.value c.wide-4.ensures.value (eqb-true _ _ e);
+}

@@ -16,19 +16,16 @@ offset_bounds-links-d c = omega (arith, c.loop-d-test.true, c.requires.few)
 
 pub bounds-links-d : goal.bounds-links-d
 bounds-links-d c =
-    
     omega (arith, c.loop-d-test.true, c.requires.there)
 
 pub returns-then-links-d : goal.returns-then-links-d
 returns-then-links-d c = record {
-      sought = c.loop-d.invariant;
-      result = λ l. c.if-links-d.true;
-    }
+  sought = c.loop-d.invariant;
+  result = λ l. c.if-links-d.true;
+}
 
 pub overflow_add-d : goal.overflow_add-d
 overflow_add-d c =
-    
-    
     omega (arith, c.loop-d-test.true, c.requires.few)
 
 pub loop-d-smaller : goal.loop-d-smaller
@@ -36,14 +33,11 @@ loop-d-smaller c = omega (arith, c.loop-d-test.true)
 
 pub loop-d-preserved : goal.loop-d-preserved
 loop-d-preserved c =
-    
-    
-    
     sought_more c.loop-d.invariant (c.loop-d.d + 1) (omega arith) (omega (arith, c.loop-d-test.true))
     (one_none c.args.links.now c.loop-d.d c.if-links-d.false)
 
 pub returns : goal.returns
 returns c = record {
-      sought = c.loop-d.invariant;
-      result = λ l. absurd (omega (arith, l, c.loop-d-test.false));
-    }
+  sought = c.loop-d.invariant;
+  result = λ l. absurd (omega (arith, l, c.loop-d-test.false));
+}

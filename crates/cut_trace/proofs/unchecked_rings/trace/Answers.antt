@@ -15,18 +15,15 @@ use Rattle.cut_trace.proofs.unchecked_rings.trace.Goals.{In-Met-1}
 
 pub seek-c-requires : goal.seek-c-requires
 seek-c-requires c =
-    
     record { begins = omega arith; few = c.requires.few; there = c.requires.links_room }
 
 pub loop-c-init : goal.loop-c-init
 loop-c-init c =
-    
     (tracing_pass (tracing_start c.requires) c.seek-c.ensures.sought, c.seek-c.ensures.result)
 
 pub walk-w-requires : goal.walk-w-requires
 walk-w-requires c =
-    
-    let inv = c.loop-c.invariant in 
+    let inv = c.loop-c.invariant in
     walkable inv.0 c.loop-c-test.true (inv.1 c.loop-c-test.true)
 
 closed_same : {r : WalkAnswer} {a b : ℕ} → r ≡ Closed a → r ≡ Closed b → a ≡ b
@@ -35,7 +32,6 @@ closed_same p q = cc
 -- refusal 16: the walk's contract leaves no such case
 dead : (c : In-Met-1) → ⊥
 dead c =
-    
     let z : ◌≡◌ {A = ℕ} 0 1 = sym (ap (tag_of (declared enum)) c.walk-w.ensures.value) ∙ c.in-Met.keys2 in
     omega arith
 
@@ -44,27 +40,22 @@ enum_known-w c = c.in-Closed.keys1
 
 pub overflow_cast-ends : goal.overflow_cast-ends
 overflow_cast-ends c =
-    
-    
-    let inv = c.loop-c.invariant in 
+    let inv = c.loop-c.invariant in
     let is = closed_same c.in-Closed.is c.walk-w.ensures.value in
     omega (arith, is, end_few inv.0 c.loop-c-test.true (inv.1 c.loop-c-test.true), inv.0.given.few)
 
 pub offset_bounds-ends-j : goal.offset_bounds-ends-j
 offset_bounds-ends-j c =
-    
-    let w = c.loop-c.invariant.0 in 
+    let w = c.loop-c.invariant.0 in
     omega (arith, w.at_j, w.begun.few, w.given.few, w.upto)
 
 pub bounds-ends-j : goal.bounds-ends-j
 bounds-ends-j c =
-    
     j_inside c.loop-c.invariant.0 c.loop-c-test.true
 
 pub overflow_add-j : goal.overflow_add-j
 overflow_add-j c =
-    
-    let w = c.loop-c.invariant.0 in 
+    let w = c.loop-c.invariant.0 in
     omega (arith, w.at_j, w.begun.few, w.given.few, w.upto)
 
 pub enum_known-w-in-Met-1 : goal.enum_known-w-in-Met-1
@@ -75,17 +66,14 @@ wipe-requires c = absurd (dead (goal.at.wipe-requires c).In-Met-1)
 
 pub shape_of-links-in-Met : goal.shape_of-links-in-Met
 shape_of-links-in-Met c =
-    
     absurd (dead (goal.at.shape_of-links-in-Met c).In-Met-1)
 
 pub shape_of-names-in-Met : goal.shape_of-names-in-Met
 shape_of-names-in-Met c =
-    
     absurd (dead (goal.at.shape_of-names-in-Met c).In-Met-1)
 
 pub shape_of-ends-in-Met : goal.shape_of-ends-in-Met
 shape_of-ends-in-Met c =
-    
     absurd (dead (goal.at.shape_of-ends-in-Met c).In-Met-1)
 
 pub returns-in-Met : goal.returns-in-Met
@@ -109,7 +97,6 @@ walked c =
 
 pub overflow_add-c : goal.overflow_add-c
 overflow_add-c c =
-    
     omega (arith, FIXME[c at At-loop: at_test.loop-test.true], FIXME[c at At-loop: at_test.before.loop.invariant.0.given.few])
 
 pub seek-c-requires-in-loop-c : goal.seek-c-requires-in-loop-c
@@ -119,7 +106,6 @@ seek-c-requires-in-loop-c c =
 
 pub loop-c-smaller : goal.loop-c-smaller
 loop-c-smaller c =
-    
     omega (arith, FIXME[c at At-loop: at_test.loop-test.true], c.seek-c-in-loop-c.ensures.sought.onward)
 
 pub loop-c-preserved : goal.loop-c-preserved
@@ -130,7 +116,6 @@ fill-requires c = let w = c.loop-c.invariant.0 in omega (arith, w.given.links_ro
 
 pub shape_of-links : goal.shape_of-links
 shape_of-links c =
-    
     c.fill.auto.0 ∙ links_length c.loop-c.invariant.0
 
 pub shape_of-names : goal.shape_of-names
@@ -141,6 +126,4 @@ shape_of-ends c = ends_length c.loop-c.invariant.0
 
 pub returns : goal.returns
 returns c =
-    
-    
     let done = traced c.loop-c.invariant.0 c.loop-c-test.false c.fill.ensures.left in FIXME[value names_left ends_left links_left] (done.0, done.1)

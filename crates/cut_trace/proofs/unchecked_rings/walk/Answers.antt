@@ -45,7 +45,6 @@ shape_of-names-then-d-start c = let l = c.loop-start in length-set l.names l.k l
 
 pub returns-then-d-start : goal.returns-then-d-start
 returns-then-d-start c =
-    
     let e = walking_end c.loop-start.invariant c.wide-d.ensures.value c.if-d-start.true in FIXME[value names_left links_left] (ap Closed e.0, e.1)
 
 pub offset_bounds-links-d : goal.offset_bounds-links-d
@@ -56,14 +55,12 @@ bounds-links-d c = d_inside c.loop-start.invariant c.wide-d.ensures.value
 
 pub shape_of-links-then-links-d : goal.shape_of-links-then-links-d
 shape_of-links-then-links-d c =
-    
-    let l = c.loop-start in 
+    let l = c.loop-start in
     length-set l.links l.c no_corner ∙ links_length l.invariant
 
 pub shape_of-names-then-links-d : goal.shape_of-names-then-links-d
 shape_of-names-then-links-d c =
-    
-    let l = c.loop-start in 
+    let l = c.loop-start in
     length-set l.names l.k l.c ∙ names_length l.invariant
 
 pub returns-then-links-d : goal.returns-then-links-d
@@ -71,12 +68,8 @@ returns-then-links-d c = FIXME[value names_left links_left] absurd (never_met (w
 
 pub loop-start-smaller : goal.loop-start-smaller
 loop-start-smaller c =
-    
     omega (arith, k_inside c.loop-start.invariant, names_length c.loop-start.invariant)
 
 pub loop-start-preserved : goal.loop-start-preserved
 loop-start-preserved c =
-    
-    
-    
     walking_next c.loop-start.invariant c.wide-d.ensures.value c.if-d-start.false

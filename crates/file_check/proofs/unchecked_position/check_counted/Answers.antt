@@ -17,7 +17,7 @@ returns-in_default c = record { value = no_contours _ _ _ c.requires (sym c.read
 
 -- the count read
 count : (c : In-Value)
-    → 
+    →
     number_at largest_word c.args.file.now c.args.at
     ≡ Value c.in-Value.count c.in-Value.next
 count c = sym c.read_number-n.ensures.value ∙ c.in-Value.is
@@ -27,16 +27,13 @@ check_contours-c-requires c = (took (count (goal.at.check_contours-c-requires c)
 
 pub overflow_sub-result : goal.overflow_sub-result
 overflow_sub-result c =
-    
-    
-    
     room_low c.args.profile _ _ c.requires (count (goal.at.overflow_sub-result c).In-Value) (sym c.check_contours-c.ensures.value ∙ c.in-End.is)
 
 pub returns-in-End : goal.returns-in-End
 returns-in-End c = record {
-      value = contours_pass _ _ _ c.requires (count (goal.at.returns-in-End c).In-Value) (sym c.check_contours-c.ensures.value ∙ c.in-End.is)
-    (same w64 c.in-End.sum (omega arith));
-    }
+  value = contours_pass _ _ _ c.requires (count (goal.at.returns-in-End c).In-Value) (sym c.check_contours-c.ensures.value ∙ c.in-End.is)
+      (same w64 c.in-End.sum (omega arith));
+}
 
 pub returns-in-Refused : goal.returns-in-Refused
 returns-in-Refused c = record { value = contours_stop _ _ _ c.requires (count (goal.at.returns-in-Refused c).In-Value) (sym c.check_contours-c.ensures.value ∙ c.in-Refused.is) }

@@ -30,19 +30,17 @@ check_layer-l-requires c = c.loop-left.invariant.inside
 
 pub returns-in-Refused : goal.returns-in-Refused
 returns-in-Refused c = record {
-      value = as-given (goal.at.returns-in-Refused c).Start
-    (layer_stops _ c.loop-left.invariant c.loop-left-test.true (sym c.check_layer-l.ensures.value ∙ c.in-Refused.is));
-    }
+  value = as-given (goal.at.returns-in-Refused c).Start
+      (layer_stops _ c.loop-left.invariant c.loop-left-test.true (sym c.check_layer-l.ensures.value ∙ c.in-Refused.is));
+}
 
 pub loop-left-preserved : goal.loop-left-preserved
 loop-left-preserved c =
-    
-    
     layer_passes _ c.loop-left.invariant c.loop-left-test.true (sym c.check_layer-l.ensures.value ∙ c.in-End.is)
     (same w64 c.in-End.z (omega arith))
 
 pub returns : goal.returns
 returns c = record {
-      value = as-given (goal.at.returns c).Start
-    (run_end (layer_format_in c.args.profile) height_of (λ z next. End next z) Refused _ _ c.loop-left.invariant c.loop-left-test.false);
-    }
+  value = as-given (goal.at.returns c).Start
+      (run_end (layer_format_in c.args.profile) height_of (λ z next. End next z) Refused _ _ c.loop-left.invariant c.loop-left-test.false);
+}

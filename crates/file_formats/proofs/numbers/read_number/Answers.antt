@@ -24,16 +24,10 @@ returns-then-rest-b c = record { value = too_large c.loop-i.invariant c.loop-i-t
 
 pub overflow_mul-result : goal.overflow_mul-result
 overflow_mul-result c =
-    
-    
-    
     omega (arith, group_fits c.loop-i.invariant c.wide_byte-b.result c.if-rest-b.false, c.ranges.top.fits)
 
 pub overflow_add-result : goal.overflow_add-result
 overflow_add-result c =
-    
-    
-    
     omega (arith, group_fits c.loop-i.invariant c.wide_byte-b.result c.if-rest-b.false, c.ranges.top.fits)
 
 pub returns-then-b-lt128 : goal.returns-then-b-lt128
@@ -45,9 +39,6 @@ returns-then-rest-lt128 c = record { value = too_many_lem c.loop-i.invariant c.l
 -- a byte, and its group, which is below what is left
 byte : (c : Else-rest-lt128) → c.wide_byte-b.result < 256
 byte c =
-    
-    
-    
     omega (
       arith,
       c.wide_byte-b.ensures.value,
@@ -56,29 +47,20 @@ byte c =
     )
 
 low : (c : Else-rest-lt128)
-    → 
-    
+    →
     c.wide_byte-b.result - 128 ≤ c.loop-i.rest
 low c = omega (arith, byte c, c.if-rest-lt128.false)
 
 pub overflow_mul-value : goal.overflow_mul-value
 overflow_mul-value c =
-    
-    
-    
     omega (arith, group_fits c.loop-i.invariant (c.wide_byte-b.result - 128) (low (goal.at.overflow_mul-value c).Else-rest-lt128), c.ranges.top.fits)
 
 pub overflow_add-value : goal.overflow_add-value
 overflow_add-value c =
-    
-    
-    
     omega (arith, group_fits c.loop-i.invariant (c.wide_byte-b.result - 128) (low (goal.at.overflow_add-value c).Else-rest-lt128), c.ranges.top.fits)
 
 pub overflow_mul-unit : goal.overflow_mul-unit
 overflow_mul-unit c =
-    
-    
     omega (arith, group_fits c.loop-i.invariant 128 c.if-rest-lt128.false, c.ranges.top.fits)
 
 pub overflow_sub-rest : goal.overflow_sub-rest
@@ -86,9 +68,6 @@ overflow_sub-rest c = low (goal.at.overflow_sub-rest c).Else-rest-lt128
 
 pub loop-i-preserved : goal.loop-i-preserved
 loop-i-preserved c =
-    
-    
-    
     next c.loop-i.invariant c.loop-i-test.true c.wide_byte-b.ensures.value c.if-b-lt128.false (byte (goal.at.loop-i-preserved c).Else-rest-lt128) c.if-rest-lt128.false
 
 pub returns : goal.returns

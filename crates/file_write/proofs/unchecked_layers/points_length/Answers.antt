@@ -26,12 +26,6 @@ number_length-requires-in-loop-k c = tt
 -- the two numbers of a point take at most ten bytes
 short : (c : After-number_length-in-loop-k) → c.number_length.result + c.number_length-in-loop-k.result ≤ 10
 short c =
-    
-    
-    
-    
-    
-    
     point_short c.loop-k.invariant c.loop-k-test.true
     (same w32 _ c.nx-1.given) (same w32 _ c.ny-1.given)
     c.nx-1.given c.ny-1.given
@@ -46,12 +40,6 @@ overflow_add-total-in-loop-k c = omega (arith, short (goal.at.overflow_add-total
 
 pub loop-k-preserved : goal.loop-k-preserved
 loop-k-preserved c =
-    
-    
-    
-    
-    
-    
     points_next c.loop-k.invariant c.loop-k-test.true (same w32 _ c.nx-1.given) (same w32 _ c.ny-1.given) c.nx-1.given
     c.ny-1.given c.difference.ensures.value c.difference-in-loop-k.ensures.value c.number_length.ensures.value
     c.number_length-in-loop-k.ensures.value

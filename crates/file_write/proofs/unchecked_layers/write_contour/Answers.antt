@@ -9,8 +9,6 @@ write_number-p-requires c = first_room c.args.output.now _ (row_bytes c.args.poi
 
 pub write_points-requires : goal.write_points-requires
 write_points-requires c =
-    
-    
     rest_room c.args.output.now _ (row_bytes c.args.points.now) c.requires c.write_number-p.ensures.outcome
 
 pub returns : goal.returns

@@ -18,36 +18,16 @@ difference-dy-requires c = tt
 
 pub write_number-q-requires : goal.write_number-q-requires
 write_number-q-requires c =
-    
-    
-    
-    
-    
     x_room c.loop-k.invariant c.loop-k-test.true (same w32 _ c.nx-1.given) (same w32 _ c.ny-1.given)
     c.difference-dx.ensures.value c.difference-dy.ensures.value
 
 pub write_number-p-requires : goal.write_number-p-requires
 write_number-p-requires c =
-    
-    
-    
-    
-    
-    
-    
     y_room c.loop-k.invariant c.loop-k-test.true (same w32 _ c.nx-1.given) (same w32 _ c.ny-1.given)
     c.difference-dx.ensures.value c.difference-dy.ensures.value c.write_number-q.ensures.outcome
 
 pub loop-k-preserved : goal.loop-k-preserved
 loop-k-preserved c =
-    
-    
-    
-    
-    
-    
-    
-    
     points_next c.loop-k.invariant c.loop-k-test.true (same w32 _ c.nx-1.given) (same w32 _ c.ny-1.given)
     c.difference-dx.ensures.value c.difference-dy.ensures.value c.write_number-q.ensures.outcome
     c.write_number-p.ensures.outcome

@@ -7,8 +7,8 @@ use Rattle.inside.proofs.unchecked.is_within.Goals.{After-struct_told-1}
 -- what is told of the extent's parts, and of x and y
 words : (c : After-struct_told-1) → let args = c.args in ExtentWords args.e (point args.x args.y)
 words c =
-    let told = c.struct_told-1.given in 
-    let fits = c.ranges in 
+    let told = c.struct_told-1.given in
+    let fits = c.ranges in
     record {
       x_in = fits.x.sfits;
       y_in = fits.y.sfits;

@@ -19,27 +19,23 @@ bounds-contour-1 c = omega (arith, c.requires.0.even, c.requires.1)
 
 pub loop-k-init : goal.loop-k-init
 loop-k-init c =
-    
-    let pre = c.requires in 
+    let pre = c.requires in
     counted_start (point c.args.x c.args.y) pre.0 pre.2 (omega (arith, pre.0.even, pre.1))
 
 pub edge_counts-requires : goal.edge_counts-requires
 edge_counts-requires c =
-    let at-loop = c.loop-k in 
+    let at-loop = c.loop-k in
     let s = at-loop.invariant in
     search (rules, s.near, at_near s, near_loaded s.run (at-loop.k + 1))
 
 pub overflow_add-n : goal.overflow_add-n
 overflow_add-n c =
-    
-    let s = c.loop-k.invariant in 
+    let s = c.loop-k.invariant in
     omega (arith, counted_few s, tally_few c.edge_counts.result c.one_if-n.ensures.value)
 
 pub loop-k-preserved : goal.loop-k-preserved
 loop-k-preserved c =
-    
-    
-    let at-loop = c.loop-k in 
+    let at-loop = c.loop-k in
     let next = point_loaded at-loop.invariant.run (at-loop.k + 1) in
     counted_again at-loop.invariant next c.edge_counts.ensures.value c.one_if-n.ensures.value c.loop-k-test.true
 
@@ -48,14 +44,11 @@ edge_counts-requires-2 c = let s = c.loop-k.invariant in search (rules, s.near, 
 
 pub overflow_add-n-2 : goal.overflow_add-n-2
 overflow_add-n-2 c =
-    
     omega (arith, counted_few c.loop-k.invariant, tally_few c.edge_counts-2.result c.one_if-n-2.ensures.value)
 
 pub returns : goal.returns
 returns c =
-    
-    
     let s = c.loop-k.invariant in record {
       value = counted_round s (point_loaded s.run 0) c.edge_counts-2.ensures.value c.one_if-n-2.ensures.value c.loop-k-test.false
-    ∙ back_lies _ c.requires.2 _;
+          ∙ back_lies _ c.requires.2 _;
     }

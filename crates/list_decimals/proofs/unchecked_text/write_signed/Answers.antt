@@ -34,7 +34,6 @@ write_decimal-requires c = below_room (neg (goal.at.write_decimal-requires c).Th
 
 pub shape_of-output-then-z-lt0 : goal.shape_of-output-then-z-lt0
 shape_of-output-then-z-lt0 c =
-    
     put_length c.write_decimal.ensures.outcome ∙ length-set c.args.output.now c.args.at _
 
 pub returns-then-z-lt0 : goal.returns-then-z-lt0

@@ -12,12 +12,10 @@ contour_area-sum-requires c = c.requires.each _ c.loop-i-test.true
 
 pub overflow_add-sum : goal.overflow_add-sum
 overflow_add-sum c =
-    
     sum_fits c.requires c.loop-i.invariant c.loop-i-test.true _ c.contour_area-sum.type-inv c.contour_area-sum.ensures.value
 
 pub loop-i-preserved : goal.loop-i-preserved
 loop-i-preserved c =
-    
     summed_next c.requires c.loop-i.invariant c.loop-i-test.true _ c.contour_area-sum.type-inv c.contour_area-sum.ensures.value
 
 pub returns : goal.returns

@@ -10,12 +10,9 @@ use Rattle.list_part.proofs.unchecked.list_part.Goals.{In-Fine}
 
 -- the pairing has room for the corners, where the tests refuse nothing
 room : (c : In-Fine)
-    → 
-    
+    →
     length c.args.corners.now ≤ length c.part_test-v.new.1.1.1.0
 room c =
-    
-    
     pairing_room _ c.part_test-v.ensures.outcome (ap tell_verdict c.in-Fine.is) c.part_test-v.auto.1.1.1.0 c.requires.fact_1.pairing_size
 
 pub slice_bounds-list_layers-end : goal.slice_bounds-list_layers-end
@@ -26,10 +23,7 @@ slice_bounds-list_layers-end-in-Fine c = front_length _ _ (room (goal.at.slice_b
 
 pub list_layers-requires : goal.list_layers-requires
 list_layers-requires c =
-    
-    
-    
-    let tested = FIXME[c at After-part_test-arg2: at_test.part-test.ensures] in 
+    let tested = FIXME[c at After-part_test-arg2: at_test.part-test.ensures] in
     let nothing = ap tell_verdict FIXME[c at At-match-keys1: at-fine.enum_told.given.1] in record {
       fact_1 = (listable_part _ tested nothing).listable;
       fact_2 = workable _ tested nothing c.requires.fact_1;

@@ -10,12 +10,12 @@ returns-then-beyond c = record { outcome = limit_stop _ (sym c.beyond.ensures.va
 
 pub returns-in-Accepted : goal.returns-in-Accepted
 returns-in-Accepted c = record {
-      outcome = heights_next _ (sym c.beyond.ensures.value ∙ c.if-beyond.false) c.check-a.ensures.outcome c.requires.0 c.requires.1
-    (ap tell_check c.in-Accepted.is) c.heights_test.ensures.told;
-    }
+  outcome = heights_next _ (sym c.beyond.ensures.value ∙ c.if-beyond.false) c.check-a.ensures.outcome c.requires.0 c.requires.1
+      (ap tell_check c.in-Accepted.is) c.heights_test.ensures.told;
+}
 
 pub returns-in-Refused : goal.returns-in-Refused
 returns-in-Refused c = record {
-      outcome = check_stop _ (sym c.beyond.ensures.value ∙ c.if-beyond.false) c.check-a.ensures.outcome c.requires.0 c.requires.1
-    (ap tell_check c.in-Refused.is);
-    }
+  outcome = check_stop _ (sym c.beyond.ensures.value ∙ c.if-beyond.false) c.check-a.ensures.outcome c.requires.0 c.requires.1
+      (ap tell_check c.in-Refused.is);
+}

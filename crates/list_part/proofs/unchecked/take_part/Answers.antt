@@ -11,12 +11,12 @@ returns-then-input-gt-MOST_INPUT c = record { outcome = long_stop _ _ c.if-input
 
 pub returns-in-Counts : goal.returns-in-Counts
 returns-in-Counts c = record {
-      outcome = read_counts c.read_part-a.ensures.outcome (λ i h. (c.shared_slice_known-1.given i).fits) (omega (arith, c.if-input-gt-MOST_INPUT.false))
-    (ap tell_read_part c.in-Counts.is);
-    }
+  outcome = read_counts c.read_part-a.ensures.outcome (λ i h. (c.shared_slice_known-1.given i).fits) (omega (arith, c.if-input-gt-MOST_INPUT.false))
+      (ap tell_read_part c.in-Counts.is);
+}
 
 pub returns-in-Refused : goal.returns-in-Refused
 returns-in-Refused c = record {
-      outcome = read_stop c.read_part-a.ensures.outcome (λ i h. (c.shared_slice_known-1.given i).fits) (omega (arith, c.if-input-gt-MOST_INPUT.false))
-    c.limited.result c.requires (ap tell_read_part c.in-Refused.is) c.limited.ensures.result;
-    }
+  outcome = read_stop c.read_part-a.ensures.outcome (λ i h. (c.shared_slice_known-1.given i).fits) (omega (arith, c.if-input-gt-MOST_INPUT.false))
+      c.limited.result c.requires (ap tell_read_part c.in-Refused.is) c.limited.ensures.result;
+}

@@ -16,7 +16,6 @@ returns-then-names_twice c = record { value = scan_hit c.loop-t.invariant.0 (ome
 
 pub loop-t-preserved : goal.loop-t-preserved
 loop-t-preserved c =
-    
     (scan_miss c.loop-t.invariant.0 (omega arith) (sym c.names_twice.ensures.value ∙ c.if-names_twice.false), c.loop-t.invariant.1)
 
 pub returns : goal.returns

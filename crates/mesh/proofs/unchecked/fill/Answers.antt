@@ -23,7 +23,6 @@ bounds-t-i c = let l = filled (goal.at.bounds-t-i c).In-loop-i in omega arith
 
 pub loop-i-preserved : goal.loop-i-preserved
 loop-i-preserved c =
-    
     let v = c.loop-i.invariant in (omega arith, v.1, (λ k. set (v.2 k) c.loop-i.i c.args.x) ∙ refill_more _ _ _ (omega arith))
 
 pub shape_of-t : goal.shape_of-t
@@ -31,8 +30,7 @@ shape_of-t c = let v = c.loop-i.invariant in ap length v.2 ∙ length_refill _ _
 
 pub returns : goal.returns
 returns c =
-    
     let v = c.loop-i.invariant in let e : c.loop-i.i ≡ c.args.n = omega arith in record {
       left = v.2 ∙ ap
-    (λ (k : ℕ). refill k (λ i. c.args.x) c.args.t.now) e ∙ ap (λ (l : List ℕ). overwrite l c.args.t.now) (tabulate_const _ _);
+          (λ (k : ℕ). refill k (λ i. c.args.x) c.args.t.now) e ∙ ap (λ (l : List ℕ). overwrite l c.args.t.now) (tabulate_const _ _);
     }

@@ -20,7 +20,6 @@ returns-then-not-goes_on c = record { value = risen_is _ _ c.loop-m.m c.loop-m-t
 
 pub loop-m-preserved : goal.loop-m-preserved
 loop-m-preserved c =
-    
     (omega (arith, c.loop-m-test.true), below_more _ _ c.loop-m.invariant.1 (sym c.goes_on.ensures.value ∙ not-false _ c.if-not-goes_on.false-raw))
 
 pub returns : goal.returns

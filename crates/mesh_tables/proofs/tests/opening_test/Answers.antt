@@ -13,26 +13,25 @@ returns-in-Refused c = record { told = verdict_stop _ _ c.one_mesh_test-a.ensure
 
 pub returns-then-not-few : goal.returns-then-not-few
 returns-then-not-few c = record {
-      told = verdict_next _ _ c.one_mesh_test-a.ensures.told (ap tell_verdict c.in_default.is)
-    (verdict_stop _ _ (whole_refused (refusal 1) _ c.if-not-few.true-raw) refl);
-    }
+  told = verdict_next _ _ c.one_mesh_test-a.ensures.told (ap tell_verdict c.in_default.is)
+      (verdict_stop _ _ (whole_refused (refusal 1) _ c.if-not-few.true-raw) refl);
+}
 
 pub returns-then-not-room : goal.returns-then-not-room
 returns-then-not-room c = record {
-      told = verdict_next _ _ c.one_mesh_test-a.ensures.told (ap tell_verdict c.in_default.is)
-    (verdict_next _ _ (whole_fine (refusal 1) _ c.if-not-few.false-raw) refl
-    (verdict_stop _ _ (whole_refused (refusal 9) _ c.if-not-room.true-raw) refl));
-    }
+  told = verdict_next _ _ c.one_mesh_test-a.ensures.told (ap tell_verdict c.in_default.is)
+      (verdict_next _ _ (whole_fine (refusal 1) _ c.if-not-few.false-raw) refl
+      (verdict_stop _ _ (whole_refused (refusal 9) _ c.if-not-room.true-raw) refl));
+}
 
 pub content_test-requires : goal.content_test-requires
 content_test-requires c =
-    
     let passed = fine_nowhere _ (sym c.one_mesh_test-a.ensures.told ∙ ap tell_verdict c.in_default.is) in
     sizes_whole _ _ (not-false _ (passed 0 (omega arith)))
 
 pub returns : goal.returns
 returns c = record {
-      told = verdict_next _ _ c.one_mesh_test-a.ensures.told (ap tell_verdict c.in_default.is)
-    (verdict_next _ _ (whole_fine (refusal 1) _ c.if-not-few.false-raw) refl
-    (verdict_next _ _ (whole_fine (refusal 9) _ c.if-not-room.false-raw) refl c.content_test.ensures.told));
-    }
+  told = verdict_next _ _ c.one_mesh_test-a.ensures.told (ap tell_verdict c.in_default.is)
+      (verdict_next _ _ (whole_fine (refusal 1) _ c.if-not-few.false-raw) refl
+      (verdict_next _ _ (whole_fine (refusal 9) _ c.if-not-room.false-raw) refl c.content_test.ensures.told));
+}

@@ -18,12 +18,11 @@ returns-then-i-eq0 c = record { value = rises_first _ _ _ c.if-i-order.false (om
 
 pub comes_before-requires : goal.comes_before-requires
 comes_before-requires c =
-    
     omega (arith, c.requires.vertex (c.args.i - 1) (omega arith))
 
 pub returns : goal.returns
 returns c = record {
-      value = c.comes_before.ensures.value
-    ∙ (λ j. before c.args.coords.now (c.wide-u.ensures.value j) (c.wide-v.ensures.value j))
-    ∙ rises_later _ _ _ c.if-i-order.false (omega arith) c.if-i-eq0.false;
-    }
+  value = c.comes_before.ensures.value
+      ∙ (λ j. before c.args.coords.now (c.wide-u.ensures.value j) (c.wide-v.ensures.value j))
+      ∙ rises_later _ _ _ c.if-i-order.false (omega arith) c.if-i-eq0.false;
+}

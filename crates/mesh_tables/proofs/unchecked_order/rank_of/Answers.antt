@@ -15,8 +15,7 @@ loop-u-init c = (omega arith, omega arith, count_start _)
 
 pub loop-u-preserved : goal.loop-u-preserved
 loop-u-preserved c =
-    
-    let a = c.args in 
+    let a = c.args in
     let t : ℕ → Bool = λ w. before a.coords.now w a.v in
     ⊎_elim
     (λ w. omega (arith, w.1, count_one c.loop-u.u t (sym c.comes_before.ensures.value ∙ w.0.taken)))
@@ -25,6 +24,5 @@ loop-u-preserved c =
 
 pub returns : goal.returns
 returns c =
-    
-    let a = c.args in 
+    let a = c.args in
     let e : c.loop-u.u ≡ vertex_count a.coords.now = omega (arith, c.loop-u-test.false) in record { value = c.loop-u.invariant.2 ∙ ap (λ (n : ℕ). count n (λ w. before a.coords.now w a.v)) e }

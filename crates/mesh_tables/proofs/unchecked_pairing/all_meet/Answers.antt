@@ -24,8 +24,6 @@ returns-then-not-triangle_meets c = record { sound = λ e. absurd (clash e refl)
 
 pub loop-t-preserved : goal.loop-t-preserved
 loop-t-preserved c =
-    
-    
     met_more _ _ _ c.loop-t.invariant c.loop-t-test.true (c.triangle_meets.ensures.sound (not-false _ c.if-not-triangle_meets.false-raw))
 
 pub returns : goal.returns

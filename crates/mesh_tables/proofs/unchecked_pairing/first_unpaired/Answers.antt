@@ -13,9 +13,9 @@ loop-c-init c = scan_start
 
 pub is_paired-requires : goal.is_paired-requires
 is_paired-requires c = record {
-      fact_1 = c.requires;
-      fact_2 = c.loop-c-test.true;
-    }
+  fact_1 = c.requires;
+  fact_2 = c.loop-c-test.true;
+}
 
 pub returns-then-not-is_paired : goal.returns-then-not-is_paired
 returns-then-not-is_paired c = record { value = scan_hit c.loop-c.invariant (omega arith) (unpaired_is _ _ _ c.is_paired.ensures.value c.if-not-is_paired.true-raw) }

@@ -21,26 +21,19 @@ is_reverse-requires c = FIXME[fact_1 fact_2] search rules
 
 pub returns-then-not-is_reverse : goal.returns-then-not-is_reverse
 returns-then-not-is_reverse c = record {
-      value = not_paired _ _ _
-    (λ p. clash p.turned (ap (reverse _ _) (sym c.wide-d.ensures.value) ∙ sym c.is_reverse.ensures.value ∙ not-true _ c.if-not-is_reverse.true-raw));
-    }
+  value = not_paired _ _ _
+      (λ p. clash p.turned (ap (reverse _ _) (sym c.wide-d.ensures.value) ∙ sym c.is_reverse.ensures.value ∙ not-true _ c.if-not-is_reverse.true-raw));
+}
 
 pub returns-then-pairing-d : goal.returns-then-pairing-d
 returns-then-pairing-d c = record { value = not_paired _ _ _ (λ p. omega (arith, p.back_there, c.if-pairing-d.true, c.wide-d.ensures.value)) }
 
 pub returns : goal.returns
 returns c =
-    
-    
-    
-    
-    
-    
-    
-    let w = c.wide-d.ensures.value in 
+    let w = c.wide-d.ensures.value in
     let s = c.args in record {
       value = ap (λ (k : ℕ). eqb k s.c) (c.wide.ensures.value ∙ ap (pair_of s.pairing.now) w)
-    ∙ paired_last s.corners.now s.pairing.now s.c (omega (arith, c.if-pairing-c.false)) (omega (arith, c.if-corners-d.false))
-    (ap (reverse s.corners.now s.c) (sym w) ∙ sym c.is_reverse.ensures.value ∙ not-false _ c.if-not-is_reverse.false-raw)
-    (omega (arith, c.if-pairing-d.false));
+          ∙ paired_last s.corners.now s.pairing.now s.c (omega (arith, c.if-pairing-c.false)) (omega (arith, c.if-corners-d.false))
+          (ap (reverse s.corners.now s.c) (sym w) ∙ sym c.is_reverse.ensures.value ∙ not-false _ c.if-not-is_reverse.false-raw)
+          (omega (arith, c.if-pairing-d.false));
     }

@@ -13,9 +13,9 @@ returns-then-not-corner_meets-2 c = record { sound = λ e. absurd (clash e refl)
 
 pub returns : goal.returns
 returns c = record {
-      sound = λ e. record {
-      first = c.corner_meets.ensures.sound (not-false _ c.if-not-corner_meets.false-raw);
-      second = c.corner_meets-2.ensures.sound (not-false _ c.if-not-corner_meets-2.false-raw);
-      third = c.corner_meets-3.ensures.sound e;
-    };
-    }
+  sound = λ e. record {
+    first = c.corner_meets.ensures.sound (not-false _ c.if-not-corner_meets.false-raw);
+    second = c.corner_meets-2.ensures.sound (not-false _ c.if-not-corner_meets-2.false-raw);
+    third = c.corner_meets-3.ensures.sound e;
+  };
+}

@@ -14,7 +14,6 @@ mesh_of start = ordered start.args.coords.now start.args.corners.now start.args.
 
 pub pairing_test-requires : goal.pairing_test-requires
 pairing_test-requires c =
-    
     subst (λ (w : MeshTest). MeshAskable w (length c.args.corners.now)) c.in-Pairing.is c.requires
 
 pub returns-in-Size : goal.returns-in-Size

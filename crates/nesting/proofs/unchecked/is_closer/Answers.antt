@@ -10,13 +10,10 @@ returns-then-q-eq-NO_PARENT c = record { value = closer_none _ _ _ c.if-q-eq-NO_
 
 pub absolute_area-requires : goal.absolute_area-requires
 absolute_area-requires c =
-    
-    let asked = c.requires in 
+    let asked = c.requires in
     (fetched_run asked.0 (parent_there asked.1 c.if-q-eq-NO_PARENT.false) (c.contour-c.ensures.value ∙ ap (contour_of _ _) c.wide.ensures.value)).0
 
 pub returns : goal.returns
 returns c =
-    
-    
-    let asked = c.requires in 
+    let asked = c.requires in
     let is = c.contour-c.ensures.value ∙ ap (contour_of _ _) c.wide.ensures.value in record { value = closer_than _ _ _ c.if-q-eq-NO_PARENT.false (fetched_size asked.0 (parent_there asked.1 c.if-q-eq-NO_PARENT.false) is c.absolute_area.ensures.value) }

@@ -13,8 +13,6 @@ overflow_add-depths c = omega (arith, deeper_fits c.requires)
 
 pub overflow_cast-parents : goal.overflow_cast-parents
 overflow_cast-parents c =
-    
-    
     omega (arith, number_fits c.requires)
 
 pub returns-then-is_closer : goal.returns-then-is_closer

@@ -27,8 +27,6 @@ shape_of-floats-then-ends-j c = (running_long _ _ _ _ c.loop-n.invariant).1
 
 pub returns-then-ends-j : goal.returns-then-ends-j
 returns-then-ends-j c =
-    
-    
     let inv = c.loop-n.invariant in record {
       value = running_past _ _ _ _ inv (passed (goal.at.returns-then-ends-j c).Start) c.loop-n-test.true c.if-ends-j.true;
       left = running_tables _ _ _ _ inv;
@@ -36,28 +34,19 @@ returns-then-ends-j c =
 
 pub overflow_add-i : goal.overflow_add-i
 overflow_add-i c =
-    
-    
     let own = c.loop-n.invariant.belongs c.loop-n-test.true in
     omega (arith, own.to c.if-ends-j.false, c.shared_slice_known-in-loop-n-1.given c.loop-n.j)
 
 pub overflow_sub-i : goal.overflow_sub-i
 overflow_sub-i c =
-    
-    
     omega (arith, (c.loop-n.invariant.belongs c.loop-n-test.true).from)
 
 pub fill_contour-n-requires : goal.fill_contour-n-requires
 fill_contour-n-requires c =
-    
-    
-    
-    
-    
-    let inv = c.loop-n.invariant in 
-    let more = c.loop-n-test.true in 
-    let there = c.if-ends-j.false in 
-    let s-is = c.prior_end-s.ensures.value in 
+    let inv = c.loop-n.invariant in
+    let more = c.loop-n-test.true in
+    let there = c.if-ends-j.false in
+    let s-is = c.prior_end-s.ensures.value in
     let e_is = c.wide-e.ensures.value in record {
       fact_1 = next_room _ _ _ _ inv (passed (goal.at.fill_contour-n-requires c).Start) more there s-is e_is refl;
       fact_2 = next_points _ _ _ _ inv (passed (goal.at.fill_contour-n-requires c).Start) more there s-is e_is refl;
@@ -66,18 +55,11 @@ fill_contour-n-requires c =
 
 pub loop-n-smaller : goal.loop-n-smaller
 loop-n-smaller c =
-    
     omega (arith, c.fill_contour-n.ensures.value)
 
 pub loop-n-preserved : goal.loop-n-preserved
 loop-n-preserved c =
-    
-    
-    
-    
-    
-    
-    let filled = FIXME[c at After-fill_contour: at_fill_lem.fill-contour.ensures] in 
+    let filled = FIXME[c at After-fill_contour: at_fill_lem.fill-contour.ensures] in
     running_next _ _ _ _ c.loop-n.invariant (passed (goal.at.loop-n-preserved c).Start) c.loop-n-test.true c.if-ends-j.false c.prior_end-s.ensures.value
     c.wide-e.ensures.value refl filled.0 filled.1
 
@@ -89,6 +71,6 @@ shape_of-floats c = (running_long _ _ _ _ c.loop-n.invariant).1
 
 pub returns : goal.returns
 returns c = let inv = c.loop-n.invariant in record {
-      value = running_full _ _ _ _ inv c.loop-n-test.false;
-      left = running_tables _ _ _ _ inv;
-    }
+  value = running_full _ _ _ _ inv c.loop-n-test.false;
+  left = running_tables _ _ _ _ inv;
+}

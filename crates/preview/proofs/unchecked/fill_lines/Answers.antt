@@ -29,38 +29,30 @@ offset_bounds-points-b c = omega (arith, lining_there c.loop-k.invariant c.loop-
 
 pub bounds-points-b : goal.bounds-points-b
 bounds-points-b c =
-    
     omega (arith, lining_there c.loop-k.invariant c.loop-k-test.true)
 
 pub drawn_point-requires : goal.drawn_point-requires
 drawn_point-requires c =
-    
-    
-    let points = c.args.points.now in 
+    let points = c.args.points.now in
     let small = lining_small c.loop-k.invariant c.loop-k-test.true in
-    let a = c.loop-k.a in 
+    let a = c.loop-k.a in
     (read_small (get_or points a (pos 0)) small.0, read_small (get_or points (a + 1) (pos 0)) small.1, c.loop-k.invariant.drawn.origin)
 
 pub put_point-requires : goal.put_point-requires
 put_point-requires c =
-    
     omega (arith, c.loop-k.invariant.room.floats_room, (lining_long c.loop-k.invariant).1)
 
 pub bounds-kinds-k : goal.bounds-kinds-k
 bounds-kinds-k c =
-    
     omega (arith, c.loop-k.invariant.room.kinds_room, (lining_long c.loop-k.invariant).0)
 
 pub overflow_add-a : goal.overflow_add-a
 overflow_add-a c =
-    
     omega (arith, lining_there c.loop-k.invariant c.loop-k-test.true)
 
 pub loop-k-preserved : goal.loop-k-preserved
 loop-k-preserved c =
-    
-    
-    let inv = c.loop-k.invariant in 
+    let inv = c.loop-k.invariant in
     let small = lining_small inv c.loop-k-test.true in
     lining_step inv c.loop-k-test.true (read_is _ small.0) (read_is _ small.1) c.drawn_point.ensures.value
     c.put_point.ensures.left

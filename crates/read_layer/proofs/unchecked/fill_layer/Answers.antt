@@ -16,8 +16,6 @@ returns-in_default c = record { left = absurd (count_there c.requires (sym c.rea
 
 pub loop-c-init : goal.loop-c-init
 loop-c-init c =
-    
-    
     layer_filling c.requires (sym c.read_number-n.ensures.value ∙ c.in-Value.is)
 
 pub overflow_sub-done : goal.overflow_sub-done
@@ -34,48 +32,33 @@ returns-in_default-m c = record { left = absurd (points_there c.loop-c.invariant
 
 -- the contour's count of points
 count : (c : In-Value-m)
-    → 
-    
+    →
     number_at (most_points - c.loop-c.done) c.args.file.now c.loop-c.i
     ≡ Value c.in-Value-m.k c.in-Value-m.next
 count c = sym c.read_number-m.ensures.value ∙ c.in-Value-m.is
 
 pub overflow_mul-done : goal.overflow_mul-done
 overflow_mul-done c =
-    
     omega (arith, c.loop-c.invariant.low)
 
 pub fill_points-i-requires : goal.fill_points-i-requires
 fill_points-i-requires c =
-    
-    
     fill_ready c.loop-c.invariant c.loop-c-test.true (count (goal.at.fill_points-i-requires c).In-Value-m)
 
 pub overflow_add-done : goal.overflow_add-done
 overflow_add-done c =
-    
-    
-    
     omega (arith, still_low c.loop-c.invariant c.loop-c-test.true (count (goal.at.overflow_add-done c).In-Value-m))
 
 pub overflow_cast-ends : goal.overflow_cast-ends
 overflow_cast-ends c =
-    
-    
-    
     omega (arith, still_low c.loop-c.invariant c.loop-c-test.true (count (goal.at.overflow_cast-ends c).In-Value-m))
 
 pub bounds-ends-c : goal.bounds-ends-c
 bounds-ends-c c =
-    
-    
     end_fits c.loop-c.invariant c.loop-c-test.true
 
 pub loop-c-preserved : goal.loop-c-preserved
 loop-c-preserved c =
-    
-    
-    
     next_contour c.loop-c.invariant c.loop-c-test.true (count (goal.at.loop-c-preserved c).In-Value-m) c.fill_points-i.ensures.outcome
 
 pub shape_of-points : goal.shape_of-points

@@ -32,55 +32,42 @@ returns-in_default c = record { outcome = absurd (x_there c.loop-left.invariant 
 
 -- the first coordinate read
 first : (c : In-At)
-    → 
-    
+    →
     coordinate_at (to_z w32 c.loop-left.x-bits) c.args.file.now c.loop-left.i
     ≡ At c.in-At.nx c.in-At.j
 first c = sym c.read_coordinate-a.ensures.value ∙ c.in-At.is
 
 pub read_coordinate-b-requires : goal.read_coordinate-b-requires
 read_coordinate-b-requires c =
-    
     c.loop-left.invariant.y_in
 
 pub shape_of-points-in_default-b : goal.shape_of-points-in_default-b
 shape_of-points-in_default-b c =
-    
     c.loop-left.invariant.table.size
 
 pub returns-in_default-b : goal.returns-in_default-b
 returns-in_default-b c = record {
-      outcome = absurd (y_there c.loop-left.invariant (more (goal.at.returns-in_default-b c).In-loop-left) (first (goal.at.returns-in_default-b c).In-At)
-    (sym c.read_coordinate-b.ensures.value ∙ c.in_default-b.is));
-    }
+  outcome = absurd (y_there c.loop-left.invariant (more (goal.at.returns-in_default-b c).In-loop-left) (first (goal.at.returns-in_default-b c).In-At)
+      (sym c.read_coordinate-b.ensures.value ∙ c.in_default-b.is));
+}
 
 pub bounds-points-k : goal.bounds-points-k
 bounds-points-k c =
-    
-    
     x_fits c.loop-left.invariant (more (goal.at.bounds-points-k c).In-loop-left)
 
 pub bounds-points-k-in-loop-left : goal.bounds-points-k-in-loop-left
 bounds-points-k-in-loop-left c =
-    
-    
     lt-length-set c.loop-left.points c.loop-left.k _ {i = c.loop-left.k + 1} (y_fits c.loop-left.invariant (more (goal.at.bounds-points-k-in-loop-left c).In-loop-left))
 
 -- the second coordinate read
 second : (c : In-At-b)
-    → 
-    
-    
+    →
     coordinate_at (to_z w32 c.loop-left.y-bits) c.args.file.now c.in-At.j
     ≡ At c.in-At-b.ny c.in-At-b.next
 second c = sym c.read_coordinate-b.ensures.value ∙ c.in-At-b.is
 
 pub loop-left-preserved : goal.loop-left-preserved
 loop-left-preserved c =
-    
-    
-    
-    
     simp (
       same_in w32 c.in-At.nx largest (x_near c.loop-left.invariant (more (goal.at.loop-left-preserved c).In-loop-left) (first (goal.at.loop-left-preserved c).In-At)) tt,
       same_in w32 c.in-At-b.ny largest (y_near c.loop-left.invariant (more (goal.at.loop-left-preserved c).In-loop-left) (first (goal.at.loop-left-preserved c).In-At) (second (goal.at.loop-left-preserved c).In-At-b)) tt,

@@ -15,9 +15,6 @@ returns-in_default c = record { value = run_check_refused c.loop-left.invariant 
 
 pub loop-left-preserved : goal.loop-left-preserved
 loop-left-preserved c =
-    
-    
-    
     run_check_passed c.loop-left.invariant c.loop-left-test.true (sym c.read_number-n.ensures.value ∙ c.in-Value.is)
 
 pub returns : goal.returns

@@ -28,27 +28,18 @@ overflow_cast-corners c = omega (arith, (took (sym c.read_number-n.ensures.value
 
 pub offset_bounds-corners-c : goal.offset_bounds-corners-c
 offset_bounds-corners-c c =
-    
-    
     omega (arith, fill_room c.loop-unread.invariant (more (goal.at.offset_bounds-corners-c c).In-loop-unread), c.loop-unread.invariant.table.size)
 
 pub bounds-corners-c : goal.bounds-corners-c
 bounds-corners-c c =
-    
-    
     fill_room c.loop-unread.invariant (more (goal.at.bounds-corners-c c).In-loop-unread)
 
 pub overflow_add-c : goal.overflow_add-c
 overflow_add-c c =
-    
-    
     omega (arith, fill_room c.loop-unread.invariant (more (goal.at.overflow_add-c c).In-loop-unread), c.loop-unread.invariant.table.size)
 
 pub loop-unread-preserved : goal.loop-unread-preserved
 loop-unread-preserved c =
-    
-    
-    
     plain_next c.loop-unread.invariant (more (goal.at.loop-unread-preserved c).In-loop-unread) (sym c.read_number-n.ensures.value ∙ c.in-Value.is)
 
 pub shape_of-corners : goal.shape_of-corners

@@ -25,28 +25,18 @@ signed_word-z-requires c = (took (sym c.read_number-n.ensures.value ∙ c.in-Val
 
 pub offset_bounds-table-k : goal.offset_bounds-table-k
 offset_bounds-table-k c =
-    
-    
     omega (arith, fill_room c.loop-left.invariant c.loop-left-test.true, c.loop-left.invariant.table.size)
 
 pub bounds-table-k : goal.bounds-table-k
 bounds-table-k c =
-    
-    
     fill_room c.loop-left.invariant c.loop-left-test.true
 
 pub overflow_add-k : goal.overflow_add-k
 overflow_add-k c =
-    
-    
     omega (arith, fill_room c.loop-left.invariant c.loop-left-test.true, c.loop-left.invariant.table.size)
 
 pub loop-left-preserved : goal.loop-left-preserved
 loop-left-preserved c =
-    
-    
-    
-    
     signed_next c.loop-left.invariant c.loop-left-test.true (sym c.read_number-n.ensures.value ∙ c.in-Value.is)
     (same w32 _ c.signed_word-z.type-inv ∙ c.signed_word-z.ensures.value)
 

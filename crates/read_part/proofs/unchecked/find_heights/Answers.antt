@@ -16,20 +16,20 @@ check_run-e-requires c = (took (sym c.read_number-n.ensures.value ∙ c.in-Value
 pub returns-then-end-file : goal.returns-then-end-file
 unfolding Finds
 returns-then-end-file c = record {
-      result = left_over_lem _ c.requires (sym c.read_number-n.ensures.value ∙ c.in-Value.is)
-    (sym c.check_run-e.ensures.value ∙ c.in-End.is) c.if-end-file.true;
-    }
+  result = left_over_lem _ c.requires (sym c.read_number-n.ensures.value ∙ c.in-Value.is)
+      (sym c.check_run-e.ensures.value ∙ c.in-End.is) c.if-end-file.true;
+}
 
 pub returns-else-end-file : goal.returns-else-end-file
 unfolding Finds
 returns-else-end-file c = record {
-      result = laid _ c.requires (sym c.read_number-n.ensures.value ∙ c.in-Value.is)
-    (sym c.check_run-e.ensures.value ∙ c.in-End.is) c.if-end-file.false;
-    }
+  result = laid _ c.requires (sym c.read_number-n.ensures.value ∙ c.in-Value.is)
+      (sym c.check_run-e.ensures.value ∙ c.in-End.is) c.if-end-file.false;
+}
 
 pub returns-in-Refused : goal.returns-in-Refused
 unfolding Finds
 returns-in-Refused c = record {
-      result = heights_broken _ c.requires (sym c.read_number-n.ensures.value ∙ c.in-Value.is)
-    (sym c.check_run-e.ensures.value ∙ c.in-Refused.is);
-    }
+  result = heights_broken _ c.requires (sym c.read_number-n.ensures.value ∙ c.in-Value.is)
+      (sym c.check_run-e.ensures.value ∙ c.in-Refused.is);
+}

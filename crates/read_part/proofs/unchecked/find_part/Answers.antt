@@ -14,14 +14,12 @@ returns-in_default c = record { result = no_vertex_count _ (sym c.read_number-n.
 pub returns-in_default-m : goal.returns-in_default-m
 unfolding Finds
 returns-in_default-m c = record {
-      result = no_triangle_count _ (sym c.read_number-n.ensures.value ∙ c.in-Value.is)
-    (sym c.read_number-m.ensures.value ∙ c.in_default-m.is);
-    }
+  result = no_triangle_count _ (sym c.read_number-n.ensures.value ∙ c.in-Value.is)
+      (sym c.read_number-m.ensures.value ∙ c.in_default-m.is);
+}
 
 pub overflow_mul-v : goal.overflow_mul-v
 overflow_mul-v c =
-    
-    
     omega (arith, (took (sym c.read_number-n.ensures.value ∙ c.in-Value.is)).low)
 
 pub overflow_mul-t : goal.overflow_mul-t
@@ -29,9 +27,6 @@ overflow_mul-t c = omega (arith, (took (sym c.read_number-m.ensures.value ∙ c.
 
 pub find_tables-requires : goal.find_tables-requires
 find_tables-requires c =
-    
-    
-    
     counts_stand _ (sym c.read_number-n.ensures.value ∙ c.in-Value.is) (sym c.read_number-m.ensures.value ∙ c.in-Value-m.is)
 
 pub returns : goal.returns

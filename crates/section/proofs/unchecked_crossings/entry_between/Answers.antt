@@ -10,8 +10,7 @@ returns-then-end c = record { value = between_level _ _ _ c.requires.fact_3 (c.i
 
 pub link_of-requires : goal.link_of-requires
 link_of-requires c =
-    
-    let a = c.args in 
+    let a = c.args in
     let up = between_rises _ _ a.pairing.now c.requires.fact_3 (and_not_of _ _ c.if-start.true c.if-end.false) in
     let crossing : Crossing (under a.coords.now a.h a.k) a.corners.now a.c =
     record { below = c.requires.fact_3.corner; upward = up } in record {
@@ -22,10 +21,9 @@ link_of-requires c =
 
 pub returns-then-start : goal.returns-then-start
 returns-then-start c =
-    
     let a = c.args in record {
       value = c.link_of.ensures.value
-    ∙ ap (λ (p : VertexSet). ring_entry p a.corners.now a.pairing.now a.c) (passed_held a.coords.now a.k c.ranges.h);
+          ∙ ap (λ (p : VertexSet). ring_entry p a.corners.now a.pairing.now a.c) (passed_held a.coords.now a.k c.ranges.h);
     }
 
 pub returns : goal.returns

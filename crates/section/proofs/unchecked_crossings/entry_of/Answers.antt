@@ -10,23 +10,21 @@ is_rising-requires c = FIXME[fact_1 fact_2] search rules
 
 pub link_of-requires : goal.link_of-requires
 link_of-requires c = record {
-      fact_1 = c.requires.fact_1;
-      fact_2 = c.requires.fact_2;
-      fact_3 = record { below = c.requires.fact_3; upward = sym c.is_rising.ensures.value ∙ c.if-is_rising.true };
-    }
+  fact_1 = c.requires.fact_1;
+  fact_2 = c.requires.fact_2;
+  fact_3 = record { below = c.requires.fact_3; upward = sym c.is_rising.ensures.value ∙ c.if-is_rising.true };
+}
 
 pub returns-then-is_rising : goal.returns-then-is_rising
 returns-then-is_rising c =
-    
     let a = c.args in record {
       value = c.link_of.ensures.value
-    ∙ ap (λ (p : VertexSet). ring_entry p a.corners.now a.pairing.now a.c) (passed_held a.coords.now a.k c.ranges.h);
+          ∙ ap (λ (p : VertexSet). ring_entry p a.corners.now a.pairing.now a.c) (passed_held a.coords.now a.k c.ranges.h);
     }
 
 pub returns : goal.returns
 returns c =
-    
     let a = c.args in record {
       value = entry_none _ _ a.pairing.now a.c (sym c.is_rising.ensures.value ∙ c.if-is_rising.false)
-    ∙ ap (λ (p : VertexSet). ring_entry p a.corners.now a.pairing.now a.c) (passed_held a.coords.now a.k c.ranges.h);
+          ∙ ap (λ (p : VertexSet). ring_entry p a.corners.now a.pairing.now a.c) (passed_held a.coords.now a.k c.ranges.h);
     }

@@ -7,20 +7,14 @@ use Rattle.section.proofs.unchecked_crossings.is_rising.Goals as goal
 
 pub leads_up-requires : goal.leads_up-requires
 leads_up-requires c =
-    
-    
-    
     let u = vertex_at c.requires.fact_1 c.requires.fact_2 c.wide-u.ensures.value in
     let v = vertex_at c.requires.fact_1 (next_corner_inside c.requires.fact_1 c.requires.fact_2 c.next_corner-n.ensures.value) c.wide-v.ensures.value in
     search (rules, u, v)
 
 pub returns : goal.returns
 returns c =
-    
-    
-    
     let a = c.args in record {
       value = rises_is (under a.coords.now (held a.h) a.k) _ _
-    c.next_corner-n.ensures.value c.wide-u.ensures.value c.wide-v.ensures.value c.leads_up.ensures.value
-    ∙ ap (λ (p : VertexSet). rising p a.corners.now a.c) (passed_held a.coords.now a.k c.ranges.h);
+          c.next_corner-n.ensures.value c.wide-u.ensures.value c.wide-v.ensures.value c.leads_up.ensures.value
+          ∙ ap (λ (p : VertexSet). rising p a.corners.now a.c) (passed_held a.coords.now a.k c.ranges.h);
     }

@@ -13,12 +13,12 @@ upward u v passed = passed u && not (passed v)
 
 pub returns-then-is_passed : goal.returns-then-is_passed
 returns-then-is_passed c = record {
-      value = leads_as c.is_passed.ensures.value c.if-is_passed.true c.is_passed-then-is_passed.ensures.value
-    ∙ ap (upward c.args.u c.args.v) (passed_held c.args.coords.now c.args.k c.ranges.h);
-    }
+  value = leads_as c.is_passed.ensures.value c.if-is_passed.true c.is_passed-then-is_passed.ensures.value
+      ∙ ap (upward c.args.u c.args.v) (passed_held c.args.coords.now c.args.k c.ranges.h);
+}
 
 pub returns : goal.returns
 returns c = record {
-      value = leads_no (under c.args.coords.now (held c.args.h) c.args.k c.args.v) c.is_passed.ensures.value c.if-is_passed.false
-    ∙ ap (upward c.args.u c.args.v) (passed_held c.args.coords.now c.args.k c.ranges.h);
-    }
+  value = leads_no (under c.args.coords.now (held c.args.h) c.args.k c.args.v) c.is_passed.ensures.value c.if-is_passed.false
+      ∙ ap (upward c.args.u c.args.v) (passed_held c.args.coords.now c.args.k c.ranges.h);
+}

@@ -22,8 +22,7 @@ loop-c-init c = (omega arith, omega arith, sym (refill_none _ _))
 
 pub link_triangle-requires : goal.link_triangle-requires
 link_triangle-requires c =
-    
-    let i = c.loop-c.invariant in 
+    let i = c.loop-c.invariant in
     let long = still_long (entry (goal.at.link_triangle-requires c).Start (held c.args.h)) _ _ i.2 (omega (arith, i.0, c.requires.fact_3)) in record {
       fact_1 = c.requires.fact_1;
       fact_2 = c.requires.fact_2;
@@ -33,8 +32,6 @@ link_triangle-requires c =
 
 pub overflow_add-c : goal.overflow_add-c
 overflow_add-c c =
-    
-    
     omega (arith, c.loop-c-test.true, c.requires.fact_1.whole.few)
 
 pub loop-c-smaller : goal.loop-c-smaller
@@ -42,9 +39,6 @@ loop-c-smaller c = omega (arith, c.loop-c-test.true)
 
 pub loop-c-preserved : goal.loop-c-preserved
 loop-c-preserved c =
-    
-    
-    
     let i = c.loop-c.invariant in (
       omega (arith, c.loop-c-test.true, i.1, c.requires.fact_1.whole.threes),
       omega (arith, i.1),
@@ -54,10 +48,8 @@ loop-c-preserved c =
 
 pub shape_of-ring : goal.shape_of-ring
 shape_of-ring c =
-    
     still_long _ _ c.args.ring.now c.loop-c.invariant.2 (omega (arith, c.loop-c.invariant.0, c.requires.fact_3))
 
 pub returns : goal.returns
 returns c =
-    
     let end : c.loop-c.c ≡ length c.args.corners.now = omega (arith, c.loop-c-test.false, c.loop-c.invariant.0) in record { left = c.loop-c.invariant.2 ∙ (λ i. refill (end i) (entry (goal.at.returns c).Start (back c.ranges.h i)) c.args.ring.now) }

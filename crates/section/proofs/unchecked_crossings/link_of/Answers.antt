@@ -17,7 +17,6 @@ bounds-pairing-c c = (c.requires.fact_2.each c.args.c c.requires.fact_3.below).t
 
 pub rising_beside-s-requires : goal.rising_beside-s-requires
 rising_beside-s-requires c =
-    
     let x = crosses (goal.at.rising_beside-s-requires c).Start in record {
       fact_1 = c.requires.fact_1;
       fact_2 = pair_inside _ c.requires.fact_2 x c.wide-d.ensures.value;
@@ -26,15 +25,13 @@ rising_beside-s-requires c =
 
 pub overflow_cast-result : goal.overflow_cast-result
 overflow_cast-result c =
-    
     omega (arith, entry_fits _ c.requires.fact_2 (crosses (goal.at.overflow_cast-result c).Start) c.wide-d.ensures.value c.rising_beside-s.ensures.value)
 
 pub returns : goal.returns
 returns c =
-    
     let a = c.args in record {
       value = entry_rises (under a.coords.now a.h a.k) _ _ a.c c.requires.fact_3.upward c.wide-d.ensures.value
-    (c.rising_beside-s.ensures.value
-    ∙ ap (λ (p : VertexSet). rising_in p a.corners.now (triangle_of c.wide-d.result))
-    (passed_held a.coords.now a.k c.ranges.h));
+          (c.rising_beside-s.ensures.value
+          ∙ ap (λ (p : VertexSet). rising_in p a.corners.now (triangle_of c.wide-d.result))
+          (passed_held a.coords.now a.k c.ranges.h));
     }

@@ -8,24 +8,19 @@ use Rattle.section.proofs.unchecked_crossings.rising_beside.Goals.{After-is_pass
 
 pub bounds-corners-f : goal.bounds-corners-f
 bounds-corners-f c =
-    
     previous_corner_inside c.requires.fact_1 c.requires.fact_2 c.previous_corner-f.ensures.value
 
 pub is_passed-requires : goal.is_passed-requires
 is_passed-requires c =
-    
-    
     vertex_at c.requires.fact_1 (previous_corner_inside c.requires.fact_1 c.requires.fact_2 c.previous_corner-f.ensures.value) c.wide-w.ensures.value
 
 -- what both returns know
 seen : (c : After-is_passed)
-    → 
-    let a = c.args in 
+    →
+    let a = c.args in
     ThirdSeen (under a.coords.now a.h a.k) a.corners.now a.d
     c.next_corner-e.result c.previous_corner-f.result c.is_passed.result
 seen c =
-    
-    
     record {
       falls = c.requires.fact_3;
       is_e = c.next_corner-e.ensures.value;

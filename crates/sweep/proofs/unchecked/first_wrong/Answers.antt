@@ -25,20 +25,19 @@ loop-c-init c = scan_start
 
 pub is_wrong-requires : goal.is_wrong-requires
 is_wrong-requires c = record {
-      fact_1 = c.requires.fact_1;
-      fact_2 = c.requires.fact_2;
-      fact_3 = c.loop-c-test.true;
-    }
+  fact_1 = c.requires.fact_1;
+  fact_2 = c.requires.fact_2;
+  fact_3 = c.loop-c-test.true;
+}
 
 pub returns-then-is_wrong : goal.returns-then-is_wrong
 returns-then-is_wrong c = record {
-      value = scan_hit c.loop-c.invariant c.loop-c-test.true (sym c.is_wrong.ensures.value ∙ c.if-is_wrong.true)
-    ∙ ap (first (goal.at.returns-then-is_wrong c).Start) (back c.ranges.h);
-    }
+  value = scan_hit c.loop-c.invariant c.loop-c-test.true (sym c.is_wrong.ensures.value ∙ c.if-is_wrong.true)
+      ∙ ap (first (goal.at.returns-then-is_wrong c).Start) (back c.ranges.h);
+}
 
 pub overflow_add-c : goal.overflow_add-c
 overflow_add-c c =
-    
     omega (arith, c.loop-c-test.true, c.requires.fact_1.whole.few)
 
 pub loop-c-smaller : goal.loop-c-smaller

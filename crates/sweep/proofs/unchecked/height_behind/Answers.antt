@@ -12,7 +12,6 @@ use Rattle.sweep.proofs.unchecked.height_behind.Goals.{After-wide-w}
 
 inside : (c : After-wide-w) → 3 * c.wide-w.result + 2 < length c.args.coords.now
 inside c =
-    
     omega (arith, c.wide-w.ensures.value, c.requires.fact_2 (omega (arith, c.if-n-eq0.false)))
 
 pub returns-then-n-eq0 : goal.returns-then-n-eq0

@@ -9,7 +9,6 @@ returns-then-n-eq0 c = record { told = none_high _ _ _ _ c.if-n-eq0.true }
 
 pub height_behind-requires : goal.height_behind-requires
 height_behind-requires c =
-    
     let r = c.requires.fact_2 (c.args.n - 1) (omega (arith, c.if-n-eq0.false, c.requires.fact_1)) in record {
       fact_1 = omega (arith, r.there, c.if-n-eq0.false);
       fact_2 = λ z. r.vertex;
@@ -17,14 +16,14 @@ height_behind-requires c =
 
 pub returns-then-height_behind-h : goal.returns-then-height_behind-h
 returns-then-height_behind-h c = record {
-      told = low_last c.args.coords.now c.args.order.now c.args.h c.requires.fact_2 c.args.n c.requires.fact_1 c.if-n-eq0.false
-    c.height_behind.result c.height_behind.ensures.value
-    (got_lt c.height_behind.result c.args.h c.height_behind.type-inv c.ranges.h c.if-height_behind-h.true);
-    }
+  told = low_last c.args.coords.now c.args.order.now c.args.h c.requires.fact_2 c.args.n c.requires.fact_1 c.if-n-eq0.false
+      c.height_behind.result c.height_behind.ensures.value
+      (got_lt c.height_behind.result c.args.h c.height_behind.type-inv c.ranges.h c.if-height_behind-h.true);
+}
 
 pub returns : goal.returns
 returns c = record {
-      told = high_last c.args.coords.now c.args.order.now c.args.h c.requires.fact_2 c.args.n c.requires.fact_1 c.if-n-eq0.false
-    c.height_behind.result c.height_behind.ensures.value
-    (got_lt c.height_behind.result c.args.h c.height_behind.type-inv c.ranges.h c.if-height_behind-h.false);
-    }
+  told = high_last c.args.coords.now c.args.order.now c.args.h c.requires.fact_2 c.args.n c.requires.fact_1 c.if-n-eq0.false
+      c.height_behind.result c.height_behind.ensures.value
+      (got_lt c.height_behind.result c.args.h c.height_behind.type-inv c.ranges.h c.if-height_behind-h.false);
+}

@@ -18,11 +18,9 @@ entry_of-requires c = FIXME[fact_1 fact_2 fact_3] search rules
 
 pub returns : goal.returns
 returns c =
-    
-    
-    let ring = c.args.ring.now in 
+    let ring = c.args.ring.now in
     let passed : ℤ → VertexSet = λ z. under c.args.coords.now z c.args.k in record {
       value = subst (λ (z : ℤ). not (eqb (get_or ring c.args.c 0) c.entry_of.result)
-    ≡ wrong_for (passed z) c.args.corners.now c.args.pairing.now ring c.args.c) (back c.ranges.h)
-    (wrong_as _ _ _ _ _ c.if-ring-c.false _ c.entry_of.ensures.value);
+          ≡ wrong_for (passed z) c.args.corners.now c.args.pairing.now ring c.args.c) (back c.ranges.h)
+          (wrong_as _ _ _ _ _ c.if-ring-c.false _ c.entry_of.ensures.value);
     }

@@ -16,9 +16,9 @@ sweepOf start =
 
 pub height_behind-h-requires : goal.height_behind-h-requires
 height_behind-h-requires c = record {
-      fact_1 = placed_long c.requires;
-      fact_2 = placed_last c.requires;
-    }
+  fact_1 = placed_long c.requires;
+  fact_2 = placed_last c.requires;
+}
 
 pub number_behind-k-requires : goal.number_behind-k-requires
 number_behind-k-requires c = placed_long c.requires
@@ -28,12 +28,12 @@ first_wrong-c-requires c = FIXME[fact_1 fact_2] search rules
 
 pub returns-then-c-corners : goal.returns-then-c-corners
 returns-then-c-corners c = record {
-      told = ring_refused (sweepOf (goal.at.returns-then-c-corners c).Start) c.requires (same w32 c.height_behind-h.result c.height_behind-h.type-inv ∙ c.height_behind-h.ensures.value)
-    c.number_behind-k.ensures.value c.first_wrong-c.ensures.value c.if-c-corners.true;
-    }
+  told = ring_refused (sweepOf (goal.at.returns-then-c-corners c).Start) c.requires (same w32 c.height_behind-h.result c.height_behind-h.type-inv ∙ c.height_behind-h.ensures.value)
+      c.number_behind-k.ensures.value c.first_wrong-c.ensures.value c.if-c-corners.true;
+}
 
 pub returns : goal.returns
 returns c = record {
-      told = ring_fine (sweepOf (goal.at.returns c).Start) c.requires (same w32 c.height_behind-h.result c.height_behind-h.type-inv ∙ c.height_behind-h.ensures.value)
-    c.number_behind-k.ensures.value c.first_wrong-c.ensures.value c.if-c-corners.false;
-    }
+  told = ring_fine (sweepOf (goal.at.returns c).Start) c.requires (same w32 c.height_behind-h.result c.height_behind-h.type-inv ∙ c.height_behind-h.ensures.value)
+      c.number_behind-k.ensures.value c.first_wrong-c.ensures.value c.if-c-corners.false;
+}

@@ -20,12 +20,10 @@ sweepOf start =
 
 pub one_mesh_test-requires : goal.one_mesh_test-requires
 one_mesh_test-requires c =
-    
     subst (λ (w : SweepTest). SweepAskable w (sweepOf (goal.at.one_mesh_test-requires c).Start)) c.in-Mesh.is c.requires
 
 pub ring_test-requires : goal.ring_test-requires
 ring_test-requires c =
-    
     subst (λ (w : SweepTest). SweepAskable w (sweepOf (goal.at.ring_test-requires c).Start)) c.in-Ring.is c.requires
 
 pub height_test-requires : goal.height_test-requires
@@ -45,6 +43,6 @@ returns-in-Ring c = record { told = sweep_test_as (sweepOf (goal.at.returns-in-R
 
 pub returns-in-Height : goal.returns-in-Height
 returns-in-Height c = record {
-      told = sweep_test_as (sweepOf (goal.at.returns-in-Height c).Start) c.args.h c.in-Height.is
-    (c.height_test.ensures.told ∙ ap (λ (z : ℤ). test (sweep_condition Height (sweepOf (goal.at.returns-in-Height c).Start) z)) (back c.ranges.h));
-    }
+  told = sweep_test_as (sweepOf (goal.at.returns-in-Height c).Start) c.args.h c.in-Height.is
+      (c.height_test.ensures.told ∙ ap (λ (z : ℤ). test (sweep_condition Height (sweepOf (goal.at.returns-in-Height c).Start) z)) (back c.ranges.h));
+}

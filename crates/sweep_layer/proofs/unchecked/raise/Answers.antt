@@ -41,9 +41,6 @@ link_at-requires c = FIXME[fact_1 fact_2 fact_3] search rules
 
 pub outline_rings-s-requires : goal.outline_rings-s-requires
 outline_rings-s-requires c =
-    
-    
-    
     let marks = c.args.marks.now in record {
       fact_1 = raise_outlined (sweepOf (goal.at.outline_rings-s-requires c).Start) (height_of (goal.at.outline_rings-s-requires c).Start) (tested (goal.at.outline_rings-s-requires c).Start) marks FIXME[c at After-link_at-arg: at-link.link_at.ensures] c.copy_front.ensures.left;
       fact_2 = long_links c.requires.fact_2 c.copy_front.auto.1.0;
@@ -60,10 +57,10 @@ link-requires c = FIXME[fact_1 fact_2 fact_3] absurd (never (goal.at.link-requir
 
 pub returns-in-Layer : goal.returns-in-Layer
 returns-in-Layer c = record {
-      outcome = at_height (sweepOf (goal.at.returns-in-Layer c).Start) c.ranges.h
-    (lifts (sweepOf (goal.at.returns-in-Layer c).Start) (height_of (goal.at.returns-in-Layer c).Start) (tested (goal.at.returns-in-Layer c).Start) c.args.marks.now FIXME[c at After-link_at-arg: at-link.link_at.ensures] c.copy_front.ensures.left
-    c.outline_rings-s.ensures.outcome c.in-Layer.is FIXME[c at After-link_at-arg: at-link.before.before.risen-to.ensures]);
-    }
+  outcome = at_height (sweepOf (goal.at.returns-in-Layer c).Start) c.ranges.h
+      (lifts (sweepOf (goal.at.returns-in-Layer c).Start) (height_of (goal.at.returns-in-Layer c).Start) (tested (goal.at.returns-in-Layer c).Start) c.args.marks.now FIXME[c at After-link_at-arg: at-link.link_at.ensures] c.copy_front.ensures.left
+      c.outline_rings-s.ensures.outcome c.in-Layer.is FIXME[c at After-link_at-arg: at-link.before.before.risen-to.ensures]);
+}
 
 pub returns-in-Refused : goal.returns-in-Refused
 returns-in-Refused c = record { outcome = absurd (never (goal.at.returns-in-Refused c).In-Refused-2) }

@@ -19,10 +19,9 @@ abbrev count : Start → ℤ → ℕ
 count start z = risen_to start.args.coords.now start.args.order.now z (vertex_count start.args.coords.now) start.args.n
 
 inside : (c : After-wide-w)
-    → 
+    →
     3 * c.wide-w.result + 2 < length c.args.coords.now
 inside c =
-    
     let l : c.loop-p.p < vertex_count c.args.coords.now = omega (arith, c.loop-p-test.true) in
     omega (arith, c.wide-w.ensures.value, (c.requires.fact_2 c.loop-p.p l).vertex)
 
@@ -31,14 +30,12 @@ loop-p-init c = rising_start _ _ _ _ c.requires.fact_1
 
 pub offset_bounds-order-p : goal.offset_bounds-order-p
 offset_bounds-order-p c =
-    
     let l : c.loop-p.p < vertex_count c.args.coords.now = omega (arith, c.loop-p-test.true) in
     let r = c.requires.fact_2 c.loop-p.p l in
     omega (arith, r.there)
 
 pub bounds-order-p : goal.bounds-order-p
 bounds-order-p c =
-    
     let l : c.loop-p.p < vertex_count c.args.coords.now = omega (arith, c.loop-p-test.true) in
     (c.requires.fact_2 c.loop-p.p l).there
 
@@ -56,14 +53,10 @@ bounds-coords-j c = inside (goal.at.bounds-coords-j c).After-wide-w
 
 pub returns-then-coords-j : goal.returns-then-coords-j
 returns-then-coords-j c =
-    
-    
-    
-    
     let l : c.loop-p.p < vertex_count c.args.coords.now = omega (arith, c.loop-p-test.true) in record {
       value = rising_stop _ _ _ _ _ c.loop-p.invariant
-    (may_not c.args.coords.now _ _ c.loop-p.p c.wide-w.result c.t15-1.given c.wide-w.ensures.value l c.if-coords-j.true)
-    ∙ ap (count (goal.at.returns-then-coords-j c).Start) (to_z-of_z w32 c.args.h c.ranges.h);
+          (may_not c.args.coords.now _ _ c.loop-p.p c.wide-w.result c.t15-1.given c.wide-w.ensures.value l c.if-coords-j.true)
+          ∙ ap (count (goal.at.returns-then-coords-j c).Start) (to_z-of_z w32 c.args.h c.ranges.h);
     }
 
 pub overflow_add-p : goal.overflow_add-p
@@ -74,15 +67,10 @@ loop-p-smaller c = omega (arith, c.loop-p-test.true)
 
 pub loop-p-preserved : goal.loop-p-preserved
 loop-p-preserved c =
-    
-    
-    
-    
     let l : c.loop-p.p < vertex_count c.args.coords.now = omega (arith, c.loop-p-test.true) in
     rising_more _ _ _ _ _ c.loop-p.invariant l
     (may c.args.coords.now _ _ c.loop-p.p c.wide-w.result c.t15-1.given c.wide-w.ensures.value l c.if-coords-j.false)
 
 pub returns : goal.returns
 returns c =
-    
     let l : vertex_count c.args.coords.now ≤ c.loop-p.p = omega (arith, c.loop-p-test.false) in record { value = rising_stop _ _ _ _ _ c.loop-p.invariant (may_end _ _ _ c.loop-p.p l) ∙ ap (count (goal.at.returns c).Start) (to_z-of_z w32 c.args.h c.ranges.h) }
