@@ -31,13 +31,13 @@ found c =
     }
 
 pub overflow_sub-d : goal.overflow_sub-d
-overflow_sub-d c = sub_ok (high_held (found (goal.at.overflow_sub-d c).After-struct_told-2-1)) (low_held (found (goal.at.overflow_sub-d c).After-struct_told-2-1)) tt
+overflow_sub-d c = sub_ok (high_held (found c)) (low_held (found c)) tt
 
 pub overflow_cast-d : goal.overflow_cast-d
-overflow_cast-d c = rise_ok (found (goal.at.overflow_cast-d c).After-struct_told-2-1)
+overflow_cast-d c = rise_ok (found c)
 
 pub overflow_add-result : goal.overflow_add-result
-overflow_add-result c = omega (arith, rise_small (found (goal.at.overflow_add-result c).After-struct_told-2-1))
+overflow_add-result c = omega (arith, rise_small (found c))
 
 pub returns : goal.returns
-returns c = record { value = count_is (found (goal.at.returns c).After-struct_told-2-1) }
+returns c = record { value = count_is (found c) }

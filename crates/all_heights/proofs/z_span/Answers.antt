@@ -14,7 +14,7 @@ loop-v-init c = span_start c.args.coords.now c.low-1.given
 pub loop-v-preserved : goal.loop-v-preserved
 loop-v-preserved c =
     span_more c.args.coords.now c.loop-v.invariant c.lower-low.result c.higher-high.result
-    c.z-1.given c.lower-low.type-inv c.higher-high.type-inv c.lower-low.ensures.value c.higher-high.ensures.value (omega arith)
+    c.z-1.given c.lower-low.type_inv c.higher-high.type_inv c.lower-low.ensures.value c.higher-high.ensures.value (omega arith)
 
 pub returns : goal.returns
 returns c = record { result = span_end c.args.coords.now c.loop-v.invariant (omega arith) }

@@ -35,7 +35,7 @@ returns-in-Refused c = record {
 
 pub put_file-f-requires : goal.put_file-f-requires
 put_file-f-requires c =
-    layers_tested (tested (goal.at.put_file-f-requires c).In_default) (held_word_is c.base_z-low.type-inv c.base_z-low.ensures.value) c.taken_count-count.ensures.value
+    layers_tested (tested (goal.at.put_file-f-requires c).In_default) (held_word_is c.base_z-low.type_inv c.base_z-low.ensures.value) c.taken_count-count.ensures.value
 
 pub clear_work-requires : goal.clear_work-requires
 clear_work-requires c =

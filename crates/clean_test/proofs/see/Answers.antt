@@ -20,55 +20,47 @@ module _ (start : Start) where
 
 -- what is known of the two points, which were handed on
 module _ (c : After-same_point) where
-  abbrev entry : Start
-  entry = FIXME[c as Start]
-
-  same-told : c.same_point.result ≡ same_point (before entry) (next entry)
+  same-told : c.same_point.result ≡ same_point (before c.before.before.before) (next c.before.before.before)
   same-told =
-      let f = entry.fits in
+      let f = c.ranges in
       simp (
-        to_z-of_z w32 entry.args.px f.px,
-        to_z-of_z w32 entry.args.py f.py,
-        to_z-of_z w32 entry.args.x f.x,
-        to_z-of_z w32 entry.args.y f.y,
+        to_z-of_z w32 c.args.px f.px,
+        to_z-of_z w32 c.args.py f.py,
+        to_z-of_z w32 c.args.x f.x,
+        to_z-of_z w32 c.args.y f.y,
       ) at c.same_point.ensures.value
 
 known-told : (c : After-is_known)
-    → 
-    FIXME[c at After-is_known: c.is_Known.result] ≡ is_known c.args.s (next FIXME[c as Start])
+    →
+    c.is_known.result ≡ is_known c.args.s (next c.before.before.before.before.before)
 known-told c =
-    
-    simp (to_z-of_z w32 c.args.x c.ranges.x, to_z-of_z w32 c.args.y c.ranges.y) at FIXME[c at After-is_known: c.is_Known.ensures]
+    simp (to_z-of_z w32 c.args.x c.ranges.x, to_z-of_z w32 c.args.y c.ranges.y) at c.is_known.ensures.value
 
 pub returns-then-s-eq0 : goal.returns-then-s-eq0
 returns-then-s-eq0 c = record {
-      value = simp (to_z-of_z w32 c.args.x c.ranges.x, to_z-of_z w32 c.args.y c.ranges.y)
-    (see_first c.args.s (before (goal.at.returns-then-s-eq0 c).Start) (next (goal.at.returns-then-s-eq0 c).Start) c.if-s-eq0.true);
-    }
+  value = simp (to_z-of_z w32 c.args.x c.ranges.x, to_z-of_z w32 c.args.y c.ranges.y)
+      (see_first c.args.s (before (goal.at.returns-then-s-eq0 c).Start) (next (goal.at.returns-then-s-eq0 c).Start) c.if-s-eq0.true);
+}
 
 pub returns-then-is_known : goal.returns-then-is_known
 returns-then-is_known c =
-    
-    
     let s = (entry (goal.at.returns-then-is_known c).After-same_point).args.s in
     let fits = c.struct_told-1.given.1 in record {
       value = simp (held w32 s.x fits.0.1, held w32 s.y fits.1.0.1, held w32 s.u fits.1.1.0.1, held w32 s.v fits.1.1.1.0.1)
-    (see_known s (before (entry (goal.at.returns-then-is_known c).After-same_point)) (next (entry (goal.at.returns-then-is_known c).After-same_point)) c.if-s-eq0.false (same-told (goal.at.returns-then-is_known c).After-same_point) (known-told (goal.at.returns-then-is_known c).After-is_known) c.if-is_known.true);
+          (see_known s (before (entry (goal.at.returns-then-is_known c).After-same_point)) (next (entry (goal.at.returns-then-is_known c).After-same_point)) c.if-s-eq0.false (same-told (goal.at.returns-then-is_known c).After-same_point) (known-told (goal.at.returns-then-is_known c).After-is_known) c.if-is_known.true);
     }
 
 pub returns : goal.returns
 returns c =
-    
-    
     let start = entry (goal.at.returns c).After-same_point in
     let s = start.args.s in
     let fits = c.struct_told-2-1.given.1 in record {
       value = simp (
-      held w32 s.x fits.0.1,
-      held w32 s.y fits.1.0.1,
-      to_z-of_z w32 start.args.x start.fits.x,
-      to_z-of_z w32 start.args.y start.fits.y,
-    )
-    (see_new s (before start) (next start) c.if-s-eq0.false (same-told (goal.at.returns c).After-same_point) (known-told (goal.at.returns c).After-is_known) c.if-is_known.false
-    c.one_more.ensures.value);
+        held w32 s.x fits.0.1,
+        held w32 s.y fits.1.0.1,
+        to_z-of_z w32 start.args.x start.fits.x,
+        to_z-of_z w32 start.args.y start.fits.y,
+      )
+          (see_new s (before start) (next start) c.if-s-eq0.false (same-told (goal.at.returns c).After-same_point) (known-told (goal.at.returns c).After-is_known) c.if-is_known.false
+          c.one_more.ensures.value);
     }

@@ -18,5 +18,5 @@ doubled_area-requires c = tested_run _ c.points_test-a.ensures.told c.in_default
 pub returns : goal.returns
 returns c = record {
   outcome = does_give c.points_test-a.ensures.told (ap tell_verdict c.in_default.is)
-      (ap gives (same w64 c.doubled_area.result c.doubled_area.type-inv ∙ c.doubled_area.ensures.value)) refl;
+      (ap gives (same w64 c.doubled_area.result c.doubled_area.type_inv ∙ c.doubled_area.ensures.value)) refl;
 }

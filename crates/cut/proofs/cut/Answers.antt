@@ -18,7 +18,7 @@ returns-in-Refused c = record { outcome = cuts_refused _ _ _ c.tables_test-v.ens
 pub slice-requires : goal.slice-requires
 slice-requires c =
     let m = paired c.args.coords.now c.args.corners.now c.args.pairing.now in
-    let t = lent c.args.names.now c.args.points.now c.args.ends.now c.args.marks.now in FIXME[fact_1 fact_2] passed m c.args.h t c.tables_test-v.ensures.told (ap tell_verdict c.in_default.is)
+    let t = lent c.args.names.now c.args.points.now c.args.ends.now c.args.marks.now in let given = passed m c.args.h t c.tables_test-v.ensures.told (ap tell_verdict c.in_default.is) in record { fact_1 = given.0; fact_2 = given.1 }
 
 pub returns : goal.returns
 returns c =

@@ -16,7 +16,7 @@ charged-at c =
     ⊎_elim (λ a. at_own e a.0.taken a.1) (λ b. at_none e b.0.left b.1) c.if-fits.branch
 
 pub charge_file-c-requires : goal.charge_file-c-requires
-charge_file-c-requires c = (charged-at (goal.at.charge_file-c-requires c).Joined-fits).low
+charge_file-c-requires c = (charged-at c).low
 
 -- what the file is charged
 charge : (c : After-charge_file-c) {s : FileCharge} → c.charge_file-c.result ≡ s

@@ -5,4 +5,4 @@ use borrow.Author.Rules.{rules}
 use Rattle.out_words.proofs.refuse.Goals as goal
 
 pub returns : goal.returns
-returns c = record { outcome = (FIXME[c at After-number_of: c.number_of_lem.ensures], ap (set c.args.out.now 0) c.place_of.ensures.value) }
+returns c = record { outcome = (c.number_of.ensures.value, ap (set c.args.out.now 0) c.place_of.ensures.value) }

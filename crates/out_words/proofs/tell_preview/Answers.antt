@@ -11,7 +11,7 @@ pub returns-in-Call : goal.returns-in-Call
 returns-in-Call c =
     let is = c.in-Call.is in
     let xy = c.args.xy.now in
-    let told = FIXME[c at After-tell_call: c.tell-call.ensures] in record {
+    let told = (c.tell_call.ensures.outcome, c.tell_call.ensures.left) in record {
       outcome = says_as (ap tell_preview (sym is)) told.0;
       left = told.1 ∙ ap (λ (k : PreviewAnswer). xy_after (tell_preview k) xy) (sym is);
     }

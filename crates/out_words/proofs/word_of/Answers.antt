@@ -15,19 +15,19 @@ not_neg : (c : Else-z-lt0) → NonNegative c.args.z
 not_neg c = non_negative _ c.ranges.z (lt_false (fit c.ranges.z) (lit (pos 0) tt) c.if-z-lt0.false)
 
 pub overflow_sub-k : goal.overflow_sub-k
-overflow_sub-k c = below_fits (neg (goal.at.overflow_sub-k c).Then-z-lt0)
+overflow_sub-k c = below_fits (neg c)
 
 pub overflow_cast-result : goal.overflow_cast-result
-overflow_cast-result c = plain_ok (below_is (neg (goal.at.overflow_cast-result c).Then-z-lt0)) (neg (goal.at.overflow_cast-result c).Then-z-lt0).small
+overflow_cast-result c = plain_ok (below_is (neg c)) (neg c).small
 
 pub overflow_sub-result : goal.overflow_sub-result
-overflow_sub-result c = omega (arith, (neg (goal.at.overflow_sub-result c).Then-z-lt0).small, ap nat_abs (below_is (neg (goal.at.overflow_sub-result c).Then-z-lt0)))
+overflow_sub-result c = omega (arith, (neg c).small, ap nat_abs (below_is (neg c)))
 
 pub returns-then-z-lt0 : goal.returns-then-z-lt0
-returns-then-z-lt0 c = record { value = omega (arith, ap nat_abs (below_is (neg (goal.at.returns-then-z-lt0 c).Then-z-lt0)), word_negative (neg (goal.at.returns-then-z-lt0 c).Then-z-lt0)) }
+returns-then-z-lt0 c = record { value = omega (arith, ap nat_abs (below_is (neg c)), word_negative (neg c)) }
 
 pub overflow_cast-result-2 : goal.overflow_cast-result-2
-overflow_cast-result-2 c = plain_ok (not_neg (goal.at.overflow_cast-result-2 c).Else-z-lt0).is (not_neg (goal.at.overflow_cast-result-2 c).Else-z-lt0).small
+overflow_cast-result-2 c = plain_ok (not_neg c).is (not_neg c).small
 
 pub returns : goal.returns
-returns c = record { value = omega (arith, ap nat_abs (not_neg (goal.at.returns c).Else-z-lt0).is, word_non_negative (not_neg (goal.at.returns c).Else-z-lt0)) }
+returns c = record { value = omega (arith, ap nat_abs (not_neg c).is, word_non_negative (not_neg c)) }

@@ -24,7 +24,7 @@ unfolding unless_refused
 returns c =
     let calls = calls_of c.args.origin (flat c.args.points.now c.args.ends.now) in
     let u = call_tables c.args.kinds.now c.args.floats.now in
-    let filled = FIXME[c at After-fill_calls: at_fill_lem.fill-calls.ensures] in record {
+    let filled = (c.fill_calls.ensures.value, c.fill_calls.ensures.left) in record {
       outcome = does_give c.preview_test-v.ensures.told (ap tell_verdict c.in_default.is) (ap gives filled.0)
           (filled.1 ∙ ap (λ (n : ℕ). filled_with (take n (drop c.args.number calls)) u) filled.0);
     }

@@ -17,23 +17,19 @@ use Rattle.read_layer.specs.declared.FindLayerAnswer.{FindLayerAnswer}
 use Rattle.read_layer.proofs.Answering.{no_count, searched_broken, searched_missing, searched_found, LayerFound, refused_broken, refused_short, ready}
 use borrow.Author.Rules.{rules}
 use Rattle.read_layer.proofs.locate.Goals as goal
-use Rattle.read_layer.proofs.locate.Goals.{After-find_layer-s, In-Found, In-Value, Start}
+use Rattle.read_layer.proofs.locate.Goals.{After-find_layer-s, In-Found, In-Value}
 
 pub returns-in_default : goal.returns-in_default
 returns-in_default c =
-    
     let a = c.args in record { result = verdict_broken _ a.i _ a.profile (no_count _ (sym c.read_number-n.ensures.value ∙ c.in_default.is)) }
 
 -- the layer count, and where the layers start
 module _ (c : In-Value) where
-  abbrev entry : Start
-  entry = FIXME[c as Start]
-
   abbrev profile : Profile
-  profile = entry.args.profile
+  profile = c.args.profile
 
   abbrev file : List ℕ
-  file = entry.args.file.now
+  file = c.args.file.now
 
   abbrev number : ℕ
   number = c.in-Value.count
@@ -49,20 +45,17 @@ module _ (c : In-Value) where
   layers = last_layers profile number lowest file start
 
 pub find_layer-s-requires : goal.find_layer-s-requires
-find_layer-s-requires c = (took (count (goal.at.find_layer-s-requires c).In-Value)).inside
+find_layer-s-requires c = (took (count c)).inside
 
 -- what the search says
 sought : (c : After-find_layer-s) {s : FindLayerAnswer} → c.find_layer-s.result ≡ s
-    → Searched (file FIXME[c as In-Value]) (entry FIXME[c as In-Value]).args.i (layers FIXME[c as In-Value]) s
-sought c e = subst (Searched (file FIXME[c as In-Value]) (entry FIXME[c as In-Value]).args.i (layers FIXME[c as In-Value])) e c.find_layer-s.ensures.result
+    → Searched (file c.before) c.args.i (layers c.before) s
+sought c e = subst (Searched (file c.before) c.args.i (layers c.before)) e c.find_layer-s.ensures.result
 
 -- the layer that it found
 module _ (c : In-Found) where
-  abbrev at_count : In-Value
-  at_count = FIXME[c as In-Value]
-
-  layer_held : LayerFound (profile at_count) (file at_count) (count at_count) (entry at_count).args.i c.in-Found.p
-  layer_held = searched_found (profile at_count) _ (count at_count) _ (sought FIXME[c as After-find_layer-s] c.in-Found.is)
+  layer_held : LayerFound (profile c.before.before.before.before) (file c.before.before.before.before) (count c.before.before.before.before) c.args.i c.in-Found.p
+  layer_held = searched_found (profile c.before.before.before.before) _ (count c.before.before.before.before) _ (sought c.before.before.before c.in-Found.is)
 
 pub returns-then-read_layer_room_for : goal.returns-then-read_layer_room_for
 returns-then-read_layer_room_for c = record { result = ready (profile (at_count (goal.at.returns-then-read_layer_room_for c).In-Found)) _ (layer_held (goal.at.returns-then-read_layer_room_for c).In-Found) (sym c.read_layer_room_for.ensures.value ∙ c.if-read_layer_room_for.true) }
@@ -75,14 +68,9 @@ returns-else-read_layer_room_for c = record { result = refused_short (profile (a
 
 pub returns-in-Missing : goal.returns-in-Missing
 returns-in-Missing c =
-    
-    
     let q = searched_missing (profile (goal.at.returns-in-Missing c).In-Value) _ (count (goal.at.returns-in-Missing c).In-Value) _ (sought (goal.at.returns-in-Missing c).After-find_layer-s c.in-Missing.is) in record { result = verdict_absent _ _ _ (profile (goal.at.returns-in-Missing c).In-Value) q.1 q.2 }
 
 pub returns-in-Broken : goal.returns-in-Broken
 returns-in-Broken c =
-    
-    
-    
     let i = (entry (goal.at.returns-in-Broken c).In-Value).args.i in
     let h = searched_broken (profile (goal.at.returns-in-Broken c).In-Value) _ (count (goal.at.returns-in-Broken c).In-Value) i (sought (goal.at.returns-in-Broken c).After-find_layer-s c.in-Broken.is) in record { result = refused_broken (profile (goal.at.returns-in-Broken c).In-Value) _ (count (goal.at.returns-in-Broken c).In-Value) i _ h ∙ ap (λ (r : Refusal). refuses (told_of r)) (sym c.refusal_at.ensures.value) }

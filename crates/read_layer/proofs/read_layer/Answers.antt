@@ -36,12 +36,9 @@ module _ (c : After-locate-a) where
 
 -- the layer that they found
 module _ (c : In-At) where
-  abbrev at-locate : After-locate-a
-  at-locate = FIXME[c as After-locate-a]
-
-  ready : Ready (profile at-locate) (file at-locate) (index at-locate) (entries_of (tables at-locate)) c.in-At.count
+  ready : Ready (profile c.before.before.before) (file c.before.before.before) (index c.before.before.before) (entries_of (tables c.before.before.before)) c.in-At.count
       c.in-At.p
-  ready = told at-locate c.in-At.is
+  ready = told c.before.before.before c.in-At.is
 
   -- its height as a number of 64 bits and of 32 bits
   abbrev height : ℤ
@@ -58,8 +55,6 @@ fill_layer-requires c = fill_ready (ready (goal.at.fill_layer-requires c).In-At)
 
 pub overflow_cast-result : goal.overflow_cast-result
 overflow_cast-result c =
-    
-    
     rw (wide (goal.at.overflow_cast-result c).In-At) (record { sfits = height_fits (ready (goal.at.overflow_cast-result c).In-At) })
 
 pub returns-in-Refused : goal.returns-in-Refused

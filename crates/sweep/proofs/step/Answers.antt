@@ -23,18 +23,16 @@ sweepOf start =
 
 -- where the tests refuse nothing: what they establish, and the next vertex, if there is one
 tested : (c : In_default)
-    → let s = sweepOf FIXME[c as Start] in
+    → let s = sweepOf c.before.before.before.before.before.before.before in
     StepTested s.ordered (length s.ring) s.passed
 tested c =
-    
-    step_passed (sweepOf FIXME[c as Start]) c.step_test-v.ensures.told (ap tell_verdict c.in_default.is)
+    step_passed (sweepOf c.before.before.before.before.before.before.before) c.step_test-v.ensures.told (ap tell_verdict c.in_default.is)
 
 ranked : (c : In_default)
-    → let s = sweepOf FIXME[c as Start] in
+    → let s = sweepOf c.before.before.before.before.before.before.before in
     (s.passed ≡ vertex_count (mesh_of s).coords → ⊥) → Ranked (mesh_of s).coords s.ordered.order s.passed
 ranked c =
-    
-    next_ranked (sweepOf FIXME[c as Start]) c.step_test-v.ensures.told (ap tell_verdict c.in_default.is)
+    next_ranked (sweepOf c.before.before.before.before.before.before.before) c.step_test-v.ensures.told (ap tell_verdict c.in_default.is)
 
 pub returns-in-Refused : goal.returns-in-Refused
 returns-in-Refused c = record { outcome = steps_refused _ c.step_test-v.ensures.told (ap tell_verdict c.in-Refused.is) }
@@ -49,28 +47,27 @@ pub bounds-order-n : goal.bounds-order-n
 bounds-order-n c = (ranked (goal.at.bounds-order-n c).In_default c.if-n-coords.false).there
 
 inside : (c : After-wide-w)
-    → 
+    →
     3 * c.wide-w.result + 2 < length c.args.coords.now
-inside c = omega (arith, c.wide-w.ensures.value, (ranked FIXME[c as In_default] c.if-n-coords.false).vertex)
+inside c = omega (arith, c.wide-w.ensures.value, (ranked c.before.before.before c.if-n-coords.false).vertex)
 
 pub overflow_mul-i : goal.overflow_mul-i
-overflow_mul-i c = omega (arith, inside (goal.at.overflow_mul-i c).After-wide-w)
+overflow_mul-i c = omega (arith, inside c)
 
 pub overflow_add-i : goal.overflow_add-i
-overflow_add-i c = omega (arith, inside (goal.at.overflow_add-i c).After-wide-w)
+overflow_add-i c = omega (arith, inside c)
 
 pub offset_bounds-coords-i : goal.offset_bounds-coords-i
-offset_bounds-coords-i c = omega (arith, inside (goal.at.offset_bounds-coords-i c).After-wide-w)
+offset_bounds-coords-i c = omega (arith, inside c)
 
 pub bounds-coords-i : goal.bounds-coords-i
-bounds-coords-i c = inside (goal.at.bounds-coords-i c).After-wide-w
+bounds-coords-i c = inside c
 
 pub overflow_add-w : goal.overflow_add-w
 overflow_add-w c = omega (arith, inside (goal.at.overflow_add-w c).After-wide-w)
 
 pub relink-requires : goal.relink-requires
 relink-requires c =
-    
     let t = tested (goal.at.relink-requires c).In_default in record {
       fact_1 = t.placed.right.named;
       fact_2 = t.placed.right.linked;
@@ -79,13 +76,12 @@ relink-requires c =
 
 pub overflow_add-result : goal.overflow_add-result
 overflow_add-result c =
-    
     let r = ranked (goal.at.overflow_add-result c).In_default c.if-n-coords.false in
     omega (arith, r.there)
 
 pub returns : goal.returns
 returns c = record {
-      outcome = steps_taken (sweepOf (goal.at.returns c).Start) c.step_test-v.ensures.told (ap tell_verdict c.in_default.is)
-    c.if-n-coords.false c.wide-w.ensures.value (same w32 _ c.z-1.given)
-    refl c.relink.ensures.left;
-    }
+  outcome = steps_taken (sweepOf (goal.at.returns c).Start) c.step_test-v.ensures.told (ap tell_verdict c.in_default.is)
+      c.if-n-coords.false c.wide-w.ensures.value (same w32 _ c.z-1.given)
+      refl c.relink.ensures.left;
+}

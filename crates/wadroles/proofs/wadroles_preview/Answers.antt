@@ -12,7 +12,7 @@ use Rattle.wadroles.proofs.wadroles_preview.Goals as goal
 pub returns : goal.returns
 returns c =
     let xy = c.args.xy.now in
-    let told = FIXME[c at After-tell_preview: c.tell-preview.ensures] in record {
+    let told = (c.tell_preview.ensures.outcome, c.tell_preview.ensures.left) in record {
       outcome = record {
         exports = exports_told c.preview-a.ensures.outcome told.0;
         writes = told.1 ∙ ap (λ (a : Answer Told (Option PathCall)). xy_after a xy) c.preview-a.ensures.outcome.answers;

@@ -21,22 +21,22 @@ none : (c : Else-heights-gt0) → length c.args.heights.now ≡ 0
 none c = omega arith
 
 pub overflow_mul-above : goal.overflow_mul-above
-overflow_mul-above c = omega (arith, above_small c.ranges.low c.requires (none (goal.at.overflow_mul-above c).Else-heights-gt0))
+overflow_mul-above c = omega (arith, above_small c.ranges.low c.requires (none c))
 
 pub overflow_add-above : goal.overflow_add-above
-overflow_add-above c = omega (arith, above_small c.ranges.low c.requires (none (goal.at.overflow_add-above c).Else-heights-gt0))
+overflow_add-above c = omega (arith, above_small c.ranges.low c.requires (none c))
 
 pub overflow_cast-above : goal.overflow_cast-above
-overflow_cast-above c = above_fits c.ranges.low c.requires (none (goal.at.overflow_cast-above c).Else-heights-gt0)
+overflow_cast-above c = above_fits c.ranges.low c.requires (none c)
 
 pub overflow_cast-h : goal.overflow_cast-h
 overflow_cast-h c = cast_ok (fit c.ranges.low) tt
 
 pub overflow_add-h : goal.overflow_add-h
-overflow_add-h c = add_ok (low_held c.ranges.low c.requires (none (goal.at.overflow_add-h c).Else-heights-gt0)) (above_held c.ranges.low c.requires (none (goal.at.overflow_add-h c).Else-heights-gt0)) tt
+overflow_add-h c = add_ok (low_held c.ranges.low c.requires (none c)) (above_held c.ranges.low c.requires (none c)) tt
 
 pub overflow_cast-result : goal.overflow_cast-result
-overflow_cast-result c = height_fits c.ranges.low c.requires (none (goal.at.overflow_cast-result c).Else-heights-gt0)
+overflow_cast-result c = height_fits c.ranges.low c.requires (none c)
 
 pub returns : goal.returns
-returns c = record { value = height_is c.ranges.low c.requires (none (goal.at.returns c).Else-heights-gt0) }
+returns c = record { value = height_is c.ranges.low c.requires (none c) }

@@ -12,4 +12,4 @@ put_layers-requires c = record {
 }
 
 pub returns : goal.returns
-returns c = FIXME[outcome work] search rules
+returns c = let given = search rules in record { outcome = given.0; work = given.1 }

@@ -12,6 +12,6 @@ overflow_cast-h c = cast_ok (fit c.ranges.h) tt
 
 pub returns : goal.returns
 returns c = record {
-  result = height_measured c.args.h c.ranges.h.sfits (FIXME[c at After-number_length: c.before.Unsigned-of.ensures] ∙ ap zigzag (cast {w' = w64} (fit c.ranges.h) tt).is)
+  result = height_measured c.args.h c.ranges.h.sfits (c.unsigned_of.ensures.value ∙ ap zigzag (cast {w' = w64} (fit c.ranges.h) tt).is)
       c.number_length.ensures.value;
 }

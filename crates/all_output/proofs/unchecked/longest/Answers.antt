@@ -56,7 +56,7 @@ loop-k-smaller c = omega (arith, c.loop-k-test.true)
 pub loop-k-preserved : goal.loop-k-preserved
 loop-k-preserved c =
     bounding_next c.loop-k.invariant c.loop-k-test.true
-    (held_word_is c.taken_height-h.type-inv c.taken_height-h.ensures.value) c.height_length.ensures.result.0 c.height_length.ensures.result.1
+    (held_word_is c.taken_height-h.type_inv c.taken_height-h.ensures.value) c.height_length.ensures.result.0 c.height_length.ensures.result.1
 
 pub returns : goal.returns
 returns c = record { value = bounding_end (to_z-of_z w32 c.args.low c.ranges.low) c.loop-k.invariant c.loop-k-test.false }

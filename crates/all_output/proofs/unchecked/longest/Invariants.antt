@@ -12,7 +12,7 @@ use Rattle.all_output.proofs.Bounding.{Bounding, bounding_start, bounding_next, 
 use Rattle.all_output.proofs.unchecked.longest.Given as goal
 
 abbrev pub invariant-loop-k : goal.invariant-loop-k
-invariant-loop-k l = Bounding (taken_heights (to_z w32 l.low) l.heights l.count) l.crossings l.k l.total
+invariant-loop-k l = Bounding (taken_heights l.low l.heights l.count) l.crossings l.k l.total
 
 abbrev pub decreases-loop-k : goal.decreases-loop-k
 decreases-loop-k l = l.count - l.k

@@ -29,7 +29,7 @@ longest-bound-requires c =
 pub is_short-short-requires : goal.is_short-short-requires
 is_short-short-requires c =
     let t = tested_held (to_z-of_z w32 c.args.low c.ranges.low) c.requires.fact_1 in
-    let begun = FIXME[c at After-begin: at-begin.begin.ensures] in
+    let begun = (c.begin-crossings.ensures.lists, c.begin-crossings.ensures.spent, c.begin-crossings.ensures.total) in
     let bound = file_bound c.args.profile _ t.right t.listed begun.1.1 c.longest-bound.ensures.value in record {
       fact_1 = tested_more t (works_begun begun.1.0);
       fact_2 = begun.0;
@@ -38,7 +38,7 @@ is_short-short-requires c =
 
 pub returns-then-short : goal.returns-then-short
 returns-then-short c =
-    let tested = FIXME[c at After-is_short: at-short.is-short.ensures] in record {
+    let tested = (c.is_short-short.ensures.value, c.is_short-short.ensures.work, c.is_short-short.ensures.outcome) in record {
       outcome = puts_short _ _ (sym tested.0 ∙ c.if-short.true);
       work = works_more (works_begun c.begin-crossings.ensures.spent) tested.1.0;
     }
@@ -46,30 +46,30 @@ returns-then-short c =
 pub write_layers-n-requires : goal.write_layers-n-requires
 write_layers-n-requires c =
     let t = tested_held (to_z-of_z w32 c.args.low c.ranges.low) c.requires.fact_1 in
-    let tested = FIXME[c at After-is_short-arg6: at-short.is-short.ensures] in record {
-      fact_1 = tested_more t (works_more (works_begun FIXME[c at After-begin-arg3: at-begin.begin.ensures.1.0]) tested.1.0);
-      fact_2 = tested.1.1 FIXME[c at After-slice_known14: at_test.if1.false];
-      fact_3 = ltb-false _ _ (sym tested.0 ∙ FIXME[c at After-slice_known14: at_test.if1.false]);
+    let tested = (c.is_short-short.ensures.value, c.is_short-short.ensures.work, c.is_short-short.ensures.outcome) in record {
+      fact_1 = tested_more t (works_more (works_begun c.begin-crossings.ensures.spent) tested.1.0);
+      fact_2 = tested.1.1 c.if-short.false;
+      fact_3 = ltb-false _ _ (sym tested.0 ∙ c.if-short.false);
     }
 
 pub shape_of-marks : goal.shape_of-marks
 shape_of-marks c =
-    (works_more (works_more (works_begun FIXME[c at After-begin-arg3: at-begin.begin.ensures.1.0]) FIXME[c at After-is_short-arg6: at-short.is-short.ensures.1.0]) c.write_layers-n.ensures.work
+    (works_more (works_more (works_begun c.begin-crossings.ensures.spent) c.is_short-short.ensures.work) c.write_layers-n.ensures.work
     ).marks_spent.same_length
 
 pub shape_of-ring : goal.shape_of-ring
 shape_of-ring c =
-    (works_more (works_more (works_begun FIXME[c at After-begin-arg3: at-begin.begin.ensures.1.0]) FIXME[c at After-is_short-arg6: at-short.is-short.ensures.1.0]) c.write_layers-n.ensures.work
+    (works_more (works_more (works_begun c.begin-crossings.ensures.spent) c.is_short-short.ensures.work) c.write_layers-n.ensures.work
     ).ring_spent.same_length
 
 pub shape_of-heads : goal.shape_of-heads
 shape_of-heads c =
-    FIXME[c at After-is_short-arg6: at-short.is-short.auto.1.1.1.1.1.1.1.1.1.1.1.1.0] ∙ FIXME[c at After-begin-arg3: at-begin.begin.auto.1.1.1.1.1.1.1.0]
+    c.is_short-short.auto.1.1.1.1.1.1.1.1.1.1.1.1.0 ∙ c.begin-crossings.auto.1.1.1.1.1.1.1.0
 
 pub returns : goal.returns
 returns c =
-    let tested = FIXME[c at After-is_short-arg6: at-short.is-short.ensures] in
-    let written = FIXME[c at After-write_layers: at-write.write-layers.ensures] in record {
-      outcome = puts_whole _ _ (sym tested.0 ∙ FIXME[c at After-slice_known14: at_test.if1.false]) written.0 written.1.0;
-      work = works_more (works_more (works_begun FIXME[c at After-begin-arg3: at-begin.begin.ensures.1.0]) tested.1.0) written.1.1;
+    let tested = (c.is_short-short.ensures.value, c.is_short-short.ensures.work, c.is_short-short.ensures.outcome) in
+    let written = (c.write_layers-n.ensures.value, c.write_layers-n.ensures.output_left, c.write_layers-n.ensures.work) in record {
+      outcome = puts_whole _ _ (sym tested.0 ∙ c.if-short.false) written.0 written.1.0;
+      work = works_more (works_more (works_begun c.begin-crossings.ensures.spent) tested.1.0) written.1.1;
     }

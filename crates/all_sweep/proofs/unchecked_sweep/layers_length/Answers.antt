@@ -48,30 +48,30 @@ taken_height-h-requires c =
 
 pub layer_length-total-requires : goal.layer_length-total-requires
 layer_length-total-requires c =
-    FIXME[c at After-next_layer-arg4: at_next.next-layer.ensures.0.tables]
+    c.next_layer-s.ensures.layer.tables
 
 pub overflow_add-total : goal.overflow_add-total
 overflow_add-total c =
     let ready = tested (goal.at.overflow_add-total c).Start in
     record {
-      fits = measured_fits _ _ ready.listed ready.right FIXME[c at After-number_length: at_test.before.loop.invariant.0] FIXME[c at After-number_length: at_test.loop-test.true] FIXME[c at After-ring: at_height.taken-height.type-inv]
-          FIXME[c at After-ring: at_height.taken-height.ensures] FIXME[c at After-next_layer-arg4: at_next.next-layer.ensures.0] c.layer_length-total.ensures.value;
+      fits = measured_fits _ _ ready.listed ready.right c.loop-k.invariant.0 c.loop-k-test.true c.taken_height-h.type_inv
+          c.taken_height-h.ensures.value c.next_layer-s.ensures.layer c.layer_length-total.ensures.value;
     }
 
 pub overflow_add-k : goal.overflow_add-k
 overflow_add-k c =
-    record { fits = omega (arith, FIXME[c at After-number_length: at_test.loop-test.true], c.requires.fact_1.listed.few) }
+    record { fits = omega (arith, c.loop-k-test.true, c.requires.fact_1.listed.few) }
 
 pub loop-k-smaller : goal.loop-k-smaller
 loop-k-smaller c =
-    omega (arith, FIXME[c at After-number_length: at_test.loop-test.true])
+    omega (arith, c.loop-k-test.true)
 
 pub loop-k-preserved : goal.loop-k-preserved
 loop-k-preserved c =
-    let inv = FIXME[c at After-number_length: at_test.before.loop.invariant] in
+    let inv = c.loop-k.invariant in
     let ready = tested (goal.at.loop-k-preserved c).Start in
-    let done = FIXME[c at After-next_layer-arg4: at_next.next-layer.ensures] in (
-      measured_next _ _ ready.listed ready.right inv.0 FIXME[c at After-number_length: at_test.loop-test.true] FIXME[c at After-ring: at_height.taken-height.type-inv] FIXME[c at After-ring: at_height.taken-height.ensures]
+    let done = (c.next_layer-s.ensures.layer, c.next_layer-s.ensures.work, c.next_layer-s.ensures.lists) in (
+      measured_next _ _ ready.listed ready.right inv.0 c.loop-k-test.true c.taken_height-h.type_inv c.taken_height-h.ensures.value
           done.0 c.layer_length-total.ensures.value,
       (works_more inv.1.0 done.1.0, done.1.1),
     )

@@ -12,7 +12,7 @@ use Rattle.all_sweep.specs.PassLaws.{held, held_word}
 use Rattle.all_sweep.specs.StepLaws.{height_held, points_asked, points_climb, level_tables, level_brought, level_holds, level_works, level_sweeps}
 use borrow.Author.Rules.{rules}
 use Rattle.all_sweep.proofs.unchecked_sweep.next_layer.Goals as goal
-use Rattle.all_sweep.proofs.unchecked_sweep.next_layer.Goals.{After-taken_height-h, Start}
+use Rattle.all_sweep.proofs.unchecked_sweep.next_layer.Goals.{After-slice_known-3-1, After-slice_known-4-1, After-taken_height-h, Start}
 
 abbrev start_of : After-taken_height-h → Start
 start_of at = at.before.before.before.before.before.before.before.before
@@ -29,9 +29,9 @@ level at =
       climbs = start.pre.1.1.0;
       sweeps = start.pre.1.1.1.0;
       less = start.pre.1.1.1.1;
-      is = height_held (to_z-of_z w32 start.args.low start.fits.low) start.args.heights.now start.args.k at.taken_height-h.type-inv
+      is = height_held (to_z-of_z w32 start.args.low start.fits.low) start.args.heights.now start.args.k at.taken_height-h.type_inv
           at.taken_height-h.ensures.value;
-      fits = held_word at.taken_height-h.result at.taken_height-h.type-inv;
+      fits = held_word at.taken_height-h.result at.taken_height-h.type_inv;
     }
 
 pub taken_height-h-requires : goal.taken_height-h-requires
@@ -43,12 +43,12 @@ advance-a-requires c = advancing (level (goal.at.advance-a-requires c).After-tak
 
 pub outline_crossings-f-requires : goal.outline_crossings-f-requires
 outline_crossings-f-requires c =
-    outlinable (level (goal.at.outline_crossings-f-requires c).After-slice_known-4-1) FIXME[c at After-advance-arg: at-advance.advance.ensures] (start_of (goal.at.outline_crossings-f-requires c).After-slice_known-4-1).requires.1.0 refl
+    outlinable (level (goal.at.outline_crossings-f-requires c).After-slice_known-4-1) c.advance-a.ensures.outcome (start_of (goal.at.outline_crossings-f-requires c).After-slice_known-4-1).requires.1.0 refl
 
 pub put_points-requires : goal.put_points-requires
 put_points-requires c =
     let start = start_of (goal.at.put_points-requires c).After-slice_known-3-1 in
-    let contours = FIXME[c at After-outline_crossings-arg3: at-outline.outline-crossings.ensures.0] in record {
+    let contours = c.outline_crossings-f.ensures.outcome in record {
       fact_1 = points_asked (level (goal.at.put_points-requires c).After-slice_known-3-1) start.args.points.now start.pre.1.0 contours;
       fact_2 = points_climb (level (goal.at.put_points-requires c).After-slice_known-3-1) start.args.points.now start.pre.1.0 contours;
     }
@@ -56,7 +56,7 @@ put_points-requires c =
 pub bring_into-contours-requires : goal.bring_into-contours-requires
 bring_into-contours-requires c =
     let start = start_of (goal.at.bring_into-contours-requires c).After-slice_known-3-1 in
-    level_tables (level (goal.at.bring_into-contours-requires c).After-slice_known-3-1) start.args.points.now start.pre.1.0 FIXME[c at After-outline_crossings-arg3: at-outline.outline-crossings.ensures.0] c.put_points.ensures.left
+    level_tables (level (goal.at.bring_into-contours-requires c).After-slice_known-3-1) start.args.points.now start.pre.1.0 c.outline_crossings-f.ensures.outcome c.put_points.ensures.left
 
 pub returns : goal.returns
 returns c =
@@ -64,9 +64,9 @@ returns c =
     let start = start_of (goal.at.returns c).After-slice_known-3-1 in
     let points = start.args.points.now in
     let long = start.pre.1.0 in
-    let o = FIXME[c at After-outline_crossings-arg3: at-outline.outline-crossings.ensures] in
+    let o = (c.outline_crossings-f.ensures.outcome, c.outline_crossings-f.ensures.marked) in
     let written = c.put_points.ensures.left in
-    let list = FIXME[c at After-wide: at-advance.advance.ensures] in
+    let list = c.advance-a.ensures.outcome in
     let left = level_brought v points long o.0 written start.args.profile c.bring_into-contours.ensures.outcome in record {
       layer = level_holds v points long o.0 written list o.1 left;
       work = level_works v points long o.0 written list o.1 left;

@@ -14,7 +14,7 @@ use Rattle.all_sweep.specs.PassLaws.{held, works_none, works_more, works_long}
 use Rattle.all_sweep.specs.PassLaws.{LayersPut, number_room, wrote_start, wrote_room, wrote_next, wrote_end, wrote_size}
 use Rattle.all_sweep.specs.StepLaws.{sweeping_held, tested_held}
 use Rattle.all_sweep.proofs.unchecked_sweep.write_layers.Goals as goal
-use Rattle.all_sweep.proofs.unchecked_sweep.write_layers.Goals.{After-next_layer-s, After-slice_known-in-loop-i-5-1, After-taken_height-h, In-loop-i, Start}
+use Rattle.all_sweep.proofs.unchecked_sweep.write_layers.Goals.{After-next_layer-s, After-ring-1, After-slice_known-in-loop-i-5-1, After-taken_height-h, In-loop-i, Start}
 
 -- what the tests establish, with the lowest z as the loop has it
 tested : (start : Start)
@@ -69,23 +69,23 @@ write_layer-p-requires c =
     let at_test = test_of at-layer in
     let layer = at-layer.next-layer.ensures.0 in record {
       fact_1 = layer.tables;
-      fact_2 = wrote_room _ _ (tested (start_of at_test)).listed at_test.before.loop.inv.0 at_test.loop-test.taken FIXME[c at After-ring: at_height.taken-height.type-inv]
-          FIXME[c at After-ring: at_height.taken-height.ensures] layer;
+      fact_2 = wrote_room _ _ (tested (start_of at_test)).listed at_test.before.loop.inv.0 at_test.loop-test.taken c.taken_height-h.type_inv
+          c.taken_height-h.ensures.value layer;
     }
 
 pub overflow_add-i : goal.overflow_add-i
 overflow_add-i c =
-    let at_test = test_of (next_of (height_of (goal.at.overflow_add-i c).After-slice_known-in-loop-i-5-1)) in
+    let at_test = test_of (next_of (height_of c)) in
     record { fits = omega (arith, at_test.loop-test.taken, (start_of at_test).pre.0.listed.few) }
 
 pub loop-i-smaller : goal.loop-i-smaller
 loop-i-smaller c =
-    let at_test = test_of (next_of (height_of (goal.at.loop-i-smaller c).After-slice_known-in-loop-i-5-1)) in
+    let at_test = test_of (next_of (height_of c)) in
     omega (arith, at_test.loop-test.taken)
 
 pub loop-i-preserved : goal.loop-i-preserved
 loop-i-preserved c =
-    let at_height = height_of (goal.at.loop-i-preserved c).After-slice_known-in-loop-i-5-1 in
+    let at_height = height_of c in
     let at-layer = next_of at_height in
     let at_test = test_of at-layer in
     let inv = at_test.before.loop.inv in

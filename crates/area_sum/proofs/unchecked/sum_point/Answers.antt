@@ -18,15 +18,12 @@ module _ (c : Start) where
 
 -- the sum with the trapezoid
 module _ (c : After-trapezoid) where
-  abbrev entry : Start
-  entry = FIXME[c as Start]
-
-  sum_told : to_z w64 (sum_with entry.pre.0 c.trapezoid.result c.trapezoid.type-inv c.trapezoid.ensures.result.1).n
-      ≡ entry.args.s.sum +ℤ trapezoid_points (prior entry) (next entry)
+  sum_told : to_z w64 (sum_with c.requires.0 c.trapezoid.result c.trapezoid.type_inv c.trapezoid.ensures.result.1).n
+      ≡ c.args.s.sum +ℤ trapezoid_points (prior c.before) (next c.before)
   sum_told =
-      (sum_with entry.pre.0 c.trapezoid.result c.trapezoid.type-inv c.trapezoid.ensures.result.1).is
-      ∙ ap (λ (z : ℤ). entry.args.s.sum +ℤ z)
-      (trapezoid_is (prior entry) (next entry) entry.pre.1 entry.pre.2 c.trapezoid.ensures.result.0)
+      (sum_with c.requires.0 c.trapezoid.result c.trapezoid.type_inv c.trapezoid.ensures.result.1).is
+      ∙ ap (λ (z : ℤ). c.args.s.sum +ℤ z)
+      (trapezoid_is (prior c.before) (next c.before) c.requires.1 c.requires.2 c.trapezoid.ensures.result.0)
 
 pub overflow_cast-px : goal.overflow_cast-px
 overflow_cast-px c = wide_fits c.args.px c.requires.1.0
@@ -41,21 +38,20 @@ pub overflow_cast-y : goal.overflow_cast-y
 overflow_cast-y c = wide_fits c.args.y c.requires.2.1
 
 pub trapezoid-requires : goal.trapezoid-requires
-trapezoid-requires c = edge_near (prior (goal.at.trapezoid-requires c).Start) (next (goal.at.trapezoid-requires c).Start) c.requires.1 c.requires.2
+trapezoid-requires c = edge_near (prior c) (next c) c.requires.1 c.requires.2
 
 pub overflow_add-sum : goal.overflow_add-sum
-overflow_add-sum c = let t = c.trapezoid in sum_ok c.requires.0 t.result t.type-inv t.ensures.1
+overflow_add-sum c = let t = c.trapezoid in sum_ok c.requires.0 t.result t.type_inv t.ensures.1
 
 pub returns-then-s : goal.returns-then-s
 returns-then-s c =
-    
     let s = (entry (goal.at.returns-then-s c).After-trapezoid).args.s in record {
       value = simp (narrow_is s.x (entry (goal.at.returns-then-s c).After-trapezoid).requires.0.near.0, narrow_is s.y (entry (goal.at.returns-then-s c).After-trapezoid).requires.0.near.1)
-    (point_later s (prior (entry (goal.at.returns-then-s c).After-trapezoid)) (next (entry (goal.at.returns-then-s c).After-trapezoid)) (sum_told (goal.at.returns-then-s c).After-trapezoid) c.if-s.true);
+          (point_later s (prior (entry (goal.at.returns-then-s c).After-trapezoid)) (next (entry (goal.at.returns-then-s c).After-trapezoid)) (sum_told (goal.at.returns-then-s c).After-trapezoid) c.if-s.true);
     }
 
 pub returns : goal.returns
 returns c = record {
-      value = simp (narrow_is (entry (goal.at.returns c).After-trapezoid).args.x (entry (goal.at.returns c).After-trapezoid).requires.2.0, narrow_is (entry (goal.at.returns c).After-trapezoid).args.y (entry (goal.at.returns c).After-trapezoid).requires.2.1)
-    (point_first (entry (goal.at.returns c).After-trapezoid).args.s (prior (entry (goal.at.returns c).After-trapezoid)) (next (entry (goal.at.returns c).After-trapezoid)) (sum_told (goal.at.returns c).After-trapezoid) c.if-s.false);
-    }
+  value = simp (narrow_is (entry (goal.at.returns c).After-trapezoid).args.x (entry (goal.at.returns c).After-trapezoid).requires.2.0, narrow_is (entry (goal.at.returns c).After-trapezoid).args.y (entry (goal.at.returns c).After-trapezoid).requires.2.1)
+      (point_first (entry (goal.at.returns c).After-trapezoid).args.s (prior (entry (goal.at.returns c).After-trapezoid)) (next (entry (goal.at.returns c).After-trapezoid)) (sum_told (goal.at.returns c).After-trapezoid) c.if-s.false);
+}

@@ -19,13 +19,13 @@ module _ (c : Start) where
   v = arg c.ranges.v c.requires.3
 
 pub overflow_sub-result : goal.overflow_sub-result
-overflow_sub-result c = sub_ok (x (goal.at.overflow_sub-result c).Start) (u (goal.at.overflow_sub-result c).Start) tt
+overflow_sub-result c = sub_ok (x c) (u c) tt
 
 pub overflow_add-result : goal.overflow_add-result
-overflow_add-result c = add_ok (y (goal.at.overflow_add-result c).Start) (v (goal.at.overflow_add-result c).Start) tt
+overflow_add-result c = add_ok (y c) (v c) tt
 
 pub overflow_mul-result : goal.overflow_mul-result
-overflow_mul-result c = mul_ok (sub (x (goal.at.overflow_mul-result c).Start) (u (goal.at.overflow_mul-result c).Start) tt) (add (y (goal.at.overflow_mul-result c).Start) (v (goal.at.overflow_mul-result c).Start) tt) tt
+overflow_mul-result c = mul_ok (sub (x c) (u c) tt) (add (y c) (v c) tt) tt
 
 pub returns : goal.returns
-returns c = let d = mul (sub (x (goal.at.returns c).Start) (u (goal.at.returns c).Start) tt) (add (y (goal.at.returns c).Start) (v (goal.at.returns c).Start) tt) tt in record { result = (d.is, rw d.is d.le) }
+returns c = let d = mul (sub (x c) (u c) tt) (add (y c) (v c) tt) tt in record { result = (d.is, rw d.is d.le) }

@@ -40,13 +40,13 @@ trapezoid-sum-requires c =
     search (rules, held_x s s.held, held_y s s.held, held_x s next, held_y s next)
 
 pub overflow_add-sum : goal.overflow_add-sum
-overflow_add-sum c = sum_ok c.loop-k.invariant c.trapezoid-sum.result c.trapezoid-sum.type-inv c.trapezoid-sum.ensures.result.1
+overflow_add-sum c = sum_ok c.loop-k.invariant c.trapezoid-sum.result c.trapezoid-sum.type_inv c.trapezoid-sum.ensures.result.1
 
 pub loop-k-preserved : goal.loop-k-preserved
 loop-k-preserved c =
     let at-loop = c.loop-k in
     let next = loaded at-loop.invariant.run (at-loop.k + 1) in
-    again at-loop.invariant c.trapezoid-sum.result c.trapezoid-sum.type-inv c.trapezoid-sum.ensures.result.1 next c.trapezoid-sum.ensures.result.0 c.loop-k-test.true
+    again at-loop.invariant c.trapezoid-sum.result c.trapezoid-sum.type_inv c.trapezoid-sum.ensures.result.1 next c.trapezoid-sum.ensures.result.0 c.loop-k-test.true
 
 pub trapezoid-requires : goal.trapezoid-requires
 trapezoid-requires c =
@@ -55,9 +55,9 @@ trapezoid-requires c =
     search (rules, held_x s s.held, held_y s s.held, held_x s first, held_y s first)
 
 pub overflow_add-result : goal.overflow_add-result
-overflow_add-result c = sum_ok c.loop-k.invariant c.trapezoid.result c.trapezoid.type-inv c.trapezoid.ensures.result.1
+overflow_add-result c = sum_ok c.loop-k.invariant c.trapezoid.result c.trapezoid.type_inv c.trapezoid.ensures.result.1
 
 pub returns : goal.returns
 returns c =
     let s = c.loop-k.invariant in
-    let first = loaded s.run 0 in record { value = closed s c.trapezoid.result c.trapezoid.type-inv c.trapezoid.ensures.result.1 first c.trapezoid.ensures.result.0 c.loop-k-test.false }
+    let first = loaded s.run 0 in record { value = closed s c.trapezoid.result c.trapezoid.type_inv c.trapezoid.ensures.result.1 first c.trapezoid.ensures.result.0 c.loop-k-test.false }

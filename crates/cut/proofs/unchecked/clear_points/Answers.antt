@@ -17,10 +17,10 @@ pub loop-i-init : goal.loop-i-init
 loop-i-init c = (omega arith, omega arith, sym (refill_none _ _))
 
 pub offset_bounds-t-i : goal.offset_bounds-t-i
-offset_bounds-t-i c = let l = filled (goal.at.offset_bounds-t-i c).In-loop-i in omega arith
+offset_bounds-t-i c = let l = filled c in omega arith
 
 pub slice_set_of-t : goal.slice_set_of-t
-slice_set_of-t c = let l = filled (goal.at.slice_set_of-t c).In-loop-i in omega arith
+slice_set_of-t c = let l = filled c in omega arith
 
 pub loop-i-preserved : goal.loop-i-preserved
 loop-i-preserved c = let v = c.loop-i.invariant in (omega arith, v.1, (λ k. set (v.2 k) c.loop-i.i (pos 0)) ∙ refill_more _ _ _ (omega arith))

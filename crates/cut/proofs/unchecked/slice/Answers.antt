@@ -12,7 +12,7 @@ use borrow.Author.Rules.{rules}
 use Rattle.cut.proofs.unchecked.slice.Goals as goal
 
 pub link_at-requires : goal.link_at-requires
-link_at-requires c = FIXME[fact_1 fact_2 fact_3] search rules
+link_at-requires c = let given = search rules in record { fact_1 = given.0; fact_2 = given.1.0; fact_3 = given.1.1 }
 
 pub outline_rings-requires : goal.outline_rings-requires
 outline_rings-requires c =

@@ -42,41 +42,41 @@ module _ (c : Start) where
   n = add p (mul du t tt) tt
 
 pub overflow_cast-u : goal.overflow_cast-u
-overflow_cast-u c = cast_ok (u0 (goal.at.overflow_cast-u c).Start) tt
+overflow_cast-u c = cast_ok (u0 c) tt
 
 pub overflow_cast-z : goal.overflow_cast-z
-overflow_cast-z c = cast_ok (z0 (goal.at.overflow_cast-z c).Start) tt
+overflow_cast-z c = cast_ok (z0 c) tt
 
 pub overflow_cast-d : goal.overflow_cast-d
-overflow_cast-d c = cast_ok (z1 (goal.at.overflow_cast-d c).Start) tt
+overflow_cast-d c = cast_ok (z1 c) tt
 
 pub overflow_sub-d : goal.overflow_sub-d
-overflow_sub-d c = sub_ok (cast (z1 (goal.at.overflow_sub-d c).Start) tt) (cast (z0 (goal.at.overflow_sub-d c).Start) tt) tt
+overflow_sub-d c = sub_ok (cast (z1 c) tt) (cast (z0 c) tt) tt
 
 pub overflow_mul-n : goal.overflow_mul-n
-overflow_mul-n c = mul_ok (cast (u0 (goal.at.overflow_mul-n c).Start) tt) (d (goal.at.overflow_mul-n c).Start) tt
+overflow_mul-n c = mul_ok (cast (u0 c) tt) (d c) tt
 
 pub overflow_cast-n : goal.overflow_cast-n
-overflow_cast-n c = cast_ok (u1 (goal.at.overflow_cast-n c).Start) tt
+overflow_cast-n c = cast_ok (u1 c) tt
 
 pub overflow_sub-n : goal.overflow_sub-n
-overflow_sub-n c = sub_ok (cast (u1 (goal.at.overflow_sub-n c).Start) tt) (cast (u0 (goal.at.overflow_sub-n c).Start) tt) tt
+overflow_sub-n c = sub_ok (cast (u1 c) tt) (cast (u0 c) tt) tt
 
 pub overflow_cast-n-2 : goal.overflow_cast-n-2
-overflow_cast-n-2 c = cast_ok (h (goal.at.overflow_cast-n-2 c).Start) tt
+overflow_cast-n-2 c = cast_ok (h c) tt
 
 pub overflow_sub-n-2 : goal.overflow_sub-n-2
-overflow_sub-n-2 c = sub_ok (cast (h (goal.at.overflow_sub-n-2 c).Start) tt) (cast (z0 (goal.at.overflow_sub-n-2 c).Start) tt) tt
+overflow_sub-n-2 c = sub_ok (cast (h c) tt) (cast (z0 c) tt) tt
 
 pub overflow_mul-n-2 : goal.overflow_mul-n-2
-overflow_mul-n-2 c = mul_ok (du (goal.at.overflow_mul-n-2 c).Start) (t (goal.at.overflow_mul-n-2 c).Start) tt
+overflow_mul-n-2 c = mul_ok (du c) (t c) tt
 
 pub overflow_add-n : goal.overflow_add-n
-overflow_add-n c = add_ok (p (goal.at.overflow_add-n c).Start) (mul (du (goal.at.overflow_add-n c).Start) (t (goal.at.overflow_add-n c).Start) tt) tt
+overflow_add-n c = add_ok (p c) (mul (du c) (t c) tt) tt
 
 pub rounded-requires : goal.rounded-requires
 unfolding numerator denominator
-rounded-requires c = subst₂ Fraction (sym (n (goal.at.rounded-requires c).Start).is) (sym (d (goal.at.rounded-requires c).Start).is) (edge_fraction c.requires)
+rounded-requires c = subst₂ Fraction (sym (n c).is) (sym (d c).is) (edge_fraction c.requires)
 
 module _ (c : After-rounded) where
   abbrev exact : ℤ
@@ -84,13 +84,13 @@ module _ (c : After-rounded) where
 
   result_is : c.rounded.result ≡ exact
   unfolding numerator denominator
-  result_is = c.rounded.ensures.value ∙ (λ i. rounded ((n FIXME[c as Start]).is i) ((d FIXME[c as Start]).is i))
+  result_is = c.rounded.ensures.value ∙ (λ i. rounded ((n c.before).is i) ((d c.before).is i))
 
   abbrev point : Rd w64 exact 1048576
-  point = got c.rounded.type-inv result_is (edge_point c.requires)
+  point = got c.rounded.type_inv result_is (edge_point c.requires)
 
 pub overflow_cast-result : goal.overflow_cast-result
-overflow_cast-result c = cast_ok (point (goal.at.overflow_cast-result c).After-rounded) tt
+overflow_cast-result c = cast_ok (point c) tt
 
 pub returns : goal.returns
-returns c = record { value = (cast {w' = w32} (point (goal.at.returns c).After-rounded) tt).is }
+returns c = record { value = (cast {w' = w32} (point c) tt).is }

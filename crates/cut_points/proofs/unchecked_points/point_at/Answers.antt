@@ -14,11 +14,9 @@ use Rattle.cut_points.proofs.unchecked_points.point_at.Goals.{After-coord_of-z1,
 
 -- the end that was read
 end_is : (c : After-wide-b)
-    → 
+    →
     c.wide-b.result ≡ end_of c.args.corners.now c.args.c
 end_is c =
-    
-    
     c.wide-b.ensures.value ∙ ap (λ k. get_or c.args.corners.now k 0) c.next_corner-n.ensures.value
 
 pub coord_of-u1-requires : goal.coord_of-u1-requires
@@ -29,28 +27,22 @@ coord_of-z1-requires c = omega (arith, end_is (goal.at.coord_of-z1-requires c).A
 
 -- the five numbers that were read
 held : (c : After-coord_of-z1)
-    → 
-    
-    let s = c.args in 
+    →
+    let s = c.args in
     EdgeRead (mesh s.coords.now s.corners.now) s.h s.axis s.c
     (to_z w32 (of_z w32 c.coord_of-u0.result)) (to_z w32 (of_z w32 c.coord_of-u1.result))
     (to_z w32 (of_z w32 c.coord_of-z0.result)) (to_z w32 (of_z w32 c.coord_of-z1.result)) (to_z w32 (of_z w32 s.h))
 held c =
-    
-    
-    
-    
-    read_of c.wide-a.result c.wide-b.result c.wide-a.ensures.value (end_is FIXME[c as After-wide-b])
-    (result_is c.coord_of-u0.type-inv c.coord_of-u0.ensures.value)
-    (result_is c.coord_of-u1.type-inv c.coord_of-u1.ensures.value)
-    (result_is c.coord_of-z0.type-inv c.coord_of-z0.ensures.value)
-    (result_is c.coord_of-z1.type-inv c.coord_of-z1.ensures.value)
+    read_of c.wide-a.result c.wide-b.result c.wide-a.ensures.value (end_is c.before.before.before.before)
+    (result_is c.coord_of-u0.type_inv c.coord_of-u0.ensures.value)
+    (result_is c.coord_of-u1.type_inv c.coord_of-u1.ensures.value)
+    (result_is c.coord_of-z0.type_inv c.coord_of-z0.ensures.value)
+    (result_is c.coord_of-z1.type_inv c.coord_of-z1.ensures.value)
     (to_z-of_z w32 _ c.ranges.h)
 
 pub meet-requires : goal.meet-requires
 meet-requires c =
-    
-    read_edge (held (goal.at.meet-requires c).After-coord_of-z1) c.requires.fact_2 c.requires.fact_1
+    read_edge (held c) c.requires.fact_2 c.requires.fact_1
 
 pub returns : goal.returns
-returns c = record { value = result_is c.meet.type-inv c.meet.ensures.value ∙ read_point (held (goal.at.returns c).After-coord_of-z1) }
+returns c = record { value = result_is c.meet.type_inv c.meet.ensures.value ∙ read_point (held (goal.at.returns c).After-coord_of-z1) }

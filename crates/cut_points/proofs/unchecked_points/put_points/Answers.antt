@@ -10,7 +10,7 @@ use Rattle.mesh.specs.Meshes.{mesh}
 use Rattle.cut_points.specs.Climbs.{Climbs}
 use Rattle.cut_points.proofs.Writing.{PointsPut, written_none, written_more, written_all}
 use Rattle.cut_points.proofs.unchecked_points.put_points.Goals as goal
-use Rattle.cut_points.proofs.unchecked_points.put_points.Goals.{After-wide-c, Start}
+use Rattle.cut_points.proofs.unchecked_points.put_points.Goals.{After-wide-c}
 
 pub loop-i-init : goal.loop-i-init
 loop-i-init c = written_none
@@ -18,7 +18,7 @@ loop-i-init c = written_none
 -- the name that was read, at the height as it is held
 climbs : (c : After-wide-c)
     → 
-    let FIXME[c as Start] = c.args in Climbs (mesh FIXME[c at Start: s.coords.now] FIXME[c at Start: s.corners.now]) (to_z w32 (of_z w32 FIXME[c at Start: s.h]))
+    let c.before.before.before.before.before.before = c.args in Climbs (mesh FIXME[c at Start: s.coords.now] FIXME[c at Start: s.corners.now]) (to_z w32 (of_z w32 FIXME[c at Start: s.h]))
     c.wide-c.result
 climbs c =
     
@@ -28,7 +28,7 @@ climbs c =
 pub point_at-x-requires : goal.point_at-x-requires
 point_at-x-requires c = record {
       fact_1 = omega arith;
-      fact_2 = climbs (goal.at.point_at-x-requires c).After-wide-c;
+      fact_2 = climbs c;
     }
 
 pub point_at-y-requires : goal.point_at-y-requires
@@ -44,7 +44,7 @@ pub loop-i-preserved : goal.loop-i-preserved
 loop-i-preserved c =
     
     written_more c.loop-i.invariant c.wide-c.result c.point_at-x.result c.point_at-y.result c.wide-c.ensures.value
-    c.point_at-x.type-inv c.point_at-y.type-inv c.point_at-x.ensures.value c.point_at-y.ensures.value (omega arith) (omega arith) (omega arith)
+    c.point_at-x.type_inv c.point_at-y.type_inv c.point_at-x.ensures.value c.point_at-y.ensures.value (omega arith) (omega arith) (omega arith)
 
 pub shape_of-points : goal.shape_of-points
 shape_of-points c = c.loop-i.invariant.long

@@ -12,7 +12,7 @@ use Rattle.cut_points.proofs.Writing.{PointsPut, written_none, written_more, wri
 use Rattle.cut_points.proofs.unchecked_points.put_points.Given as goal
 
 abbrev pub invariant-loop-i : goal.invariant-loop-i
-invariant-loop-i l = PointsPut (mesh l.coords l.corners) (to_z w32 l.h) l.names l.initial.points l.k l.points l.i
+invariant-loop-i l = PointsPut (mesh l.coords l.corners) l.h l.names l.initial.points l.k l.points l.i
 
 abbrev pub decreases-loop-i : goal.decreases-loop-i
 decreases-loop-i l = l.k - l.i

@@ -22,7 +22,7 @@ module _ (c : Start) where
   m = mul (lit (pos 2) tt) d tt
 
 pub overflow_mul-m : goal.overflow_mul-m
-overflow_mul-m c = mul_ok (lit (pos 2) tt) (d (goal.at.overflow_mul-m c).Start) tt
+overflow_mul-m c = mul_ok (lit (pos 2) tt) (d c) tt
 
 pub overflow_sub-half : goal.overflow_sub-half
 overflow_sub-half c = sub_ok (d (goal.at.overflow_sub-half c).Start) (lit (pos 1) tt) tt
@@ -31,35 +31,34 @@ module _ (c : Joined-n-lt0) where
   -- the number that the two arms set
   half_is : to_z w64 c.if-n-lt0.half-bits ≡ half_for c.args.n c.args.d
   half_is =
-      
       ⊎_elim
-      (λ w. ap (to_z w64) w.1 ∙ (sub (d FIXME[c as Start]) (lit (pos 1) tt) tt).is ∙ half_less _ _ (lt_true (n FIXME[c as Start]) (lit (pos 0) tt) w.0.taken))
-      (λ w. ap (to_z w64) w.1 ∙ (d FIXME[c as Start]).is ∙ half_kept _ _ (lt_false (n FIXME[c as Start]) (lit (pos 0) tt) w.0.left))
+      (λ w. ap (to_z w64) w.1 ∙ (sub (d c.before) (lit (pos 1) tt) tt).is ∙ half_less _ _ (lt_true (n c.before) (lit (pos 0) tt) w.0.taken))
+      (λ w. ap (to_z w64) w.1 ∙ (d c.before).is ∙ half_kept _ _ (lt_false (n c.before) (lit (pos 0) tt) w.0.left))
       c.if-n-lt0.branch
 
   abbrev half : Rd w64 (half_for c.args.n c.args.d) 2097153
   half = record { n = c.if-n-lt0.half-bits; is = half_is; le = half_small c.args.n c.args.d c.requires.small }
 
   abbrev t : Rd w64 (raised c.args.n c.args.d) 8796095119361
-  t = add (add (mul (lit (pos 2) tt) (n FIXME[c as Start]) tt) half tt) (mul (lit (pos 1048576) tt) (m FIXME[c as Start]) tt) tt
+  t = add (add (mul (lit (pos 2) tt) (n c.before) tt) half tt) (mul (lit (pos 1048576) tt) (m c.before) tt) tt
 
   abbrev q : Rd w64 (quot_z (raised c.args.n c.args.d) (pos 2 *ℤ c.args.d)) 8796095119361
-  q = div t (m FIXME[c as Start]) (divisor_above _ _ c.requires) tt
+  q = div t (m c.before) (divisor_above _ _ c.requires) tt
 
 pub overflow_mul-t : goal.overflow_mul-t
 overflow_mul-t c = mul_ok (lit (pos 2) tt) (n (goal.at.overflow_mul-t c).Start) tt
 
 pub overflow_add-t : goal.overflow_add-t
-overflow_add-t c = add_ok (mul (lit (pos 2) tt) (n (goal.at.overflow_add-t c).Start) tt) (half (goal.at.overflow_add-t c).Joined-n-lt0) tt
+overflow_add-t c = add_ok (mul (lit (pos 2) tt) (n (goal.at.overflow_add-t c).Start) tt) (half c) tt
 
 pub overflow_mul-t-2 : goal.overflow_mul-t-2
 overflow_mul-t-2 c = mul_ok (lit (pos 1048576) tt) (m (goal.at.overflow_mul-t-2 c).Start) tt
 
 pub overflow_add-t-2 : goal.overflow_add-t-2
-overflow_add-t-2 c = add_ok (add (mul (lit (pos 2) tt) (n (goal.at.overflow_add-t-2 c).Start) tt) (half (goal.at.overflow_add-t-2 c).Joined-n-lt0) tt) (mul (lit (pos 1048576) tt) (m (goal.at.overflow_add-t-2 c).Start) tt) tt
+overflow_add-t-2 c = add_ok (add (mul (lit (pos 2) tt) (n (goal.at.overflow_add-t-2 c).Start) tt) (half c) tt) (mul (lit (pos 1048576) tt) (m (goal.at.overflow_add-t-2 c).Start) tt) tt
 
 pub overflow_sub-result : goal.overflow_sub-result
-overflow_sub-result c = sub_ok (q (goal.at.overflow_sub-result c).Joined-n-lt0) (lit (pos 1048576) tt) tt
+overflow_sub-result c = sub_ok (q c) (lit (pos 1048576) tt) tt
 
 pub returns : goal.returns
-returns c = record { value = (sub (q (goal.at.returns c).Joined-n-lt0) (lit (pos 1048576) tt) tt).is ∙ rounded_is _ _ c.requires }
+returns c = record { value = (sub (q c) (lit (pos 1048576) tt) tt).is ∙ rounded_is _ _ c.requires }

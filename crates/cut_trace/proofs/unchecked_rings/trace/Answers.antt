@@ -11,7 +11,7 @@ use Rattle.cut_trace.specs.declared.WalkAnswer.TheVariants.{Closed}
 use Rattle.cut_trace.proofs.RingsTraced.{RingsTraced, tracing_start, tracing_pass, names_length, ends_length, links_length, j_inside, walkable}
 use Rattle.cut_trace.proofs.RingsTraced.{end_few, tracing_ring, traced}
 use Rattle.cut_trace.proofs.unchecked_rings.trace.Goals as goal
-use Rattle.cut_trace.proofs.unchecked_rings.trace.Goals.{In-Met-1}
+use Rattle.cut_trace.proofs.unchecked_rings.trace.Goals.{In-Closed, In-Met-1}
 
 pub seek-c-requires : goal.seek-c-requires
 seek-c-requires c =
@@ -77,7 +77,7 @@ shape_of-ends-in-Met c =
     absurd (dead (goal.at.shape_of-ends-in-Met c).In-Met-1)
 
 pub returns-in-Met : goal.returns-in-Met
-returns-in-Met c = FIXME[value names_left ends_left links_left] absurd (dead (goal.at.returns-in-Met c).In-Met-1)
+returns-in-Met c = let given = absurd (dead (goal.at.returns-in-Met c).In-Met-1) in record { value = given.0; names_left = given.1.0; ends_left = given.1.1.0; links_left = given.1.1.1 }
 
 -- after the walk of corner c
 walked : (c : FIXME[tie.After-seek-arg2 invariant-loop decreases-loop])
@@ -97,16 +97,16 @@ walked c =
 
 pub overflow_add-c : goal.overflow_add-c
 overflow_add-c c =
-    omega (arith, FIXME[c at At-loop: at_test.loop-test.true], FIXME[c at At-loop: at_test.before.loop.invariant.0.given.few])
+    omega (arith, c.loop-c-test.true, c.loop-c.invariant.0.given.few)
 
 pub seek-c-requires-in-loop-c : goal.seek-c-requires-in-loop-c
 seek-c-requires-in-loop-c c =
-    let w = walked (goal.at.seek-c-requires-in-loop-c c).In-Closed in
+    let w = walked c in
     record { begins = w.upto; few = w.given.few; there = omega (arith, w.given.links_room, links_length w) }
 
 pub loop-c-smaller : goal.loop-c-smaller
 loop-c-smaller c =
-    omega (arith, FIXME[c at At-loop: at_test.loop-test.true], c.seek-c-in-loop-c.ensures.sought.onward)
+    omega (arith, c.loop-c-test.true, c.seek-c-in-loop-c.ensures.sought.onward)
 
 pub loop-c-preserved : goal.loop-c-preserved
 loop-c-preserved c = (tracing_pass (walked (goal.at.loop-c-preserved c).In-Closed) c.seek-c-in-loop-c.ensures.sought, c.seek-c-in-loop-c.ensures.result)

@@ -64,7 +64,7 @@ shape_of-names-then-links-d c =
     length-set l.names l.k l.c ∙ names_length l.invariant
 
 pub returns-then-links-d : goal.returns-then-links-d
-returns-then-links-d c = FIXME[value names_left links_left] absurd (never_met (walking_next c.loop-start.invariant c.wide-d.ensures.value c.if-d-start.false) c.if-links-d.true)
+returns-then-links-d c = let given = absurd (never_met (walking_next c.loop-start.invariant c.wide-d.ensures.value c.if-d-start.false) c.if-links-d.true) in record { value = given.0; names_left = given.1.0; links_left = given.1.1 }
 
 pub loop-start-smaller : goal.loop-start-smaller
 loop-start-smaller c =

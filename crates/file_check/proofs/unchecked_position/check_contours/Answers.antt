@@ -9,7 +9,7 @@ use Rattle.file_check.proofs.ContourSteps.{ContoursChecked, contours_checked, co
 use Rattle.file_check.proofs.ContourSteps.{adding_fits, adding_is}
 use borrow.Author.Rules.{rules}
 use Rattle.file_check.proofs.unchecked_position.check_contours.Goals as goal
-use Rattle.file_check.proofs.unchecked_position.check_contours.Goals.{At-loop-left, In-End, In-loop-left, Start}
+use Rattle.file_check.proofs.unchecked_position.check_contours.Goals.{In-End}
 
 pub loop-left-init : goal.loop-left-init
 loop-left-init c = contours_checked c.args.profile _ _ _ c.requires
@@ -19,32 +19,23 @@ check_contour-c-requires c = search (rules, c.loop-left.invariant.run.inside, c.
 
 -- the contour checked
 module _ (c : In-End) where
-  abbrev at_test : In-loop-left
-  at_test = FIXME[c as In-loop-left]
-
-  abbrev at-loop : At-loop-left
-  at-loop = at_test.before
-
-  abbrev start : Start
-  start = at-loop.before.before
-
   abbrev area : ℤ
   area = c.in-End.area
 
-  contour : contour_told_at start.args.profile at-loop.loop.room start.args.file.now at-loop.loop.i
+  contour : contour_told_at c.args.profile c.loop-left.room c.args.file.now c.loop-left.i
       ≡ End c.in-End.next c.in-End.r area
   contour = sym c.check_contour-c.ensures.value ∙ c.in-End.is
 
 pub overflow_add-sum : goal.overflow_add-sum
-overflow_add-sum c = let w = (at-loop (goal.at.overflow_add-sum c).In-End).loop.invariant in adding_fits (at-loop (goal.at.overflow_add-sum c).In-End).loop.sum (area (goal.at.overflow_add-sum c).In-End) (sum_small w) (area_small w (contour (goal.at.overflow_add-sum c).In-End))
+overflow_add-sum c = let w = c.loop-left.invariant in adding_fits c.loop-left.sum-bits (area c) (sum_small w) (area_small w (contour c))
 
 pub returns-in-Refused : goal.returns-in-Refused
 returns-in-Refused c = record { value = contour_stops c.loop-left.invariant c.loop-left-test.true (sym c.check_contour-c.ensures.value ∙ c.in-Refused.is) }
 
 pub loop-left-preserved : goal.loop-left-preserved
 loop-left-preserved c =
-    let w = (at-loop (goal.at.loop-left-preserved c).In-End).loop.invariant in
-    contour_passes w (contour (goal.at.loop-left-preserved c).In-End) (at_test (goal.at.loop-left-preserved c).In-End).loop-test.true (adding_is (at-loop (goal.at.loop-left-preserved c).In-End).loop.sum (area (goal.at.loop-left-preserved c).In-End) (sum_small w) (area_small w (contour (goal.at.loop-left-preserved c).In-End)))
+    let w = c.loop-left.invariant in
+    contour_passes w (contour c) c.loop-left-test.true (adding_is c.loop-left.sum-bits (area c) (sum_small w) (area_small w (contour c)))
 
 pub returns : goal.returns
 returns c = record { value = contours_end c.loop-left.invariant c.loop-left-test.false }

@@ -11,7 +11,7 @@ use borrow.Author.Rules.{rules}
 use Rattle.file_check.proofs.unchecked_position.check_contours.Given as goal
 
 abbrev pub invariant-loop-left : goal.invariant-loop-left
-invariant-loop-left l = ContoursChecked l.profile l.file l.at l.count l.room (to_z w64 l.sum) l.i l.left
+invariant-loop-left l = ContoursChecked l.profile l.file l.at l.count l.room l.sum l.i l.left
 
 abbrev pub decreases-loop-left : goal.decreases-loop-left
 decreases-loop-left l = l.left

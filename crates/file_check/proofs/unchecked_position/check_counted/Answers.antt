@@ -23,7 +23,7 @@ count : (c : In-Value)
 count c = sym c.read_number-n.ensures.value ∙ c.in-Value.is
 
 pub check_contours-c-requires : goal.check_contours-c-requires
-check_contours-c-requires c = (took (count (goal.at.check_contours-c-requires c).In-Value)).inside
+check_contours-c-requires c = (took (count c)).inside
 
 pub overflow_sub-result : goal.overflow_sub-result
 overflow_sub-result c =

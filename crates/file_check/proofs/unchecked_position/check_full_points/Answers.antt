@@ -15,7 +15,7 @@ use Rattle.file_check.specs.declared.Coordinate.TheVariants.{At}
 use Rattle.file_check.proofs.PointSteps.{bits_is, bits_near, PointsChecked, points_checked, sum_small, points_end, no_x, no_y, x_near, y_near}
 use Rattle.file_check.proofs.PointSteps.{next_point_lem}
 use Rattle.file_check.proofs.unchecked_position.check_full_points.Goals as goal
-use Rattle.file_check.proofs.unchecked_position.check_full_points.Goals.{At-loop-left, In-At, In-At-b, In-loop-left}
+use Rattle.file_check.proofs.unchecked_position.check_full_points.Goals.{In-At, In-At-b}
 
 pub loop-left-init : goal.loop-left-init
 loop-left-init c = points_checked Full _ _ _ refl c.sum_none-sum.ensures.value c.requires
@@ -28,14 +28,8 @@ returns-in_default c = record { value = no_x c.loop-left.invariant c.loop-left-t
 
 -- the first coordinate read
 module _ (c : In-At) where
-  abbrev at_test : In-loop-left
-  at_test = FIXME[c as In-loop-left]
-
-  abbrev at-loop : At-loop-left
-  at-loop = at_test.before
-
   abbrev file : List ℕ
-  file = at-loop.before.before.before.args.file.now
+  file = c.args.file.now
 
   abbrev nx : ℤ
   nx = c.in-At.nx
@@ -43,58 +37,53 @@ module _ (c : In-At) where
   abbrev next : ℕ
   next = c.in-At.j
 
-  first : coordinate_at (to_z w32 at-loop.loop.x) file at-loop.loop.i ≡ At nx next
+  first : coordinate_at (to_z w32 c.loop-left.x-bits) file c.loop-left.i ≡ At nx next
   first = sym c.read_coordinate-a.ensures.value ∙ c.in-At.is
 
   nx-in : nat_abs nx ≤ largest
-  nx-in = x_near at-loop.loop.inv at_test.loop-test.taken first
+  nx-in = x_near c.loop-left.invariant c.loop-left-test.true first
 
 pub read_coordinate-b-requires : goal.read_coordinate-b-requires
-read_coordinate-b-requires c = (at-loop (goal.at.read_coordinate-b-requires c).In-At).loop.invariant.y_in
+read_coordinate-b-requires c = c.loop-left.invariant.y_in
 
 pub returns-in_default-b : goal.returns-in_default-b
 returns-in_default-b c = record {
-      value = no_y (at-loop (goal.at.returns-in_default-b c).In-At).loop.invariant (at_test (goal.at.returns-in_default-b c).In-At).loop-test.true (first (goal.at.returns-in_default-b c).In-At)
-    (sym c.read_coordinate-b.ensures.value ∙ c.in_default-b.is);
-    }
+  value = no_y (at-loop (goal.at.returns-in_default-b c).In-At).loop.invariant (at_test (goal.at.returns-in_default-b c).In-At).loop-test.true (first (goal.at.returns-in_default-b c).In-At)
+      (sym c.read_coordinate-b.ensures.value ∙ c.in_default-b.is);
+}
 
 -- the second coordinate read
 module _ (c : In-At-b) where
-  abbrev at_told : In-At
-  at_told = FIXME[c as In-At]
-
   abbrev ny : ℤ
   ny = c.in-At-b.ny
 
-  second : coordinate_at (to_z w32 (at-loop at_told).loop.y) (file at_told) (next at_told) ≡ At ny c.in-At-b.k
+  second : coordinate_at (to_z w32 c.loop-left.y-bits) (file c.before.before.before.before) (next c.before.before.before.before) ≡ At ny c.in-At-b.k
   second = sym c.read_coordinate-b.ensures.value ∙ c.in-At-b.is
 
   ny-in : nat_abs ny ≤ largest
-  ny-in = y_near (at-loop at_told).loop.inv (at_test at_told).loop-test.taken (first at_told) second
+  ny-in = y_near c.loop-left.invariant c.loop-left-test.true (first c.before.before.before.before) second
 
-  x_is : to_z w32 (of_z w32 (nx at_told)) ≡ nx at_told
-  x_is = bits_is (nx at_told) (nx-in at_told)
+  x_is : to_z w32 (of_z w32 (nx c.before.before.before.before)) ≡ nx c.before.before.before.before
+  x_is = bits_is (nx c.before.before.before.before) (nx-in c.before.before.before.before)
 
   y_is : to_z w32 (of_z w32 ny) ≡ ny
   y_is = bits_is ny ny-in
 
 pub sum_point-sum-requires : goal.sum_point-sum-requires
 sum_point-sum-requires c =
-    
-    let w = (at-loop (at_told (goal.at.sum_point-sum-requires c).In-At-b)).loop.inv in
-    search (rules, sum_small w, w.x_in, w.y_in, bits_near (nx (at_told (goal.at.sum_point-sum-requires c).In-At-b)) (nx-in (at_told (goal.at.sum_point-sum-requires c).In-At-b)), bits_near (ny (goal.at.sum_point-sum-requires c).In-At-b) (ny-in (goal.at.sum_point-sum-requires c).In-At-b))
+    let w = (at-loop (at_told c)).loop.inv in
+    search (rules, sum_small w, w.x_in, w.y_in, bits_near (nx (at_told c)) (nx-in (at_told c)), bits_near (ny c) (ny-in c))
 
 pub loop-left-preserved : goal.loop-left-preserved
 loop-left-preserved c =
-    
     let q = at_told (goal.at.loop-left-preserved c).In-At-b in
     simp (x_is (goal.at.loop-left-preserved c).In-At-b, y_is (goal.at.loop-left-preserved c).In-At-b)
     (next_point_lem (at-loop q).loop.inv (at_test q).loop-test.taken (first q) (second (goal.at.loop-left-preserved c).In-At-b) refl (simp (x_is (goal.at.loop-left-preserved c).In-At-b, y_is (goal.at.loop-left-preserved c).In-At-b) at c.sum_point-sum.ensures.value))
 
 pub sum_closed-requires : goal.sum_closed-requires
 sum_closed-requires c =
-    let w = c.loop-left.invariant in 
+    let w = c.loop-left.invariant in
     search (rules, sum_small w, w.x_in, w.y_in)
 
 pub returns : goal.returns
-returns c = record { value = points_end c.loop-left.invariant c.loop-left-test.false refl (same w64 c.sum_closed.result c.sum_closed.type-inv ∙ c.sum_closed.ensures.value) }
+returns c = record { value = points_end c.loop-left.invariant c.loop-left-test.false refl (same w64 c.sum_closed.result c.sum_closed.type_inv ∙ c.sum_closed.ensures.value) }

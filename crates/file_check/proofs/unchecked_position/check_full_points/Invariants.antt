@@ -17,7 +17,7 @@ use Rattle.file_check.proofs.PointSteps.{next_point_lem}
 use Rattle.file_check.proofs.unchecked_position.check_full_points.Given as goal
 
 abbrev pub invariant-loop-left : goal.invariant-loop-left
-invariant-loop-left l = PointsChecked Full l.file l.at l.count unseen l.sum (to_z w32 l.x) (to_z w32 l.y) l.i l.left
+invariant-loop-left l = PointsChecked Full l.file l.at l.count unseen l.sum l.x l.y l.i l.left
 
 abbrev pub decreases-loop-left : goal.decreases-loop-left
 decreases-loop-left l = l.left

@@ -16,7 +16,7 @@ use borrow.Author.Rules.{rules}
 use Rattle.file_check.proofs.unchecked_position.check_layers.Given as goal
 
 abbrev pub invariant-loop-left : goal.invariant-loop-left
-invariant-loop-left l = LayerRun l.profile l.file (levels_at l.profile l.count (to_z w64 l.low) l.file l.at) (to_z w64 l.last) l.i l.left
+invariant-loop-left l = LayerRun l.profile l.file (levels_at l.profile l.count l.low l.file l.at) l.last l.i l.left
 
 abbrev pub decreases-loop-left : goal.decreases-loop-left
 decreases-loop-left l = l.left

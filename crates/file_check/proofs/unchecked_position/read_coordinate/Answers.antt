@@ -15,41 +15,37 @@ use Rattle.file_check.specs.declared.Coordinate.TheVariants.{At}
 use Rattle.file_check.proofs.PointSteps.{too_low, too_high, coordinate_in_range, no_number, far, near}
 use borrow.Author.Rules.{rules}
 use Rattle.file_check.proofs.unchecked_position.read_coordinate.Goals as goal
-use Rattle.file_check.proofs.unchecked_position.read_coordinate.Goals.{After-signed_of, Else-z-gt-LARGEST_COORDINATE_64, Start}
+use Rattle.file_check.proofs.unchecked_position.read_coordinate.Goals.{After-signed_of, Else-z-gt-LARGEST_COORDINATE_64}
 
 pub returns-in_default : goal.returns-in_default
 returns-in_default c = record { value = no_number _ _ _ (sym c.read_number-n.ensures.value ∙ c.in_default.is) }
 
 pub overflow_cast-z : goal.overflow_cast-z
 overflow_cast-z c =
-    
     cast_ok (arg {w = w32} c.ranges.before c.requires) tt
 
 -- the number read, and the coordinate that it makes
 module _ (c : After-signed_of) where
-  abbrev start : Start
-  start = FIXME[c as Start]
-
   abbrev m : ℕ
   m = c.in-Value.m
 
   abbrev next : ℕ
   next = c.in-Value.next
 
-  read : number_at largest_word start.args.file.now start.args.at ≡ Value m next
+  read : number_at largest_word c.args.file.now c.args.at ≡ Value m next
   read = sym c.read_number-n.ensures.value ∙ c.in-Value.is
 
-  abbrev before : Rd w64 start.args.before largest
-  before = cast (arg {w = w32} start.fits.before start.pre) tt
+  abbrev before : Rd w64 c.args.before largest
+  before = cast (arg {w = w32} c.ranges.before c.requires) tt
 
   abbrev moved : Rd w64 (unzigzag m) 2147483648
-  moved = got FIXME[c at After-signed_of: c.Signed-of.type-inv] FIXME[c at After-signed_of: c.Signed-of.ensures] (unzigzag_abs m 2147483648 (omega (arith, (took read).low)))
+  moved = got c.signed_of.type_inv c.signed_of.ensures.value (unzigzag_abs m 2147483648 (omega (arith, (took read).low)))
 
-  abbrev z : Rd w64 (start.args.before +ℤ unzigzag m) 2148532224
+  abbrev z : Rd w64 (c.args.before +ℤ unzigzag m) 2148532224
   z = add before moved tt
 
 pub overflow_add-z : goal.overflow_add-z
-overflow_add-z c = add_ok (before (goal.at.overflow_add-z c).After-signed_of) (moved (goal.at.overflow_add-z c).After-signed_of) tt
+overflow_add-z c = add_ok (before c) (moved c) tt
 
 pub returns-then-z-lt-LEAST_COORDINATE_64 : goal.returns-then-z-lt-LEAST_COORDINATE_64
 returns-then-z-lt-LEAST_COORDINATE_64 c = record { value = far _ _ _ (read (goal.at.returns-then-z-lt-LEAST_COORDINATE_64 c).After-signed_of) (too_low _ (lt_true (z (goal.at.returns-then-z-lt-LEAST_COORDINATE_64 c).After-signed_of) (lit (negsuc 1048575) tt) c.if-z-lt-LEAST_COORDINATE_64.true)) }
@@ -59,18 +55,18 @@ returns-then-z-gt-LARGEST_COORDINATE_64 c = record { value = far _ _ _ (read (go
 
 -- the coordinate is in the range
 within : (c : Else-z-gt-LARGEST_COORDINATE_64)
-    → 
-    nat_abs ((start FIXME[c as After-signed_of]).args.before +ℤ unzigzag (m FIXME[c as After-signed_of])) ≤ largest
+    →
+    nat_abs ((start c.before.before).args.before +ℤ unzigzag (m c.before.before)) ≤ largest
 within c =
     coordinate_in_range _
-    (lt_false (z FIXME[c as After-signed_of]) (lit (negsuc 1048575) tt) c.if-z-lt-LEAST_COORDINATE_64.false)
-    (lt_false (lit (pos 1048576) tt) (z FIXME[c as After-signed_of]) c.if-z-gt-LARGEST_COORDINATE_64.false)
+    (lt_false (z c.before.before) (lit (negsuc 1048575) tt) c.if-z-lt-LEAST_COORDINATE_64.false)
+    (lt_false (lit (pos 1048576) tt) (z c.before.before) c.if-z-gt-LARGEST_COORDINATE_64.false)
 
 pub overflow_cast-result : goal.overflow_cast-result
-overflow_cast-result c = cast_ok (bounded (z (goal.at.overflow_cast-result c).After-signed_of) (within (goal.at.overflow_cast-result c).Else-z-gt-LARGEST_COORDINATE_64)) tt
+overflow_cast-result c = cast_ok (bounded (z (goal.at.overflow_cast-result c).After-signed_of) (within c)) tt
 
 pub returns : goal.returns
 returns c = record {
-      value = ap (λ (y : ℤ). At y (next (goal.at.returns c).After-signed_of)) (cast {w' = w32} (bounded (z (goal.at.returns c).After-signed_of) (within (goal.at.returns c).Else-z-gt-LARGEST_COORDINATE_64)) tt).is
-    ∙ near _ _ _ (read (goal.at.returns c).After-signed_of) (within (goal.at.returns c).Else-z-gt-LARGEST_COORDINATE_64);
-    }
+  value = ap (λ (y : ℤ). At y (next (goal.at.returns c).After-signed_of)) (cast {w' = w32} (bounded (z (goal.at.returns c).After-signed_of) (within c)) tt).is
+      ∙ near _ _ _ (read (goal.at.returns c).After-signed_of) (within c);
+}

@@ -14,30 +14,27 @@ use Rattle.file_check.specs.declared.Height.TheVariants.{Above}
 use Rattle.file_check.proofs.LayerSteps.{no_height, not_above_lem, above}
 use borrow.Author.Rules.{rules}
 use Rattle.file_check.proofs.unchecked_position.read_height.Goals as goal
-use Rattle.file_check.proofs.unchecked_position.read_height.Goals.{After-signed_of-h, Start}
+use Rattle.file_check.proofs.unchecked_position.read_height.Goals.{After-signed_of-h}
 
 pub returns-in_default : goal.returns-in_default
 returns-in_default c = record { value = no_height _ _ _ (sym c.read_number-n.ensures.value ∙ c.in_default.is) }
 
 -- the number read, and the height that it stands for
 module _ (c : After-signed_of-h) where
-  abbrev start : Start
-  start = FIXME[c as Start]
-
   abbrev m : ℕ
   m = c.in-Value.m
 
-  read : number_at largest_word start.args.file.now start.args.at ≡ Value m c.in-Value.next
+  read : number_at largest_word c.args.file.now c.args.at ≡ Value m c.in-Value.next
   read = sym c.read_number-n.ensures.value ∙ c.in-Value.is
 
   abbrev height : Rd w64 (unzigzag m) 2147483648
-  height = got FIXME[c at After-signed_of: c.Signed-of.type-inv] FIXME[c at After-signed_of: c.Signed-of.ensures] (unzigzag_abs m 2147483648 (omega (arith, (took read).low)))
+  height = got c.signed_of-h.type_inv c.signed_of-h.ensures.value (unzigzag_abs m 2147483648 (omega (arith, (took read).low)))
 
 pub returns-then-low-h : goal.returns-then-low-h
 returns-then-low-h c = record {
-      value = ap (λ (z : ℤ). Above z c.in-Value.next) (height (goal.at.returns-then-low-h c).After-signed_of-h).is
-    ∙ above _ _ _ (read (goal.at.returns-then-low-h c).After-signed_of-h) (lt_is (fit (start (goal.at.returns-then-low-h c).After-signed_of-h).fits.low) (height (goal.at.returns-then-low-h c).After-signed_of-h) c.if-low-h.true);
-    }
+  value = ap (λ (z : ℤ). Above z c.in-Value.next) (height (goal.at.returns-then-low-h c).After-signed_of-h).is
+      ∙ above _ _ _ (read (goal.at.returns-then-low-h c).After-signed_of-h) (lt_is (fit c.ranges.low) (height (goal.at.returns-then-low-h c).After-signed_of-h) c.if-low-h.true);
+}
 
 pub returns : goal.returns
-returns c = record { value = not_above_lem _ _ _ (read (goal.at.returns c).After-signed_of-h) (lt_is (fit (start (goal.at.returns c).After-signed_of-h).fits.low) (height (goal.at.returns c).After-signed_of-h) c.if-low-h.false) }
+returns c = record { value = not_above_lem _ _ _ (read (goal.at.returns c).After-signed_of-h) (lt_is (fit c.ranges.low) (height (goal.at.returns c).After-signed_of-h) c.if-low-h.false) }

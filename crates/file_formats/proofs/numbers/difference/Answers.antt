@@ -15,13 +15,13 @@ module _ (c : Start) where
   before = fit c.ranges.before
 
 pub overflow_cast-z : goal.overflow_cast-z
-overflow_cast-z c = cast_ok (z (goal.at.overflow_cast-z c).Start) tt
+overflow_cast-z c = cast_ok (z c) tt
 
 pub overflow_cast-before : goal.overflow_cast-before
-overflow_cast-before c = cast_ok (before (goal.at.overflow_cast-before c).Start) tt
+overflow_cast-before c = cast_ok (before c) tt
 
 pub overflow_sub-z : goal.overflow_sub-z
-overflow_sub-z c = sub_ok (cast (z (goal.at.overflow_sub-z c).Start) tt) (cast (before (goal.at.overflow_sub-z c).Start) tt) tt
+overflow_sub-z c = sub_ok (cast (z c) tt) (cast (before c) tt) tt
 
 pub returns : goal.returns
-returns c = record { value = FIXME[c at After-unsigned_of: c.Unsigned-of.ensures] ∙ ap zigzag (sub (cast (z (goal.at.returns c).Start) tt) (cast (before (goal.at.returns c).Start) tt) tt).is }
+returns c = record { value = c.unsigned_of.ensures.value ∙ ap zigzag (sub (cast (z (goal.at.returns c).Start) tt) (cast (before (goal.at.returns c).Start) tt) tt).is }

@@ -53,22 +53,22 @@ low c = omega (arith, byte c, c.if-rest-lt128.false)
 
 pub overflow_mul-value : goal.overflow_mul-value
 overflow_mul-value c =
-    omega (arith, group_fits c.loop-i.invariant (c.wide_byte-b.result - 128) (low (goal.at.overflow_mul-value c).Else-rest-lt128), c.ranges.top.fits)
+    omega (arith, group_fits c.loop-i.invariant (c.wide_byte-b.result - 128) (low c), c.ranges.top.fits)
 
 pub overflow_add-value : goal.overflow_add-value
 overflow_add-value c =
-    omega (arith, group_fits c.loop-i.invariant (c.wide_byte-b.result - 128) (low (goal.at.overflow_add-value c).Else-rest-lt128), c.ranges.top.fits)
+    omega (arith, group_fits c.loop-i.invariant (c.wide_byte-b.result - 128) (low c), c.ranges.top.fits)
 
 pub overflow_mul-unit : goal.overflow_mul-unit
 overflow_mul-unit c =
     omega (arith, group_fits c.loop-i.invariant 128 c.if-rest-lt128.false, c.ranges.top.fits)
 
 pub overflow_sub-rest : goal.overflow_sub-rest
-overflow_sub-rest c = low (goal.at.overflow_sub-rest c).Else-rest-lt128
+overflow_sub-rest c = low c
 
 pub loop-i-preserved : goal.loop-i-preserved
 loop-i-preserved c =
-    next c.loop-i.invariant c.loop-i-test.true c.wide_byte-b.ensures.value c.if-b-lt128.false (byte (goal.at.loop-i-preserved c).Else-rest-lt128) c.if-rest-lt128.false
+    next c.loop-i.invariant c.loop-i-test.true c.wide_byte-b.ensures.value c.if-b-lt128.false (byte c) c.if-rest-lt128.false
 
 pub returns : goal.returns
 returns c = record { value = ends c.loop-i.invariant c.loop-i-test.false }

@@ -5,7 +5,7 @@ use lib.ListN.{length}
 use Rattle.file_write.proofs.Rows.{end_rises, end_within}
 use Rattle.file_write.proofs.Measuring.{ContoursMeasured, measure_contours_start, contour_fits, contours_next, contours_end}
 use Rattle.file_write.proofs.unchecked_layers.contours_length.Goals as goal
-use Rattle.file_write.proofs.unchecked_layers.contours_length.Goals.{After-wide-end, Start}
+use Rattle.file_write.proofs.unchecked_layers.contours_length.Goals.{After-wide-end}
 
 pub loop-i-init : goal.loop-i-init
 loop-i-init c = measure_contours_start c.requires
@@ -24,32 +24,26 @@ overflow_mul-a c = omega (arith, c.loop-i.invariant.place.within)
 
 -- the end lies within the points, and not below the end before
 module _ (c : After-wide-end) where
-  abbrev start : Start
-  start = FIXME[c as Start]
-
-  within : 2 * c.wide-end.result ≤ length start.args.points.now
+  within : 2 * c.wide-end.result ≤ length c.args.points.now
   within = end_within c.loop-i.invariant.place c.loop-i-test.true c.wide-end.ensures.value
 
   rises : c.loop-i.from ≤ c.wide-end.result
   rises = end_rises c.loop-i.invariant.place c.loop-i-test.true c.wide-end.ensures.value
 
 pub overflow_mul-b : goal.overflow_mul-b
-overflow_mul-b c = omega (arith, within (goal.at.overflow_mul-b c).After-wide-end)
+overflow_mul-b c = omega (arith, within c)
 
 pub offset_bounds-points-a : goal.offset_bounds-points-a
-offset_bounds-points-a c = omega (arith, within (goal.at.offset_bounds-points-a c).After-wide-end)
+offset_bounds-points-a c = omega (arith, within c)
 
 pub slice_bounds-contour_length-count : goal.slice_bounds-contour_length-count
-slice_bounds-contour_length-count c = omega (arith, rises (goal.at.slice_bounds-contour_length-count c).After-wide-end)
+slice_bounds-contour_length-count c = omega (arith, rises c)
 
 pub contour_length-total-requires : goal.contour_length-total-requires
 contour_length-total-requires c = tt
 
 pub overflow_add-total : goal.overflow_add-total
 overflow_add-total c =
-    
-    
-    
     omega (
       arith,
       contour_fits c.loop-i.invariant c.loop-i-test.true c.wide-end.ensures.value c.contour_length-total.ensures.result,
@@ -58,9 +52,6 @@ overflow_add-total c =
 
 pub loop-i-preserved : goal.loop-i-preserved
 loop-i-preserved c =
-    
-    
-    
     contours_next c.loop-i.invariant c.loop-i-test.true c.wide-end.ensures.value c.contour_length-total.ensures.result
 
 pub returns : goal.returns

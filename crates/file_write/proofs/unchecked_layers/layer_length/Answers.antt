@@ -21,8 +21,8 @@ overflow_cast-h c = cast_ok (height (goal.at.overflow_cast-h c).Start) tt
 
 -- what the height is sent as, and that it takes few bytes, and so does the count
 module _ (c : After-number_length-2) where
-  sent : FIXME[c at After-number_length2: c.before.before.Unsigned-of.result] ≡ zigzag c.args.h
-  sent = FIXME[c at After-number_length2: c.before.before.Unsigned-of.ensures] ∙ ap zigzag (cast {w' = w64} (height FIXME[c as Start]) tt).is
+  sent : c.unsigned_of.result ≡ zigzag c.args.h
+  sent = c.unsigned_of.ensures.value ∙ ap zigzag (cast {w' = w64} (height c.before.before.before.before) tt).is
 
   height-few : c.number_length.result ≤ 5
   height-few =
@@ -33,15 +33,14 @@ module _ (c : After-number_length-2) where
       omega (arith, c.number_length-2.ensures.value, number_bytes c.args.j c.ranges.j.fits)
 
 pub overflow_add-result : goal.overflow_add-result
-overflow_add-result c = omega (arith, height-few (goal.at.overflow_add-result c).After-number_length-2, count_few (goal.at.overflow_add-result c).After-number_length-2)
+overflow_add-result c = omega (arith, height-few c, count_few c)
 
 pub overflow_add-result-2 : goal.overflow_add-result-2
 overflow_add-result-2 c =
-    
     omega (arith, height-few (goal.at.overflow_add-result-2 c).After-number_length-2, count_few (goal.at.overflow_add-result-2 c).After-number_length-2, c.contours_length.ensures.result.1, c.requires.there)
 
 pub returns : goal.returns
 returns c = record {
-      value = layer_measured c.requires _ (sent (goal.at.returns c).After-number_length-2) c.number_length.ensures.value c.number_length-2.ensures.value
-    c.contours_length.ensures.result.0;
-    }
+  value = layer_measured c.requires _ (sent (goal.at.returns c).After-number_length-2) c.number_length.ensures.value c.number_length-2.ensures.value
+      c.contours_length.ensures.result.0;
+}

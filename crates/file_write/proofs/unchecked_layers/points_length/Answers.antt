@@ -33,10 +33,10 @@ short c =
     c.number_length-in-loop-k.ensures.value
 
 pub overflow_add-total : goal.overflow_add-total
-overflow_add-total c = omega (arith, short (goal.at.overflow_add-total c).After-number_length-in-loop-k)
+overflow_add-total c = omega (arith, short c)
 
 pub overflow_add-total-in-loop-k : goal.overflow_add-total-in-loop-k
-overflow_add-total-in-loop-k c = omega (arith, short (goal.at.overflow_add-total-in-loop-k c).After-number_length-in-loop-k)
+overflow_add-total-in-loop-k c = omega (arith, short c)
 
 pub loop-k-preserved : goal.loop-k-preserved
 loop-k-preserved c =

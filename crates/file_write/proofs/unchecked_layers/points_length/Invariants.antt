@@ -8,7 +8,7 @@ use Rattle.file_write.proofs.Measuring.{PointsMeasured, measure_points_start, po
 use Rattle.file_write.proofs.unchecked_layers.points_length.Given as goal
 
 abbrev pub invariant-loop-k : goal.invariant-loop-k
-invariant-loop-k l = PointsMeasured l.points (to_z w32 l.x) (to_z w32 l.y) l.total l.k
+invariant-loop-k l = PointsMeasured l.points l.x l.y l.total l.k
 
 abbrev pub decreases-loop-k : goal.decreases-loop-k
 decreases-loop-k l = l.n - l.k

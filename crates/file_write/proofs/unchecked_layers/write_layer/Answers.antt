@@ -17,30 +17,26 @@ pub overflow_cast-h : goal.overflow_cast-h
 overflow_cast-h c = cast_ok (height (goal.at.overflow_cast-h c).Start) tt
 
 -- what the height is sent as
-sent : (c : After-unsigned_of) → FIXME[c at After-unsigned_of: c.Unsigned-of.result] ≡ zigzag c.args.h
-sent c = FIXME[c at After-unsigned_of: c.Unsigned-of.ensures] ∙ ap zigzag (cast {w' = w64} (height FIXME[c as Start]) tt).is
+sent : (c : After-unsigned_of) → c.unsigned_of.result ≡ zigzag c.args.h
+sent c = c.unsigned_of.ensures.value ∙ ap zigzag (cast {w' = w64} (height c.before.before.before.before) tt).is
 
 pub write_number-p-requires : goal.write_number-p-requires
 write_number-p-requires c =
-    
-    height_room c.args.output.now _ c.requires.fact_1 c.args.h (sent (goal.at.write_number-p-requires c).After-unsigned_of) c.requires.fact_2
+    height_room c.args.output.now _ c.requires.fact_1 c.args.h (sent c) c.requires.fact_2
 
 pub write_number-q-requires : goal.write_number-q-requires
 write_number-q-requires c =
-    
-    
-    
     count_room c.args.output.now _ c.requires.fact_1 c.args.h (sent (goal.at.write_number-q-requires c).After-unsigned_of) c.requires.fact_2 c.write_number-p.ensures.outcome
 
 pub write_contours-requires : goal.write_contours-requires
 write_contours-requires c = record {
-      fact_1 = c.requires.fact_1;
-      fact_2 = contours_room c.args.output.now _ c.requires.fact_1 c.args.h (sent (goal.at.write_contours-requires c).After-unsigned_of) c.requires.fact_2
-          c.write_number-p.ensures.outcome c.write_number-q.ensures.outcome;
-    }
+  fact_1 = c.requires.fact_1;
+  fact_2 = contours_room c.args.output.now _ c.requires.fact_1 c.args.h (sent (goal.at.write_contours-requires c).After-unsigned_of) c.requires.fact_2
+      c.write_number-p.ensures.outcome c.write_number-q.ensures.outcome;
+}
 
 pub returns : goal.returns
 returns c = record {
-      outcome = layer_put _ _ c.requires.fact_1 _ (sent (goal.at.returns c).After-unsigned_of) c.requires.fact_2 c.write_number-p.ensures.outcome c.write_number-q.ensures.outcome
-    c.write_contours.ensures.outcome;
-    }
+  outcome = layer_put _ _ c.requires.fact_1 _ (sent (goal.at.returns c).After-unsigned_of) c.requires.fact_2 c.write_number-p.ensures.outcome c.write_number-q.ensures.outcome
+      c.write_contours.ensures.outcome;
+}

@@ -8,7 +8,7 @@ use Rattle.file_write.proofs.Writing.{PointsWritten, write_points_start, x_room,
 use Rattle.file_write.proofs.unchecked_layers.write_points.Given as goal
 
 abbrev pub invariant-loop-k : goal.invariant-loop-k
-invariant-loop-k l = PointsWritten l.initial.output l.at l.points l.output (to_z w32 l.x) (to_z w32 l.y) l.p l.k
+invariant-loop-k l = PointsWritten l.initial.output l.at l.points l.output l.x l.y l.p l.k
 
 abbrev pub decreases-loop-k : goal.decreases-loop-k
 decreases-loop-k l = l.count - l.k

@@ -12,18 +12,15 @@ use Rattle.ink.specs.Steps.{charges_at}
 use Rattle.ink.specs.declared.ChargeExtent.{ChargeExtent}
 use Rattle.ink.proofs.FileCharges.{no_count, layers_refused, left_over_lem, all_charged}
 use Rattle.ink.proofs.unchecked.charge_file.Goals as goal
-use Rattle.ink.proofs.unchecked.charge_file.Goals.{After-charge_layers-c, In-Value, Start}
+use Rattle.ink.proofs.unchecked.charge_file.Goals.{After-charge_layers-c, In-Value}
 
 pub returns-in_default : goal.returns-in_default
 returns-in_default c = record { value = no_count c.args.thickness _ (sym c.read_number-n.ensures.value ∙ c.in_default.is) }
 
 -- the layer count, and where the layers start
 module _ (c : In-Value) where
-  abbrev entry : Start
-  entry = FIXME[c as Start]
-
   abbrev file : List ℕ
-  file = entry.args.file.now
+  file = c.args.file.now
 
   abbrev number : ℕ
   number = c.in-Value.count
@@ -35,11 +32,11 @@ module _ (c : In-Value) where
   count = sym c.read_number-n.ensures.value ∙ c.in-Value.is
 
 pub charge_layers-c-requires : goal.charge_layers-c-requires
-charge_layers-c-requires c = let n = took (count (goal.at.charge_layers-c-requires c).In-Value) in (n.inside, n.low, (entry (goal.at.charge_layers-c-requires c).In-Value).requires)
+charge_layers-c-requires c = let n = took (count c) in (n.inside, n.low, c.requires)
 
 -- what the layers are charged
 charges : (c : After-charge_layers-c) {s : ChargeExtent} → c.charge_layers-c.result ≡ s
-    → charges_at (entry FIXME[c as In-Value]).args.thickness (number FIXME[c as In-Value]) (file FIXME[c as In-Value]) (start FIXME[c as In-Value]) ≡ s
+    → charges_at c.args.thickness (number c.before) (file c.before) (start c.before) ≡ s
 charges c e = sym c.charge_layers-c.ensures.value ∙ e
 
 pub returns-then-e-file : goal.returns-then-e-file

@@ -15,7 +15,7 @@ use Rattle.ink.proofs.unchecked.charge_layers.Given as goal
 
 abbrev pub invariant-loop-left : goal.invariant-loop-left
 invariant-loop-left l =
-    ChargeRun l.thickness l.file (charges_at l.thickness l.count l.file l.at) (to_z w64 l.last) l.charge l.i l.left
+    ChargeRun l.thickness l.file (charges_at l.thickness l.count l.file l.at) l.last l.charge l.i l.left
 
 abbrev pub decreases-loop-left : goal.decreases-loop-left
 decreases-loop-left l = l.left

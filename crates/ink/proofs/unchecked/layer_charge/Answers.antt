@@ -19,26 +19,26 @@ not_neg : (c : Else-area-lt0) → NonNegative c.args.area
 not_neg c = non_negative _ c.ranges.area (lt_false (fit c.ranges.area) (lit (pos 0) tt) c.if-area-lt0.false)
 
 pub returns-then-area-lt0 : goal.returns-then-area-lt0
-returns-then-area-lt0 c = record { value = none_charged c.args.thickness (neg (goal.at.returns-then-area-lt0 c).Then-area-lt0) }
+returns-then-area-lt0 c = record { value = none_charged c.args.thickness (neg c) }
 
 pub overflow_cast-s : goal.overflow_cast-s
-overflow_cast-s c = plain_ok (not_neg (goal.at.overflow_cast-s c).Else-area-lt0).is (not_neg (goal.at.overflow_cast-s c).Else-area-lt0).small
+overflow_cast-s c = plain_ok (not_neg c).is (not_neg c).small
 
 -- it is below 2 ^ 63
 size : (c : Else-area-lt0) → nat_abs (to_z w64 (of_z w64 c.args.area)) < 2 ^ 63
 size c = omega (arith, (not_neg c).small, ap nat_abs (not_neg c).is)
 
 pub overflow_mul-whole : goal.overflow_mul-whole
-overflow_mul-whole c = product_fits _ c.requires _ (omega (arith, size (goal.at.overflow_mul-whole c).Else-area-lt0))
+overflow_mul-whole c = product_fits _ c.requires _ (omega (arith, size c))
 
 pub overflow_mul-rest : goal.overflow_mul-rest
-overflow_mul-rest c = product_fits _ c.requires _ (omega (arith, size (goal.at.overflow_mul-rest c).Else-area-lt0))
+overflow_mul-rest c = product_fits _ c.requires _ (omega (arith, size c))
 
 pub overflow_add-result : goal.overflow_add-result
-overflow_add-result c = more_fits _ c.requires _ _ (omega (arith, size (goal.at.overflow_add-result c).Else-area-lt0)) (omega arith)
+overflow_add-result c = more_fits _ c.requires _ _ (omega (arith, size c)) (omega arith)
 
 pub overflow_add-result-2 : goal.overflow_add-result-2
-overflow_add-result-2 c = parts_fit _ c.requires _ _ _ _ (omega (arith, size (goal.at.overflow_add-result-2 c).Else-area-lt0)) (omega (arith, size (goal.at.overflow_add-result-2 c).Else-area-lt0)) (omega arith)
+overflow_add-result-2 c = parts_fit _ c.requires _ _ _ _ (omega (arith, size c)) (omega (arith, size c)) (omega arith)
 
 pub returns : goal.returns
-returns c = record { value = charged c.args.thickness (not_neg (goal.at.returns c).Else-area-lt0) }
+returns c = record { value = charged c.args.thickness (not_neg c) }

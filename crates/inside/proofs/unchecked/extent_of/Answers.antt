@@ -16,7 +16,7 @@ loop-k-init c = let pre = c.requires in extended_start pre.0 pre.1
 
 pub loop-k-preserved : goal.loop-k-preserved
 loop-k-preserved c =
-    extended_again c.loop-k.invariant _ _ _ _ (c.lesser_of-left.type-inv, c.greater_of-right.type-inv, c.lesser_of-low.type-inv, c.greater_of-high.type-inv)
+    extended_again c.loop-k.invariant _ _ _ _ (c.lesser_of-left.type_inv, c.greater_of-right.type_inv, c.lesser_of-low.type_inv, c.greater_of-high.type_inv)
     c.lesser_of-left.ensures.value c.greater_of-right.ensures.value c.lesser_of-low.ensures.value c.greater_of-high.ensures.value c.loop-k-test.true
 
 pub returns : goal.returns

@@ -9,4 +9,4 @@ pub returns-then-is_within : goal.returns-then-is_within
 returns-then-is_within c = record { value = c.lies_in.ensures.value ∙ back_lies _ c.requires.2 _ }
 
 pub returns : goal.returns
-returns c = let pre = c.requires in record { value = not_within _ _ pre.2 pre.3 FIXME[c at Else1: c.before.is_Within.ensures] c.if-is_within.false }
+returns c = let pre = c.requires in record { value = not_within _ _ pre.2 pre.3 c.is_within.ensures.value c.if-is_within.false }

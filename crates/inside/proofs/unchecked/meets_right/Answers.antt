@@ -16,7 +16,7 @@ pub overflow_cast-up-2 : goal.overflow_cast-up-2
 overflow_cast-up-2 c = search (rules, widen)
 
 pub overflow_sub-up : goal.overflow_sub-up
-overflow_sub-up c = up_fits (near (goal.at.overflow_sub-up c).Start)
+overflow_sub-up c = up_fits (near c)
 
 pub overflow_cast-over : goal.overflow_cast-over
 overflow_cast-over c = search (rules, widen)
@@ -25,7 +25,7 @@ pub overflow_cast-over-2 : goal.overflow_cast-over-2
 overflow_cast-over-2 c = search (rules, widen)
 
 pub overflow_sub-over : goal.overflow_sub-over
-overflow_sub-over c = over_fits (near (goal.at.overflow_sub-over c).Start)
+overflow_sub-over c = over_fits (near c)
 
 pub overflow_cast-rest : goal.overflow_cast-rest
 overflow_cast-rest c = search (rules, widen)
@@ -34,7 +34,7 @@ pub overflow_cast-rest-2 : goal.overflow_cast-rest-2
 overflow_cast-rest-2 c = search (rules, widen)
 
 pub overflow_sub-rest : goal.overflow_sub-rest
-overflow_sub-rest c = rest_fits (near (goal.at.overflow_sub-rest c).Start)
+overflow_sub-rest c = rest_fits (near c)
 
 pub overflow_cast-right : goal.overflow_cast-right
 overflow_cast-right c = search (rules, widen)
@@ -43,13 +43,13 @@ pub overflow_cast-right-2 : goal.overflow_cast-right-2
 overflow_cast-right-2 c = search (rules, widen)
 
 pub overflow_sub-right : goal.overflow_sub-right
-overflow_sub-right c = right_fits (near (goal.at.overflow_sub-right c).Start)
+overflow_sub-right c = right_fits (near c)
 
 pub overflow_mul-result : goal.overflow_mul-result
-overflow_mul-result c = right_up_fits (near (goal.at.overflow_mul-result c).Start)
+overflow_mul-result c = right_up_fits (near c)
 
 pub overflow_mul-result-2 : goal.overflow_mul-result-2
-overflow_mul-result-2 c = over_rest_fits (near (goal.at.overflow_mul-result-2 c).Start)
+overflow_mul-result-2 c = over_rest_fits (near c)
 
 pub returns : goal.returns
-returns c = record { value = right_told (near (goal.at.returns c).Start) }
+returns c = record { value = right_told (near c) }

@@ -18,10 +18,10 @@ not_neg : (c : Else-z-lt0) → NonNegative c.args.z
 not_neg c = non_negative _ c.ranges.z (lt_false (fit c.ranges.z) (lit (pos 0) tt) c.if-z-lt0.false)
 
 pub bounds-output-at : goal.bounds-output-at
-bounds-output-at c = sign_room (neg (goal.at.bounds-output-at c).Then-z-lt0) refl c.requires
+bounds-output-at c = sign_room (neg c) refl c.requires
 
 pub overflow_sub-k : goal.overflow_sub-k
-overflow_sub-k c = below_fits (neg (goal.at.overflow_sub-k c).Then-z-lt0)
+overflow_sub-k c = below_fits (neg c)
 
 pub overflow_cast-k : goal.overflow_cast-k
 overflow_cast-k c = plain_ok (below_is (neg (goal.at.overflow_cast-k c).Then-z-lt0)) (neg (goal.at.overflow_cast-k c).Then-z-lt0).small

@@ -19,26 +19,26 @@ fits : (c : After-sum_areas-a) (j k : ℕ) → j < 2 ^ 64 → k < 2 ^ 64
     →
     length (layer_line (to_z w32 (of_z w32 c.args.h)) j k (to_z w64 (of_z w64 c.sum_areas-a.result))) ≤ most_line
 fits c j k ej ek =
-    line_fits c.args.h j k c.sum_areas-a.result c.ranges.h ej ek c.sum_areas-a.type-inv
+    line_fits c.args.h j k c.sum_areas-a.result c.ranges.h ej ek c.sum_areas-a.type_inv
 
 pub slice-s-requires : goal.slice-s-requires
-slice-s-requires c = FIXME[fact_1 fact_2] search rules
+slice-s-requires c = let given = search rules in record { fact_1 = given.0; fact_2 = given.1 }
 
 pub sum_areas-a-requires : goal.sum_areas-a-requires
 sum_areas-a-requires c =
-    sums c.requires.fact_1 c.requires.fact_2.few FIXME[c at After-slice-arg3: shr_slice_at.slice.ensures] FIXME[c at After-known_told: c.before.before.before.s.given.1]
+    sums c.requires.fact_1 c.requires.fact_2.few c.slice-s.ensures.outcome c.in-Layer.is
 
 pub write_layer_line-requires : goal.write_layer_line-requires
 write_layer_line-requires c =
-    let told = FIXME[c at After-write_layer_line-arg: c.before.before.before.before.known-told.given] in
+    let told = c.known_told-1.given in
     line_room _ (fits (goal.at.write_layer_line-requires c).After-sum_areas-a _ _ (omega (arith, told.0.1, told.1.0.1)) (omega (arith, told.0.1, told.1.0.1))) c.requires.fact_3
 
 pub returns-in-Layer : goal.returns-in-Layer
 returns-in-Layer c =
-    let told = FIXME[c at After-sum_areas: at_sum.before.before.before.known-told.given] in record {
+    let told = c.known_told-1.given in record {
       outcome = line_at_height _ c.ranges.h
-          (line_put c.requires.fact_1 c.requires.fact_2.few FIXME[c at After-slice-arg3: shr_slice_at.slice.ensures] FIXME[c at After-sum_areas: at_sum.before.before.before.before.s.given.1]
-          (same w64 _ c.sum_areas-a.type-inv ∙ c.sum_areas-a.ensures.value) (fits (goal.at.returns-in-Layer c).After-sum_areas-a _ _ told.0.1 told.1.0.1)
+          (line_put c.requires.fact_1 c.requires.fact_2.few c.slice-s.ensures.outcome c.in-Layer.is
+          (same w64 _ c.sum_areas-a.type_inv ∙ c.sum_areas-a.ensures.value) (fits (goal.at.returns-in-Layer c).After-sum_areas-a _ _ told.0.1 told.1.0.1)
           c.write_layer_line.ensures.outcome);
     }
 

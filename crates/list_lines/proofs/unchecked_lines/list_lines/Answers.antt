@@ -17,38 +17,29 @@ use Rattle.list_lines.proofs.unchecked_lines.list_lines.Goals.{After-taken_heigh
 
 -- a height is left
 height-left : (c : In-loop-k)
-    → 
-    
+    →
     c.loop-k.k < length (heights_taken c.args.coords.now c.args.heights.now)
 height-left c = omega (arith, c.loop-k-test.true, c.taken_count-n.ensures.value)
 
 -- the height at hand, as the call gets it
 height : (c : After-taken_height-h)
-    → 
-    
+    →
     to_z w32 (of_z w32 c.taken_height-h.result)
     ≡ get_or (heights_taken c.args.coords.now c.args.heights.now) c.loop-k.k (pos 0)
 height c =
-    
-    
-    let taken = c.taken_height-h in 
-    height_is c.requires.fact_1 c.base_z-low.ensures.value c.base_z-low.type-inv _ (height-left FIXME[c as In-loop-k]) taken.ensures taken.type-inv
+    let taken = c.taken_height-h in
+    height_is c.requires.fact_1 c.base_z-low.ensures.value c.base_z-low.type_inv _ (height-left c.before) taken.ensures taken.type_inv
 
 pub loop-k-init : goal.loop-k-init
 loop-k-init c =
-    
     (lines_start c.requires.fact_3, lengths_start)
 
 pub taken_height-h-requires : goal.taken_height-h-requires
 taken_height-h-requires c =
-    
-    
-    can_take c.requires.fact_1 c.base_z-low.ensures.value c.base_z-low.type-inv c.loop-k.k (height-left (goal.at.taken_height-h-requires c).In-loop-k)
+    can_take c.requires.fact_1 c.base_z-low.ensures.value c.base_z-low.type_inv c.loop-k.k (height-left c)
 
 pub list_layer-p-requires : goal.list_layer-p-requires
 list_layer-p-requires c =
-    
-    
     let inv = c.loop-k.invariant in record {
       fact_1 = c.requires.fact_1.right;
       fact_2 = still_workable inv.1 c.requires.fact_2;
@@ -57,9 +48,7 @@ list_layer-p-requires c =
 
 pub loop-k-preserved : goal.loop-k-preserved
 loop-k-preserved c =
-    
-    
-    let inv = c.loop-k.invariant in 
+    let inv = c.loop-k.invariant in
     let kept = c.list_layer-p.auto.1.1.1.1 in (
       lines_next inv.0 (height-left (goal.at.loop-k-preserved c).In-loop-k) (height (goal.at.loop-k-preserved c).After-taken_height-h) c.list_layer-p.ensures.outcome,
       lengths_next inv.1 kept.0 kept.1.0 kept.1.1.0 kept.1.1.1.0,

@@ -12,11 +12,11 @@ contour_area-sum-requires c = c.requires.each _ c.loop-i-test.true
 
 pub overflow_add-sum : goal.overflow_add-sum
 overflow_add-sum c =
-    sum_fits c.requires c.loop-i.invariant c.loop-i-test.true _ c.contour_area-sum.type-inv c.contour_area-sum.ensures.value
+    sum_fits c.requires c.loop-i.invariant c.loop-i-test.true _ c.contour_area-sum.type_inv c.contour_area-sum.ensures.value
 
 pub loop-i-preserved : goal.loop-i-preserved
 loop-i-preserved c =
-    summed_next c.requires c.loop-i.invariant c.loop-i-test.true _ c.contour_area-sum.type-inv c.contour_area-sum.ensures.value
+    summed_next c.requires c.loop-i.invariant c.loop-i-test.true _ c.contour_area-sum.type_inv c.contour_area-sum.ensures.value
 
 pub returns : goal.returns
 returns c = record { value = summed_end c.requires c.loop-i.invariant c.loop-i-test.false }

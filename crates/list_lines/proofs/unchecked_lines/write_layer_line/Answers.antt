@@ -36,55 +36,55 @@ abbrev start-1 : After-write_text-a → Start
 start-1 c = c.before.before.before.before
 
 left-1 : (c : After-write_text-a) → Left (start-1 c) 1 c.write_text-a.new.output c.write_text-a.result
-left-1 c = word_put (left-0 FIXME[c as After-slice_known-1]) c.write_text-a.ensures.outcome
+left-1 c = word_put (left-0 c.before.before.before.before) c.write_text-a.ensures.outcome
 
 abbrev start-2 : After-write_signed-b → Start
 start-2 c = start-1 c.before.before.before.before
 
 left-2 : (c : After-write_signed-b) → Left (start-2 c) 2 c.write_signed-b.new.output c.write_signed-b.result
-left-2 c = word_put (left-1 FIXME[c as After-write_text-a]) c.write_signed-b.ensures.outcome
+left-2 c = word_put (left-1 c.before.before.before.before) c.write_signed-b.ensures.outcome
 
 abbrev start-3 : After-write_text-c → Start
 start-3 c = let last = c.before.before.before.before.before in start-2 last
 
 left-3 : (c : After-write_text-c) → Left (start-3 c) 3 c.write_text-c.new.output c.write_text-c.result
-left-3 c = word_put (left-2 FIXME[c as After-output-2-1]) c.write_text-c.ensures.outcome
+left-3 c = word_put (left-2 c.before.before.before.before.before) c.write_text-c.ensures.outcome
 
 abbrev start-4 : After-write_decimal-d → Start
 start-4 c = start-3 c.before.before.before.before
 
 left-4 : (c : After-write_decimal-d) → Left (start-4 c) 4 c.write_decimal-d.new.output c.write_decimal-d.result
-left-4 c = word_put (left-3 FIXME[c as After-write_text-c]) c.write_decimal-d.ensures.outcome
+left-4 c = word_put (left-3 c.before.before.before.before) c.write_decimal-d.ensures.outcome
 
 abbrev start-5 : After-write_text-e → Start
 start-5 c = let last = c.before.before.before.before.before in start-4 last
 
 left-5 : (c : After-write_text-e) → Left (start-5 c) 5 c.write_text-e.new.output c.write_text-e.result
-left-5 c = word_put (left-4 FIXME[c as After-output-4-1]) c.write_text-e.ensures.outcome
+left-5 c = word_put (left-4 c.before.before.before.before.before) c.write_text-e.ensures.outcome
 
 abbrev start-6 : After-write_decimal-f → Start
 start-6 c = start-5 c.before.before.before.before
 
 left-6 : (c : After-write_decimal-f) → Left (start-6 c) 6 c.write_decimal-f.new.output c.write_decimal-f.result
-left-6 c = word_put (left-5 FIXME[c as After-write_text-e]) c.write_decimal-f.ensures.outcome
+left-6 c = word_put (left-5 c.before.before.before.before) c.write_decimal-f.ensures.outcome
 
 abbrev start-7 : After-write_text-g → Start
 start-7 c = let last = c.before.before.before.before.before in start-6 last
 
 left-7 : (c : After-write_text-g) → Left (start-7 c) 7 c.write_text-g.new.output c.write_text-g.result
-left-7 c = word_put (left-6 FIXME[c as After-output-6-1]) c.write_text-g.ensures.outcome
+left-7 c = word_put (left-6 c.before.before.before.before.before) c.write_text-g.ensures.outcome
 
 abbrev start-8 : After-write_signed-i → Start
 start-8 c = start-7 c.before.before.before.before
 
 left-8 : (c : After-write_signed-i) → Left (start-8 c) 8 c.write_signed-i.new.output c.write_signed-i.result
-left-8 c = word_put (left-7 FIXME[c as After-write_text-g]) c.write_signed-i.ensures.outcome
+left-8 c = word_put (left-7 c.before.before.before.before) c.write_signed-i.ensures.outcome
 
 abbrev start-9 : After-write_text → Start
 start-9 c = let last = c.before.before.before.before.before in start-8 last
 
 left-9 : (c : After-write_text) → Left (start-9 c) 9 c.write_text.new.output c.write_text.result
-left-9 c = word_put (left-8 FIXME[c as After-output-8-1]) c.write_text.ensures.outcome
+left-9 c = word_put (left-8 c.before.before.before.before.before) c.write_text.ensures.outcome
 
 pub write_text-a-requires : goal.write_text-a-requires
 write_text-a-requires c = word_room (left-0 (goal.at.write_text-a-requires c).After-slice_known-1)

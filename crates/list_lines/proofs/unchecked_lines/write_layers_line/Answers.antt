@@ -20,19 +20,19 @@ abbrev start-1 : After-write_text-a → Start
 start-1 c = c.before.before.before.before
 
 left-1 : (c : After-write_text-a) → Left (start-1 c) 1 c.write_text-a.new.output c.write_text-a.result
-left-1 c = word_put (left-0 FIXME[c as After-slice_known-1]) c.write_text-a.ensures.outcome
+left-1 c = word_put (left-0 c.before.before.before.before) c.write_text-a.ensures.outcome
 
 abbrev start-2 : After-write_decimal-b → Start
 start-2 c = start-1 c.before.before.before.before
 
 left-2 : (c : After-write_decimal-b) → Left (start-2 c) 2 c.write_decimal-b.new.output c.write_decimal-b.result
-left-2 c = word_put (left-1 FIXME[c as After-write_text-a]) c.write_decimal-b.ensures.outcome
+left-2 c = word_put (left-1 c.before.before.before.before) c.write_decimal-b.ensures.outcome
 
 abbrev start-3 : After-write_text → Start
 start-3 c = let last = c.before.before.before.before.before in start-2 last
 
 left-3 : (c : After-write_text) → Left (start-3 c) 3 c.write_text.new.output c.write_text.result
-left-3 c = word_put (left-2 FIXME[c as After-output-2-1]) c.write_text.ensures.outcome
+left-3 c = word_put (left-2 c.before.before.before.before.before) c.write_text.ensures.outcome
 
 pub write_text-a-requires : goal.write_text-a-requires
 write_text-a-requires c = word_room (left-0 (goal.at.write_text-a-requires c).After-slice_known-1)

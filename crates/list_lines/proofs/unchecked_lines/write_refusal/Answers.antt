@@ -22,37 +22,37 @@ Left s k m p =
     (drop k (refused_words (refusal s.before.number_of_lem.result s.place_of.result)))
 
 left-0 : (s : After-place_of-p) → Left s 0 (start s).args.output.now 0
-left-0 s = refused_words_lem (told_of (start s).args.r) FIXME[s at After-place_of: s.before.number_of_lem.ensures] s.place_of-p.ensures.value (omega arith) (omega arith) (start s).requires
+left-0 s = refused_words_lem (told_of (start s).args.r) s.number_of-n.ensures.value s.place_of-p.ensures.value (omega arith) (omega arith) (start s).requires
 
 abbrev start-1 : After-write_text-a → After-place_of-p
 start-1 c = c.before.before.before
 
 left-1 : (c : After-write_text-a) → Left (start-1 c) 1 c.write_text-a.new.output c.write_text-a.result
-left-1 c = word_put (left-0 FIXME[c as After-write_text-arg-1]) c.write_text-a.ensures.outcome
+left-1 c = word_put (left-0 c.before.before.before) c.write_text-a.ensures.outcome
 
 abbrev start-2 : After-write_decimal-b → After-place_of-p
 start-2 c = start-1 c.before.before.before.before
 
 left-2 : (c : After-write_decimal-b) → Left (start-2 c) 2 c.write_decimal-b.new.output c.write_decimal-b.result
-left-2 c = word_put (left-1 FIXME[c as After-write_text-a]) c.write_decimal-b.ensures.outcome
+left-2 c = word_put (left-1 c.before.before.before.before) c.write_decimal-b.ensures.outcome
 
 abbrev start-3 : After-write_text-c → After-place_of-p
 start-3 c = let last = c.before.before.before.before.before in start-2 last
 
 left-3 : (c : After-write_text-c) → Left (start-3 c) 3 c.write_text-c.new.output c.write_text-c.result
-left-3 c = word_put (left-2 FIXME[c as After-output-2-1]) c.write_text-c.ensures.outcome
+left-3 c = word_put (left-2 c.before.before.before.before.before) c.write_text-c.ensures.outcome
 
 abbrev start-4 : After-write_decimal-d → After-place_of-p
 start-4 c = start-3 c.before.before.before.before
 
 left-4 : (c : After-write_decimal-d) → Left (start-4 c) 4 c.write_decimal-d.new.output c.write_decimal-d.result
-left-4 c = word_put (left-3 FIXME[c as After-write_text-c]) c.write_decimal-d.ensures.outcome
+left-4 c = word_put (left-3 c.before.before.before.before) c.write_decimal-d.ensures.outcome
 
 abbrev start-5 : After-write_text → After-place_of-p
 start-5 c = let last = c.before.before.before.before.before in start-4 last
 
 left-5 : (c : After-write_text) → Left (start-5 c) 5 c.write_text.new.output c.write_text.result
-left-5 c = word_put (left-4 FIXME[c as After-output-4-1]) c.write_text.ensures.outcome
+left-5 c = word_put (left-4 c.before.before.before.before.before) c.write_text.ensures.outcome
 
 pub write_text-a-requires : goal.write_text-a-requires
 write_text-a-requires c = word_room (left-0 (goal.at.write_text-a-requires c).After-write_text-arg-1)

@@ -4,7 +4,7 @@ use borrow.Author.Rules.{rules}
 use Rattle.list_part.proofs.unchecked.limited.Goals as goal
 
 pub returns-then-number_of-eq9 : goal.returns-then-number_of-eq9
-returns-then-number_of-eq9 c = record { result = for_nine c.args.r FIXME[c at Then1: c.before.number_of_lem.ensures] c.if-number_of-eq9.true }
+returns-then-number_of-eq9 c = record { result = for_nine c.args.r c.number_of.ensures.value c.if-number_of-eq9.true }
 
 pub returns : goal.returns
-returns c = record { result = for_others c.args.r FIXME[c at Else1: c.before.number_of_lem.ensures] c.if-number_of-eq9.false }
+returns c = record { result = for_others c.args.r c.number_of.ensures.value c.if-number_of-eq9.false }

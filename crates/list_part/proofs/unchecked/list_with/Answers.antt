@@ -8,7 +8,7 @@ use Rattle.list_part.proofs.Parts.{front_length}
 use Rattle.list_part.proofs.Reading.{part_read_lem, put_part, put_stop}
 use borrow.Author.Rules.{rules}
 use Rattle.list_part.proofs.unchecked.list_with.Goals as goal
-use Rattle.list_part.proofs.unchecked.list_with.Goals.{After-take_part-a, In-Counts-2}
+use Rattle.list_part.proofs.unchecked.list_with.Goals.{After-heights-1, After-slice_known-8-1, After-take_part-a, In-Counts-1, In-Counts-2}
 
 -- the three tables after reading
 abbrev tables : After-take_part-a → Part
@@ -16,23 +16,17 @@ tables c = part c.take_part.new.1.0 c.take_part.new.1.1.0 c.take_part.new.1.1.1.
 
 -- what was read
 read : (c : In-Counts-2)
-    → 
-    
-    PartRead c.args.input.now c.in-Counts.v c.in-Counts.t c.in-Counts.k (tables FIXME[c as After-take_part-a])
+    →
+    PartRead c.args.input.now c.in-Counts.v c.in-Counts.t c.in-Counts.k (tables c.before.before.before.before.before.before)
 read c =
-    
     part_read_lem _ _ _ c.take_part-a.ensures.outcome c.in-Counts.is
 
 pub overflow_mul-n : goal.overflow_mul-n
 overflow_mul-n c =
-    
-    
     omega (arith, (read (goal.at.overflow_mul-n c).In-Counts-2).coords_there, c.take_part-a.auto.1.0, ap (λ (s : PartSizes). s.coords) c.requires.fact_1)
 
 pub overflow_mul-m : goal.overflow_mul-m
 overflow_mul-m c =
-    
-    
     omega (arith, (read (goal.at.overflow_mul-m c).In-Counts-2).corners_there, c.take_part-a.auto.1.1.0, ap (λ (s : PartSizes). s.corners) c.requires.fact_1)
 
 pub slice_bounds-list_part-end : goal.slice_bounds-list_part-end
@@ -54,7 +48,7 @@ pub slice_bounds-list_part-end-in-Counts-5 : goal.slice_bounds-list_part-end-in-
 slice_bounds-list_part-end-in-Counts-5 c = front_length _ _ (read (goal.at.slice_bounds-list_part-end-in-Counts-5 c).After-slice_known-8-1).heights_there
 
 pub list_part-requires : goal.list_part-requires
-list_part-requires c = FIXME[fact_1 fact_2] search rules
+list_part-requires c = let given = search rules in record { fact_1 = given.0; fact_2 = given.1 }
 
 pub returns-in-Counts : goal.returns-in-Counts
 returns-in-Counts c = record { outcome = put_part (read (goal.at.returns-in-Counts c).After-slice_known-8-1) c.list_part.ensures.outcome }

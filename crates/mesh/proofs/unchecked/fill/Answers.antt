@@ -16,10 +16,10 @@ pub loop-i-init : goal.loop-i-init
 loop-i-init c = (omega arith, omega arith, sym (refill_none _ _))
 
 pub offset_bounds-t-i : goal.offset_bounds-t-i
-offset_bounds-t-i c = let l = filled (goal.at.offset_bounds-t-i c).In-loop-i in omega arith
+offset_bounds-t-i c = let l = filled c in omega arith
 
 pub bounds-t-i : goal.bounds-t-i
-bounds-t-i c = let l = filled (goal.at.bounds-t-i c).In-loop-i in omega arith
+bounds-t-i c = let l = filled c in omega arith
 
 pub loop-i-preserved : goal.loop-i-preserved
 loop-i-preserved c =

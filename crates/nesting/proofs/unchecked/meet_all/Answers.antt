@@ -34,7 +34,7 @@ is_held-inside-requires c = held_asked c.loop-i.invariant c.loop-i-test.true
 
 pub meet_one-requires : goal.meet_one-requires
 meet_one-requires c =
-    meet_asked c.loop-i.invariant c.loop-i-test.true FIXME[c at After-meet_one-arg2: c.before.before.is_held_lem.ensures]
+    meet_asked c.loop-i.invariant c.loop-i-test.true c.is_held-inside.ensures.value
 
 pub loop-i-preserved : goal.loop-i-preserved
 loop-i-preserved c =

@@ -59,7 +59,7 @@ loop-n-smaller c =
 
 pub loop-n-preserved : goal.loop-n-preserved
 loop-n-preserved c =
-    let filled = FIXME[c at After-fill_contour: at_fill_lem.fill-contour.ensures] in
+    let filled = (c.fill_contour-n.ensures.value, c.fill_contour-n.ensures.left) in
     running_next _ _ _ _ c.loop-n.invariant (passed (goal.at.loop-n-preserved c).Start) c.loop-n-test.true c.if-ends-j.false c.prior_end-s.ensures.value
     c.wide-e.ensures.value refl filled.0 filled.1
 

@@ -8,25 +8,17 @@ use Rattle.preview.proofs.Fetching.{read_is, read_small}
 use Rattle.preview.proofs.Filling.{start_there, moved_room, moved_left, moved_at, later_left}
 use borrow.Author.Rules.{rules}
 use Rattle.preview.proofs.unchecked.fill_contour.Goals as goal
-use Rattle.preview.proofs.unchecked.fill_contour.Goals.{After-put_point, Start, Then-i-s}
+use Rattle.preview.proofs.unchecked.fill_contour.Goals.{After-put_point}
 
 -- the move is put
 module _ (a : After-put_point) where
-  abbrev at-if : Then-i-s
-  at-if = FIXME[a as Then-i-s]
-
-  abbrev start : Start
-  start = at-if.before.before.before
-
-  there : 2 * start.args.i + 1 < length start.args.points.now
-  there = start_there start.pre.0 start.pre.1.0 start.pre.1.1.0 start.pre.1.1.1 start.pre.1.1.2 at-if.if1.taken
+  there : 2 * a.args.i + 1 < length a.args.points.now
+  there = start_there a.requires.fact_1 a.requires.fact_2 a.requires.fact_3.0 a.requires.fact_3.1 a.requires.fact_3.2 a.if-i-s.true
 
 pub drawn_point-requires : goal.drawn_point-requires
 drawn_point-requires c =
-    
-    
-    let p = c.requires.fact_2 in 
-    let points = c.args.points.now in 
+    let p = c.requires.fact_2 in
+    let points = c.args.points.now in
     let there = start_there c.requires.fact_1 p c.requires.fact_3.0 c.requires.fact_3.1 c.requires.fact_3.2 c.if-i-s.true in
     let i = c.args.i in (
       read_small (get_or points (2 * i) (pos 0)) (p.small (2 * i) (omega (arith, there))),
@@ -36,7 +28,6 @@ drawn_point-requires c =
 
 pub fill_rest-requires : goal.fill_rest-requires
 fill_rest-requires c =
-    
     let points = (start (goal.at.fill_rest-requires c).After-put_point).args.points.now in
     let i = (start (goal.at.fill_rest-requires c).After-put_point).args.i in
     let p = (start (goal.at.fill_rest-requires c).After-put_point).requires.1.0 in record {
@@ -50,13 +41,10 @@ fill_rest-requires c =
 
 pub shape_of-kinds-then-i-s : goal.shape_of-kinds-then-i-s
 shape_of-kinds-then-i-s c =
-    
     c.kinds-1.given ∙ length-set (start (goal.at.shape_of-kinds-then-i-s c).After-put_point).args.kinds.now (start (goal.at.shape_of-kinds-then-i-s c).After-put_point).args.n 0
 
 pub returns-then-i-s : goal.returns-then-i-s
 returns-then-i-s c =
-    
-    
     let points = (start (goal.at.returns-then-i-s c).After-put_point).args.points.now in
     let i = (start (goal.at.returns-then-i-s c).After-put_point).args.i in
     let p = (start (goal.at.returns-then-i-s c).After-put_point).requires.1.0 in record {
@@ -69,11 +57,11 @@ returns-then-i-s c =
     }
 
 pub fill_rest-requires-2 : goal.fill_rest-requires-2
-fill_rest-requires-2 c = FIXME[fact_1 fact_2 fact_3] search rules
+fill_rest-requires-2 c = let given = search rules in record { fact_1 = given.0; fact_2 = given.1.0; fact_3 = given.1.1 }
 
 pub returns : goal.returns
 returns c = record {
-      value = c.fill_rest-2.ensures.value;
-      left = later_left c.requires.fact_1 c.requires.fact_2 c.requires.fact_3.0 c.requires.fact_3.1 c.requires.fact_3.2 c.if-i-s.false
-          c.fill_rest-2.ensures.left;
-    }
+  value = c.fill_rest-2.ensures.value;
+  left = later_left c.requires.fact_1 c.requires.fact_2 c.requires.fact_3.0 c.requires.fact_3.1 c.requires.fact_3.2 c.if-i-s.false
+      c.fill_rest-2.ensures.left;
+}

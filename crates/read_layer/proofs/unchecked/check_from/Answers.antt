@@ -23,51 +23,47 @@ answer c =
 
 pub returns-in_default : goal.returns-in_default
 returns-in_default c = record {
-      result = first_stops c.args.profile c.args.more c.args.low _ _
-    (layer_no_height c.args.profile _ _ _ c.requires (answer (goal.at.returns-in_default c).After-read_height-h ∙ c.in_default.is));
-    }
+  result = first_stops c.args.profile c.args.more c.args.low _ _
+      (layer_no_height c.args.profile _ _ _ c.requires (answer (goal.at.returns-in_default c).After-read_height-h ∙ c.in_default.is));
+}
 
 -- the height read
 height : (c : In-Above)
-    → 
+    →
     height_told_at c.args.low c.args.file.now c.args.at
     ≡ Above c.in-Above.z c.in-Above.j
-height c = answer FIXME[c as After-read_height-h] ∙ c.in-Above.is
+height c = answer c.before.before.before ∙ c.in-Above.is
 
 pub check_counted-c-requires : goal.check_counted-c-requires
 check_counted-c-requires c =
-    
-    height_inside c.args.profile _ _ _ c.requires _ _ (height (goal.at.check_counted-c-requires c).In-Above)
+    height_inside c.args.profile _ _ _ c.requires _ _ (height c)
 
 -- the counts of contours and points
 counts : (c : In-End)
-    → 
-    
+    →
     counts_at c.args.profile c.args.file.now c.in-Above.j
     ≡ End c.in-End.next c.in-End.contours c.in-End.points c.in-End.field-3
 counts c = sym c.check_counted-c.ensures.value ∙ c.in-End.is
 
 pub check_last-rest-requires : goal.check_last-rest-requires
 check_last-rest-requires c =
-    
-    
-    next_inside c.args.profile c.args.more _ _ _ c.requires (height (goal.at.check_last-rest-requires c).In-Above) (counts (goal.at.check_last-rest-requires c).In-End)
+    next_inside c.args.profile c.args.more _ _ _ c.requires (height (goal.at.check_last-rest-requires c).In-Above) (counts c)
 
 pub returns-in-Refused : goal.returns-in-Refused
 returns-in-Refused c = record {
-      result = first_stops c.args.profile c.args.more c.args.low _ _
-    (layer_no_contours c.args.profile _ _ _ c.requires _ _ (height (goal.at.returns-in-Refused c).In-Above) _
-    (sym c.check_counted-c.ensures.value ∙ c.in-Refused.is));
-    }
+  result = first_stops c.args.profile c.args.more c.args.low _ _
+      (layer_no_contours c.args.profile _ _ _ c.requires _ _ (height (goal.at.returns-in-Refused c).In-Above) _
+      (sym c.check_counted-c.ensures.value ∙ c.in-Refused.is));
+}
 
 pub returns-in-Refused-rest : goal.returns-in-Refused-rest
 returns-in-Refused-rest c = record {
-      result = last_stops c.args.profile c.args.more _ _ _ c.requires (height (goal.at.returns-in-Refused-rest c).In-Above) (counts (goal.at.returns-in-Refused-rest c).In-End)
-    (same w64 c.in-Above.z (omega arith)) (sym c.check_last-rest.ensures.value ∙ c.in-Refused-rest.is);
-    }
+  result = last_stops c.args.profile c.args.more _ _ _ c.requires (height (goal.at.returns-in-Refused-rest c).In-Above) (counts (goal.at.returns-in-Refused-rest c).In-End)
+      (same w64 c.in-Above.z (omega arith)) (sym c.check_last-rest.ensures.value ∙ c.in-Refused-rest.is);
+}
 
 pub returns-in-End-rest : goal.returns-in-End-rest
 returns-in-End-rest c = record {
-      result = last_passes c.args.profile c.args.more _ _ _ c.requires (height (goal.at.returns-in-End-rest c).In-Above) (counts (goal.at.returns-in-End-rest c).In-End)
-    (same w64 c.in-Above.z (omega arith)) (sym c.check_last-rest.ensures.value ∙ c.in-End-rest.is);
-    }
+  result = last_passes c.args.profile c.args.more _ _ _ c.requires (height (goal.at.returns-in-End-rest c).In-Above) (counts (goal.at.returns-in-End-rest c).In-End)
+      (same w64 c.in-Above.z (omega arith)) (sym c.check_last-rest.ensures.value ∙ c.in-End-rest.is);
+}

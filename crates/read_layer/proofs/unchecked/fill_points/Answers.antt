@@ -70,9 +70,9 @@ pub loop-left-preserved : goal.loop-left-preserved
 loop-left-preserved c =
     simp (
       same_in w32 c.in-At.nx largest (x_near c.loop-left.invariant (more (goal.at.loop-left-preserved c).In-loop-left) (first (goal.at.loop-left-preserved c).In-At)) tt,
-      same_in w32 c.in-At-b.ny largest (y_near c.loop-left.invariant (more (goal.at.loop-left-preserved c).In-loop-left) (first (goal.at.loop-left-preserved c).In-At) (second (goal.at.loop-left-preserved c).In-At-b)) tt,
+      same_in w32 c.in-At-b.ny largest (y_near c.loop-left.invariant (more (goal.at.loop-left-preserved c).In-loop-left) (first (goal.at.loop-left-preserved c).In-At) (second c)) tt,
     )
-    (next_filled c.loop-left.invariant (more (goal.at.loop-left-preserved c).In-loop-left) (first (goal.at.loop-left-preserved c).In-At) (second (goal.at.loop-left-preserved c).In-At-b))
+    (next_filled c.loop-left.invariant (more (goal.at.loop-left-preserved c).In-loop-left) (first (goal.at.loop-left-preserved c).In-At) (second c))
 
 pub shape_of-points : goal.shape_of-points
 shape_of-points c = c.loop-left.invariant.table.size

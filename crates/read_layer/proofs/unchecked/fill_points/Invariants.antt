@@ -14,7 +14,7 @@ use Rattle.read_layer.proofs.PointFills.{PointFilling, point_filling, filled, x_
 use Rattle.read_layer.proofs.unchecked.fill_points.Given as goal
 
 abbrev pub invariant-loop-left : goal.invariant-loop-left
-invariant-loop-left l = PointFilling l.file l.at l.count l.initial.points l.from l.points (to_z w32 l.x) (to_z w32 l.y) l.i l.left l.k
+invariant-loop-left l = PointFilling l.file l.at l.count l.initial.points l.from l.points l.x l.y l.i l.left l.k
 
 abbrev pub decreases-loop-left : goal.decreases-loop-left
 decreases-loop-left l = l.left

@@ -21,7 +21,7 @@ before c = sym c.check_layers-b.ensures.value ∙ c.in-End.is
 
 pub check_from-requires : goal.check_from-requires
 check_from-requires c =
-    before_inside c.args.profile c.args.count c.args.i lowest _ _ c.requires (before (goal.at.check_from-requires c).In-End)
+    before_inside c.args.profile c.args.count c.args.i lowest _ _ c.requires (before c)
 
 pub returns-in-End : goal.returns-in-End
 returns-in-End c = record {

@@ -38,7 +38,7 @@ overflow_add-k c =
 pub loop-left-preserved : goal.loop-left-preserved
 loop-left-preserved c =
     signed_next c.loop-left.invariant c.loop-left-test.true (sym c.read_number-n.ensures.value ∙ c.in-Value.is)
-    (same w32 _ c.signed_word-z.type-inv ∙ c.signed_word-z.ensures.value)
+    (same w32 _ c.signed_word-z.type_inv ∙ c.signed_word-z.ensures.value)
 
 pub shape_of-table : goal.shape_of-table
 shape_of-table c = c.loop-left.invariant.table.size

@@ -4,7 +4,7 @@ use borrow.Author.Rules.{rules}
 use Rattle.read_part.proofs.unchecked.signed_word.Goals as goal
 
 pub overflow_cast-result : goal.overflow_cast-result
-overflow_cast-result c = narrow_ok _ c.requires _ FIXME[c at After-signed_of: c.Signed-of.type-inv] FIXME[c at After-signed_of: c.Signed-of.ensures]
+overflow_cast-result c = narrow_ok _ c.requires _ c.signed_of.type_inv c.signed_of.ensures.value
 
 pub returns : goal.returns
-returns c = record { value = narrow _ c.requires _ FIXME[c at After-signed_of: c.Signed-of.type-inv] FIXME[c at After-signed_of: c.Signed-of.ensures] }
+returns c = record { value = narrow _ c.requires _ c.signed_of.type_inv c.signed_of.ensures.value }

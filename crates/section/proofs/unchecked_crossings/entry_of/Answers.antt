@@ -6,7 +6,7 @@ use borrow.Author.Rules.{rules}
 use Rattle.section.proofs.unchecked_crossings.entry_of.Goals as goal
 
 pub is_rising-requires : goal.is_rising-requires
-is_rising-requires c = FIXME[fact_1 fact_2] search rules
+is_rising-requires c = let given = search rules in record { fact_1 = given.0; fact_2 = given.1 }
 
 pub link_of-requires : goal.link_of-requires
 link_of-requires c = record {

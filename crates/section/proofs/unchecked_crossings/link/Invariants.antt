@@ -15,7 +15,7 @@ use Rattle.section.proofs.unchecked_crossings.link.Given as goal
 abbrev pub invariant-loop-c : goal.invariant-loop-c
 invariant-loop-c l =
     (l.c ≤ l.n)
-    × (l.ring ≡ refill l.c (ring_entry (under l.coords (to_z w32 l.h) l.k) l.corners l.pairing) l.initial.ring)
+    × (l.ring ≡ refill l.c (ring_entry (under l.coords l.h l.k) l.corners l.pairing) l.initial.ring)
 
 abbrev pub decreases-loop-c : goal.decreases-loop-c
 decreases-loop-c l = l.n - l.c

@@ -16,7 +16,7 @@ abbrev pub invariant-loop-c : goal.invariant-loop-c
 invariant-loop-c l =
     (l.c ≤ l.n)
     × (l.c % 3 ≡ 0)
-    × (l.ring ≡ refill l.c (ring_entry (under l.coords (to_z w32 l.h) 0) l.corners l.pairing) l.initial.ring)
+    × (l.ring ≡ refill l.c (ring_entry (under l.coords l.h 0) l.corners l.pairing) l.initial.ring)
 
 abbrev pub decreases-loop-c : goal.decreases-loop-c
 decreases-loop-c l = l.n - l.c

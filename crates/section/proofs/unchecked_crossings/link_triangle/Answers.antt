@@ -29,13 +29,13 @@ seen c =
     }
 
 pub starts_passed-p-requires : goal.starts_passed-p-requires
-starts_passed-p-requires c = FIXME[fact_1 fact_2] search rules
+starts_passed-p-requires c = let given = search rules in record { fact_1 = given.0; fact_2 = given.1 }
 
 pub starts_passed-q-requires : goal.starts_passed-q-requires
-starts_passed-q-requires c = FIXME[fact_1 fact_2] search rules
+starts_passed-q-requires c = let given = search rules in record { fact_1 = given.0; fact_2 = given.1 }
 
 pub starts_passed-r-requires : goal.starts_passed-r-requires
-starts_passed-r-requires c = FIXME[fact_1 fact_2] search rules
+starts_passed-r-requires c = let given = search rules in record { fact_1 = given.0; fact_2 = given.1 }
 
 pub returns-then-is_level : goal.returns-then-is_level
 returns-then-is_level c =

@@ -14,7 +14,7 @@ use Rattle.sweep.proofs.Moves.{back}
 use Rattle.sweep.proofs.unchecked.first_wrong.Given as goal
 
 abbrev pub invariant-loop-c : goal.invariant-loop-c
-invariant-loop-c l = Scanned (length l.corners) (wrong_for (under l.coords (to_z w32 l.h) l.k) l.corners l.pairing l.ring) l.c
+invariant-loop-c l = Scanned (length l.corners) (wrong_for (under l.coords l.h l.k) l.corners l.pairing l.ring) l.c
 
 abbrev pub decreases-loop-c : goal.decreases-loop-c
 decreases-loop-c l = length l.corners - l.c

@@ -18,16 +18,16 @@ pub returns-then-n-eq0 : goal.returns-then-n-eq0
 returns-then-n-eq0 c = record { value = behind_none _ _ _ c.if-n-eq0.true }
 
 pub overflow_mul-j : goal.overflow_mul-j
-overflow_mul-j c = omega (arith, inside (goal.at.overflow_mul-j c).After-wide-w)
+overflow_mul-j c = omega (arith, inside c)
 
 pub overflow_add-j : goal.overflow_add-j
-overflow_add-j c = omega (arith, inside (goal.at.overflow_add-j c).After-wide-w)
+overflow_add-j c = omega (arith, inside c)
 
 pub offset_bounds-coords-j : goal.offset_bounds-coords-j
-offset_bounds-coords-j c = omega (arith, inside (goal.at.offset_bounds-coords-j c).After-wide-w)
+offset_bounds-coords-j c = omega (arith, inside c)
 
 pub bounds-coords-j : goal.bounds-coords-j
-bounds-coords-j c = inside (goal.at.bounds-coords-j c).After-wide-w
+bounds-coords-j c = inside c
 
 pub returns : goal.returns
 returns c = record { value = same w32 _ c.result-1.given ∙ behind_last _ _ _ _ c.if-n-eq0.false c.wide-w.ensures.value }

@@ -18,12 +18,12 @@ pub returns-then-height_behind-h : goal.returns-then-height_behind-h
 returns-then-height_behind-h c = record {
   told = low_last c.args.coords.now c.args.order.now c.args.h c.requires.fact_2 c.args.n c.requires.fact_1 c.if-n-eq0.false
       c.height_behind.result c.height_behind.ensures.value
-      (got_lt c.height_behind.result c.args.h c.height_behind.type-inv c.ranges.h c.if-height_behind-h.true);
+      (got_lt c.height_behind.result c.args.h c.height_behind.type_inv c.ranges.h c.if-height_behind-h.true);
 }
 
 pub returns : goal.returns
 returns c = record {
   told = high_last c.args.coords.now c.args.order.now c.args.h c.requires.fact_2 c.args.n c.requires.fact_1 c.if-n-eq0.false
       c.height_behind.result c.height_behind.ensures.value
-      (got_lt c.height_behind.result c.args.h c.height_behind.type-inv c.ranges.h c.if-height_behind-h.false);
+      (got_lt c.height_behind.result c.args.h c.height_behind.type_inv c.ranges.h c.if-height_behind-h.false);
 }

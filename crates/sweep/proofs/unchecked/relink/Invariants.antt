@@ -16,7 +16,7 @@ use Rattle.sweep.proofs.Moves.{held, back, relink_write, relink_skip}
 use Rattle.sweep.proofs.unchecked.relink.Given as goal
 
 abbrev pub invariant-loop-c : goal.invariant-loop-c
-invariant-loop-c l = (l.c ≤ l.n) × (l.ring ≡ refill l.c (relinked (under l.coords (to_z w32 l.h) l.k) l.corners l.pairing l.w l.initial.ring) l.initial.ring)
+invariant-loop-c l = (l.c ≤ l.n) × (l.ring ≡ refill l.c (relinked (under l.coords l.h l.k) l.corners l.pairing l.w l.initial.ring) l.initial.ring)
 
 abbrev pub decreases-loop-c : goal.decreases-loop-c
 decreases-loop-c l = l.n - l.c

@@ -27,7 +27,7 @@ ring_test-requires c =
     subst (λ (w : SweepTest). SweepAskable w (sweepOf (goal.at.ring_test-requires c).Start)) c.in-Ring.is c.requires
 
 pub height_test-requires : goal.height_test-requires
-height_test-requires c = FIXME[fact_1 fact_2] subst (λ (w : SweepTest). SweepAskable w (sweepOf (goal.at.height_test-requires c).Start)) c.in-Height.is c.requires
+height_test-requires c = let given = subst (λ (w : SweepTest). SweepAskable w (sweepOf (goal.at.height_test-requires c).Start)) c.in-Height.is c.requires in record { fact_1 = given.0; fact_2 = given.1 }
 
 pub returns-in-Mesh : goal.returns-in-Mesh
 returns-in-Mesh c = record { told = sweep_test_as (sweepOf (goal.at.returns-in-Mesh c).Start) c.args.h c.in-Mesh.is c.one_mesh_test.ensures.told }

@@ -34,32 +34,32 @@ never c =
     at-outline.outline-rings.ensures c.s2.given.1
 
 pub risen_to-p-requires : goal.risen_to-p-requires
-risen_to-p-requires c = FIXME[fact_1 fact_2] search rules
+risen_to-p-requires c = let given = search rules in record { fact_1 = given.0; fact_2 = given.1 }
 
 pub link_at-requires : goal.link_at-requires
-link_at-requires c = FIXME[fact_1 fact_2 fact_3] search rules
+link_at-requires c = let given = search rules in record { fact_1 = given.0; fact_2 = given.1.0; fact_3 = given.1.1 }
 
 pub outline_rings-s-requires : goal.outline_rings-s-requires
 outline_rings-s-requires c =
     let marks = c.args.marks.now in record {
-      fact_1 = raise_outlined (sweepOf (goal.at.outline_rings-s-requires c).Start) (height_of (goal.at.outline_rings-s-requires c).Start) (tested (goal.at.outline_rings-s-requires c).Start) marks FIXME[c at After-link_at-arg: at-link.link_at.ensures] c.copy_front.ensures.left;
+      fact_1 = raise_outlined (sweepOf (goal.at.outline_rings-s-requires c).Start) (height_of (goal.at.outline_rings-s-requires c).Start) (tested (goal.at.outline_rings-s-requires c).Start) marks c.link_at.ensures.left c.copy_front.ensures.left;
       fact_2 = long_links c.requires.fact_2 c.copy_front.auto.1.0;
     }
 
 pub height_behind-z-requires : goal.height_behind-z-requires
-height_behind-z-requires c = FIXME[fact_1 fact_2] absurd (never (goal.at.height_behind-z-requires c).In-Refused-2)
+height_behind-z-requires c = let given = absurd (never (goal.at.height_behind-z-requires c).In-Refused-2) in record { fact_1 = given.0; fact_2 = given.1 }
 
 pub number_behind-i-requires : goal.number_behind-i-requires
 number_behind-i-requires c = absurd (never (goal.at.number_behind-i-requires c).In-Refused-2)
 
 pub link-requires : goal.link-requires
-link-requires c = FIXME[fact_1 fact_2 fact_3] absurd (never (goal.at.link-requires c).In-Refused-2)
+link-requires c = let given = absurd (never (goal.at.link-requires c).In-Refused-2) in record { fact_1 = given.0; fact_2 = given.1.0; fact_3 = given.1.1 }
 
 pub returns-in-Layer : goal.returns-in-Layer
 returns-in-Layer c = record {
   outcome = at_height (sweepOf (goal.at.returns-in-Layer c).Start) c.ranges.h
-      (lifts (sweepOf (goal.at.returns-in-Layer c).Start) (height_of (goal.at.returns-in-Layer c).Start) (tested (goal.at.returns-in-Layer c).Start) c.args.marks.now FIXME[c at After-link_at-arg: at-link.link_at.ensures] c.copy_front.ensures.left
-      c.outline_rings-s.ensures.outcome c.in-Layer.is FIXME[c at After-link_at-arg: at-link.before.before.risen-to.ensures]);
+      (lifts (sweepOf (goal.at.returns-in-Layer c).Start) (height_of (goal.at.returns-in-Layer c).Start) (tested (goal.at.returns-in-Layer c).Start) c.args.marks.now c.link_at.ensures.left c.copy_front.ensures.left
+      c.outline_rings-s.ensures.outcome c.in-Layer.is c.risen_to-p.ensures.value);
 }
 
 pub returns-in-Refused : goal.returns-in-Refused

@@ -40,16 +40,16 @@ bounds-order-p c =
     (c.requires.fact_2 c.loop-p.p l).there
 
 pub overflow_mul-j : goal.overflow_mul-j
-overflow_mul-j c = omega (arith, inside (goal.at.overflow_mul-j c).After-wide-w)
+overflow_mul-j c = omega (arith, inside c)
 
 pub overflow_add-j : goal.overflow_add-j
-overflow_add-j c = omega (arith, inside (goal.at.overflow_add-j c).After-wide-w)
+overflow_add-j c = omega (arith, inside c)
 
 pub offset_bounds-coords-j : goal.offset_bounds-coords-j
-offset_bounds-coords-j c = omega (arith, inside (goal.at.offset_bounds-coords-j c).After-wide-w)
+offset_bounds-coords-j c = omega (arith, inside c)
 
 pub bounds-coords-j : goal.bounds-coords-j
-bounds-coords-j c = inside (goal.at.bounds-coords-j c).After-wide-w
+bounds-coords-j c = inside c
 
 pub returns-then-coords-j : goal.returns-then-coords-j
 returns-then-coords-j c =

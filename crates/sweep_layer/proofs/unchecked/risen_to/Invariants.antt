@@ -14,7 +14,7 @@ use Rattle.sweep_layer.proofs.Rising.{RiseGoesOn, rising_start, rising_stop, ris
 use Rattle.sweep_layer.proofs.unchecked.risen_to.Given as goal
 
 abbrev pub invariant-loop-p : goal.invariant-loop-p
-invariant-loop-p l = RiseGoesOn l.coords l.order (to_z w32 l.h) l.n l.p
+invariant-loop-p l = RiseGoesOn l.coords l.order l.h l.n l.p
 
 abbrev pub decreases-loop-p : goal.decreases-loop-p
 decreases-loop-p l = l.vertices - l.p

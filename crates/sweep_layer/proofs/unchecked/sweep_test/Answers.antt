@@ -31,23 +31,22 @@ second start = wrong_ring (sweepOf start) ∷ not_above start.args.coords.now st
 
 -- what 8 and 10 establish
 placed : (c : In_default)
-    → 
-    Placed (sweepOf FIXME[c as Start]).ordered c.args.n
+    →
+    Placed (sweepOf c.before.before.before.before.before.before.before).ordered c.args.n
 placed c =
-    
-    placed_of (sweepOf FIXME[c as Start]).ordered c.args.n c.requires c.state_test-a.ensures.told (ap tell_verdict c.in_default.is)
+    placed_of (sweepOf c.before.before.before.before.before.before.before).ordered c.args.n c.requires c.state_test-a.ensures.told (ap tell_verdict c.in_default.is)
 
 pub returns-in-Refused : goal.returns-in-Refused
 returns-in-Refused c = record { told = join_stop (first (goal.at.returns-in-Refused c).Start) (second (goal.at.returns-in-Refused c).Start) c.state_test-a.ensures.told (ap tell_verdict c.in-Refused.is) }
 
 pub one_sweep_test-b-requires : goal.one_sweep_test-b-requires
-one_sweep_test-b-requires c = placed (goal.at.one_sweep_test-b-requires c).In_default
+one_sweep_test-b-requires c = placed c
 
 pub returns-in-Refused-b : goal.returns-in-Refused-b
 returns-in-Refused-b c = record {
-      told = join_next (first (goal.at.returns-in-Refused-b c).Start) (second (goal.at.returns-in-Refused-b c).Start) c.state_test-a.ensures.told (ap tell_verdict c.in_default.is)
-    (verdict_stop _ _ c.one_sweep_test-b.ensures.told (ap tell_verdict c.in-Refused-b.is));
-    }
+  told = join_next (first (goal.at.returns-in-Refused-b c).Start) (second (goal.at.returns-in-Refused-b c).Start) c.state_test-a.ensures.told (ap tell_verdict c.in_default.is)
+      (verdict_stop _ _ c.one_sweep_test-b.ensures.told (ap tell_verdict c.in-Refused-b.is));
+}
 
 pub one_sweep_test-requires : goal.one_sweep_test-requires
 one_sweep_test-requires c =
@@ -56,8 +55,8 @@ one_sweep_test-requires c =
 
 pub returns : goal.returns
 returns c = record {
-      told = join_next (first (goal.at.returns c).Start) (second (goal.at.returns c).Start) c.state_test-a.ensures.told (ap tell_verdict c.in_default.is)
-    (verdict_next _ _ c.one_sweep_test-b.ensures.told (ap tell_verdict c.in_default-b.is)
-    (c.one_sweep_test.ensures.told ∙ ap (λ (z : ℤ). test (sweep_condition Height (sweepOf (goal.at.returns c).Start) z)) (to_z-of_z w32 c.args.h c.ranges.h)
-    ∙ verdict_one _));
-    }
+  told = join_next (first (goal.at.returns c).Start) (second (goal.at.returns c).Start) c.state_test-a.ensures.told (ap tell_verdict c.in_default.is)
+      (verdict_next _ _ c.one_sweep_test-b.ensures.told (ap tell_verdict c.in_default-b.is)
+      (c.one_sweep_test.ensures.told ∙ ap (λ (z : ℤ). test (sweep_condition Height (sweepOf (goal.at.returns c).Start) z)) (to_z-of_z w32 c.args.h c.ranges.h)
+      ∙ verdict_one _));
+}
