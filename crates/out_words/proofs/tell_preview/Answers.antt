@@ -10,10 +10,9 @@ use Rattle.out_words.proofs.tell_preview.Goals as goal
 pub returns-in-Call : goal.returns-in-Call
 returns-in-Call c =
     let is = c.in-Call.is in
-    let xy = c.args.xy.now in
-    let told = (c.tell_call.ensures.outcome, c.tell_call.ensures.left) in record {
-      outcome = says_as (ap tell_preview (sym is)) told.0;
-      left = told.1 ∙ ap (λ (k : PreviewAnswer). xy_after (tell_preview k) xy) (sym is);
+    let xy = c.args.xy.now in record {
+      outcome = says_as (ap tell_preview (sym is)) c.tell_call.ensures.outcome;
+      left = c.tell_call.ensures.left ∙ ap (λ (k : PreviewAnswer). xy_after (tell_preview k) xy) (sym is);
     }
 
 pub returns-in-Past : goal.returns-in-Past

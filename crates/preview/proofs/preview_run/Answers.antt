@@ -23,8 +23,7 @@ pub returns : goal.returns
 unfolding unless_refused
 returns c =
     let calls = calls_of c.args.origin (flat c.args.points.now c.args.ends.now) in
-    let u = call_tables c.args.kinds.now c.args.floats.now in
-    let filled = (c.fill_calls.ensures.value, c.fill_calls.ensures.left) in record {
-      outcome = does_give c.preview_test-v.ensures.told (ap tell_verdict c.in_default.is) (ap gives filled.0)
-          (filled.1 ∙ ap (λ (n : ℕ). filled_with (take n (drop c.args.number calls)) u) filled.0);
+    let u = call_tables c.args.kinds.now c.args.floats.now in record {
+      outcome = does_give c.preview_test-v.ensures.told (ap tell_verdict c.in_default.is) (ap gives c.fill_calls.ensures.value)
+          (c.fill_calls.ensures.left ∙ ap (λ (n : ℕ). filled_with (take n (drop c.args.number calls)) u) c.fill_calls.ensures.value);
     }

@@ -58,13 +58,13 @@ module _ (c : In-Found) where
   layer_held = searched_found (profile c.before.before.before.before) _ (count c.before.before.before.before) _ (sought c.before.before.before c.in-Found.is)
 
 pub returns-then-read_layer_room_for : goal.returns-then-read_layer_room_for
-returns-then-read_layer_room_for c = record { result = ready (profile (at_count (goal.at.returns-then-read_layer_room_for c).In-Found)) _ (layer_held (goal.at.returns-then-read_layer_room_for c).In-Found) (sym c.read_layer_room_for.ensures.value ∙ c.if-read_layer_room_for.true) }
+returns-then-read_layer_room_for c = record { result = ready (profile (goal.at.returns-then-read_layer_room_for c).In-Value) _ (layer_held (goal.at.returns-then-read_layer_room_for c).In-Found) (sym c.read_layer_room_for.ensures.value ∙ c.if-read_layer_room_for.true) }
 
 pub refusal_at-requires : goal.refusal_at-requires
 refusal_at-requires c = (took (count (goal.at.refusal_at-requires c).In-Value)).inside
 
 pub returns-else-read_layer_room_for : goal.returns-else-read_layer_room_for
-returns-else-read_layer_room_for c = record { result = refused_short (profile (at_count (goal.at.returns-else-read_layer_room_for c).In-Found)) _ (layer_held (goal.at.returns-else-read_layer_room_for c).In-Found) (sym c.read_layer_room_for.ensures.value ∙ c.if-read_layer_room_for.false) }
+returns-else-read_layer_room_for c = record { result = refused_short (profile (goal.at.returns-else-read_layer_room_for c).In-Value) _ (layer_held (goal.at.returns-else-read_layer_room_for c).In-Found) (sym c.read_layer_room_for.ensures.value ∙ c.if-read_layer_room_for.false) }
 
 pub returns-in-Missing : goal.returns-in-Missing
 returns-in-Missing c =
@@ -72,5 +72,5 @@ returns-in-Missing c =
 
 pub returns-in-Broken : goal.returns-in-Broken
 returns-in-Broken c =
-    let i = (entry (goal.at.returns-in-Broken c).In-Value).args.i in
+    let i = c.args.i in
     let h = searched_broken (profile (goal.at.returns-in-Broken c).In-Value) _ (count (goal.at.returns-in-Broken c).In-Value) i (sought (goal.at.returns-in-Broken c).After-find_layer-s c.in-Broken.is) in record { result = refused_broken (profile (goal.at.returns-in-Broken c).In-Value) _ (count (goal.at.returns-in-Broken c).In-Value) i _ h ∙ ap (λ (r : Refusal). refuses (told_of r)) (sym c.refusal_at.ensures.value) }

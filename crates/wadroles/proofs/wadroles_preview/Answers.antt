@@ -11,10 +11,9 @@ use Rattle.wadroles.proofs.wadroles_preview.Goals as goal
 
 pub returns : goal.returns
 returns c =
-    let xy = c.args.xy.now in
-    let told = (c.tell_preview.ensures.outcome, c.tell_preview.ensures.left) in record {
+    let xy = c.args.xy.now in record {
       outcome = record {
-        exports = exports_told c.preview-a.ensures.outcome told.0;
-        writes = told.1 ∙ ap (λ (a : Answer Told (Option PathCall)). xy_after a xy) c.preview-a.ensures.outcome.answers;
+        exports = exports_told c.preview-a.ensures.outcome c.tell_preview.ensures.outcome;
+        writes = c.tell_preview.ensures.left ∙ ap (λ (a : Answer Told (Option PathCall)). xy_after a xy) c.preview-a.ensures.outcome.answers;
       };
     }

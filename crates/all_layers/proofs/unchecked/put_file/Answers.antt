@@ -10,6 +10,3 @@ put_layers-requires c = record {
   fact_1 = tested_held (to_z-of_z w32 c.args.low c.ranges.low) c.requires;
   fact_2 = c.requires.listed.few;
 }
-
-pub returns : goal.returns
-returns c = let given = search rules in record { outcome = given.0; work = given.1 }

@@ -42,9 +42,8 @@ begin-requires c =
 
 pub returns : goal.returns
 returns c =
-    let e = to_z-of_z w32 c.args.low c.ranges.low in
-    let measured = (c.layers_length-n.ensures.value, c.layers_length-n.ensures.work) in record {
-      value = not_short measured.0 c.if-room-n.false;
-      work = works_more measured.1 (works_begun c.begin.ensures.spent);
+    let e = to_z-of_z w32 c.args.low c.ranges.low in record {
+      value = not_short c.layers_length-n.ensures.value c.if-room-n.false;
+      work = works_more c.layers_length-n.ensures.work (works_begun c.begin.ensures.spent);
       outcome = (λ q. sweeping_held (sym e) c.begin.ensures.lists);
     }

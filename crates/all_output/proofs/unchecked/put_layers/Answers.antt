@@ -29,27 +29,24 @@ longest-bound-requires c =
 pub is_short-short-requires : goal.is_short-short-requires
 is_short-short-requires c =
     let t = tested_held (to_z-of_z w32 c.args.low c.ranges.low) c.requires.fact_1 in
-    let begun = (c.begin-crossings.ensures.lists, c.begin-crossings.ensures.spent, c.begin-crossings.ensures.total) in
-    let bound = file_bound c.args.profile _ t.right t.listed begun.1.1 c.longest-bound.ensures.value in record {
-      fact_1 = tested_more t (works_begun begun.1.0);
-      fact_2 = begun.0;
+    let bound = file_bound c.args.profile _ t.right t.listed c.begin-crossings.ensures.total c.longest-bound.ensures.value in record {
+      fact_1 = tested_more t (works_begun c.begin-crossings.ensures.spent);
+      fact_2 = c.begin-crossings.ensures.lists;
       fact_3 = bound;
     }
 
 pub returns-then-short : goal.returns-then-short
-returns-then-short c =
-    let tested = (c.is_short-short.ensures.value, c.is_short-short.ensures.work, c.is_short-short.ensures.outcome) in record {
-      outcome = puts_short _ _ (sym tested.0 ∙ c.if-short.true);
-      work = works_more (works_begun c.begin-crossings.ensures.spent) tested.1.0;
-    }
+returns-then-short c = record {
+  outcome = puts_short _ _ (sym c.is_short-short.ensures.value ∙ c.if-short.true);
+  work = works_more (works_begun c.begin-crossings.ensures.spent) c.is_short-short.ensures.work;
+}
 
 pub write_layers-n-requires : goal.write_layers-n-requires
 write_layers-n-requires c =
-    let t = tested_held (to_z-of_z w32 c.args.low c.ranges.low) c.requires.fact_1 in
-    let tested = (c.is_short-short.ensures.value, c.is_short-short.ensures.work, c.is_short-short.ensures.outcome) in record {
-      fact_1 = tested_more t (works_more (works_begun c.begin-crossings.ensures.spent) tested.1.0);
-      fact_2 = tested.1.1 c.if-short.false;
-      fact_3 = ltb-false _ _ (sym tested.0 ∙ c.if-short.false);
+    let t = tested_held (to_z-of_z w32 c.args.low c.ranges.low) c.requires.fact_1 in record {
+      fact_1 = tested_more t (works_more (works_begun c.begin-crossings.ensures.spent) c.is_short-short.ensures.work);
+      fact_2 = c.is_short-short.ensures.outcome c.if-short.false;
+      fact_3 = ltb-false _ _ (sym c.is_short-short.ensures.value ∙ c.if-short.false);
     }
 
 pub shape_of-marks : goal.shape_of-marks
@@ -67,9 +64,7 @@ shape_of-heads c =
     c.is_short-short.auto.1.1.1.1.1.1.1.1.1.1.1.1.0 ∙ c.begin-crossings.auto.1.1.1.1.1.1.1.0
 
 pub returns : goal.returns
-returns c =
-    let tested = (c.is_short-short.ensures.value, c.is_short-short.ensures.work, c.is_short-short.ensures.outcome) in
-    let written = (c.write_layers-n.ensures.value, c.write_layers-n.ensures.output_left, c.write_layers-n.ensures.work) in record {
-      outcome = puts_whole _ _ (sym tested.0 ∙ c.if-short.false) written.0 written.1.0;
-      work = works_more (works_more (works_begun c.begin-crossings.ensures.spent) tested.1.0) written.1.1;
-    }
+returns c = record {
+  outcome = puts_whole _ _ (sym c.is_short-short.ensures.value ∙ c.if-short.false) c.write_layers-n.ensures.value c.write_layers-n.ensures.output_left;
+  work = works_more (works_more (works_begun c.begin-crossings.ensures.spent) c.is_short-short.ensures.work) c.write_layers-n.ensures.work;
+}

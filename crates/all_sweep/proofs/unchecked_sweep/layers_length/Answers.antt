@@ -69,11 +69,10 @@ loop-k-smaller c =
 pub loop-k-preserved : goal.loop-k-preserved
 loop-k-preserved c =
     let inv = c.loop-k.invariant in
-    let ready = tested (goal.at.loop-k-preserved c).Start in
-    let done = (c.next_layer-s.ensures.layer, c.next_layer-s.ensures.work, c.next_layer-s.ensures.lists) in (
+    let ready = tested (goal.at.loop-k-preserved c).Start in (
       measured_next _ _ ready.listed ready.right inv.0 c.loop-k-test.true c.taken_height-h.type_inv c.taken_height-h.ensures.value
-          done.0 c.layer_length-total.ensures.value,
-      (works_more inv.1.0 done.1.0, done.1.1),
+          c.next_layer-s.ensures.layer c.layer_length-total.ensures.value,
+      (works_more inv.1.0 c.next_layer-s.ensures.work, c.next_layer-s.ensures.lists),
     )
 
 pub shape_of-names : goal.shape_of-names

@@ -64,11 +64,10 @@ returns c =
     let start = start_of (goal.at.returns c).After-slice_known-3-1 in
     let points = start.args.points.now in
     let long = start.pre.1.0 in
-    let o = (c.outline_crossings-f.ensures.outcome, c.outline_crossings-f.ensures.marked) in
     let written = c.put_points.ensures.left in
     let list = c.advance-a.ensures.outcome in
-    let left = level_brought v points long o.0 written start.args.profile c.bring_into-contours.ensures.outcome in record {
-      layer = level_holds v points long o.0 written list o.1 left;
-      work = level_works v points long o.0 written list o.1 left;
-      lists = level_sweeps v points long o.0 written list o.1 left;
+    let left = level_brought v points long c.outline_crossings-f.ensures.outcome written start.args.profile c.bring_into-contours.ensures.outcome in record {
+      layer = level_holds v points long c.outline_crossings-f.ensures.outcome written list c.outline_crossings-f.ensures.marked left;
+      work = level_works v points long c.outline_crossings-f.ensures.outcome written list c.outline_crossings-f.ensures.marked left;
+      lists = level_sweeps v points long c.outline_crossings-f.ensures.outcome written list c.outline_crossings-f.ensures.marked left;
     }

@@ -45,13 +45,13 @@ overflow_add-sum c = let t = c.trapezoid in sum_ok c.requires.0 t.result t.type_
 
 pub returns-then-s : goal.returns-then-s
 returns-then-s c =
-    let s = (entry (goal.at.returns-then-s c).After-trapezoid).args.s in record {
-      value = simp (narrow_is s.x (entry (goal.at.returns-then-s c).After-trapezoid).requires.0.near.0, narrow_is s.y (entry (goal.at.returns-then-s c).After-trapezoid).requires.0.near.1)
-          (point_later s (prior (entry (goal.at.returns-then-s c).After-trapezoid)) (next (entry (goal.at.returns-then-s c).After-trapezoid)) (sum_told (goal.at.returns-then-s c).After-trapezoid) c.if-s.true);
+    let s = c.args.s in record {
+      value = simp (narrow_is s.x c.requires.0.near.0, narrow_is s.y c.requires.0.near.1)
+          (point_later s (prior (goal.at.returns-then-s c).Start) (next (goal.at.returns-then-s c).Start) (sum_told (goal.at.returns-then-s c).After-trapezoid) c.if-s.true);
     }
 
 pub returns : goal.returns
 returns c = record {
-  value = simp (narrow_is (entry (goal.at.returns c).After-trapezoid).args.x (entry (goal.at.returns c).After-trapezoid).requires.2.0, narrow_is (entry (goal.at.returns c).After-trapezoid).args.y (entry (goal.at.returns c).After-trapezoid).requires.2.1)
-      (point_first (entry (goal.at.returns c).After-trapezoid).args.s (prior (entry (goal.at.returns c).After-trapezoid)) (next (entry (goal.at.returns c).After-trapezoid)) (sum_told (goal.at.returns c).After-trapezoid) c.if-s.false);
+  value = simp (narrow_is c.args.x c.requires.2.0, narrow_is c.args.y c.requires.2.1)
+      (point_first c.args.s (prior (goal.at.returns c).Start) (next (goal.at.returns c).Start) (sum_told (goal.at.returns c).After-trapezoid) c.if-s.false);
 }

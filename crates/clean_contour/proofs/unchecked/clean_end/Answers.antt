@@ -4,9 +4,6 @@ use Rattle.clean_contour.proofs.Contours.{end_dropped, kept_some, end_kept}
 use borrow.Author.Rules.{rules}
 use Rattle.clean_contour.proofs.unchecked.clean_end.Goals as goal
 
-pub is_kept-requires : goal.is_kept-requires
-is_kept-requires c = let given = search rules in record { fact_1 = given.0; fact_2 = given.1 }
-
 pub returns-then-not-is_kept : goal.returns-then-not-is_kept
 returns-then-not-is_kept c = record { found = end_dropped _ _ _ c.requires.fact_1 c.requires.fact_2 c.is_kept.ensures.value (not-true _ c.if-not-is_kept.true-raw) }
 

@@ -3,14 +3,8 @@ use Rattle.clean_contour.proofs.Contours.{contour_dropped, contour_stands}
 use borrow.Author.Rules.{rules}
 use Rattle.clean_contour.proofs.unchecked.copy_contour.Goals as goal
 
-pub clean_end-last-requires : goal.clean_end-last-requires
-clean_end-last-requires c = let given = search rules in record { fact_1 = given.0; fact_2 = given.1 }
-
 pub returns-then-last-from : goal.returns-then-last-from
 returns-then-last-from c = record { outcome = contour_dropped c.clean_end-last.ensures.found c.if-last-from.true }
-
-pub copy_run-requires : goal.copy_run-requires
-copy_run-requires c = let given = search rules in record { fact_1 = given.0; fact_2 = given.1 }
 
 pub returns : goal.returns
 returns c = record { outcome = contour_stands c.clean_end-last.ensures.found c.copy_run.ensures.outcome }

@@ -7,14 +7,8 @@ use Rattle.clean_contour.proofs.unchecked.is_kept.Goals as goal
 pub returns-then-from-end : goal.returns-then-from-end
 returns-then-from-end c = record { value = kept_none _ _ _ c.requires.fact_1 c.if-from-end.true }
 
-pub first_other-second-requires : goal.first_other-second-requires
-first_other-second-requires c = let given = search rules in record { fact_1 = given.0; fact_2 = given.1 }
-
 pub returns-then-second-end : goal.returns-then-second-end
 returns-then-second-end c = record { value = kept_one _ _ _ c.requires.fact_1 (omega (arith, c.if-from-end.false)) c.first_other-second.ensures.found c.if-second-end.true }
-
-pub first_other-third-requires : goal.first_other-third-requires
-first_other-third-requires c = let given = search rules in record { fact_1 = given.0; fact_2 = given.1 }
 
 pub returns : goal.returns
 returns c = record {

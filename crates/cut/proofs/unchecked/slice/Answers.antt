@@ -11,9 +11,6 @@ use Rattle.cut.proofs.Slicing.{held}
 use borrow.Author.Rules.{rules}
 use Rattle.cut.proofs.unchecked.slice.Goals as goal
 
-pub link_at-requires : goal.link_at-requires
-link_at-requires c = let given = search rules in record { fact_1 = given.0; fact_2 = given.1.0; fact_3 = given.1.1 }
-
 pub outline_rings-requires : goal.outline_rings-requires
 outline_rings-requires c =
     let m = paired c.args.coords.now c.args.corners.now c.args.pairing.now in record {

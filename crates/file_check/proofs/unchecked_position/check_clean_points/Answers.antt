@@ -47,7 +47,7 @@ read_coordinate-b-requires c = c.loop-left.invariant.y_in
 
 pub returns-in_default-b : goal.returns-in_default-b
 returns-in_default-b c = record {
-  value = no_y (at-loop (goal.at.returns-in_default-b c).In-At).loop.invariant (at_test (goal.at.returns-in_default-b c).In-At).loop-test.true (first (goal.at.returns-in_default-b c).In-At)
+  value = no_y c.loop-left.invariant c.loop-left-test.true (first (goal.at.returns-in_default-b c).In-At)
       (sym c.read_coordinate-b.ensures.value ∙ c.in_default-b.is);
 }
 
@@ -70,14 +70,13 @@ module _ (c : In-At-b) where
 
 pub sum_point-area-requires : goal.sum_point-area-requires
 sum_point-area-requires c =
-    let w = (at-loop (at_told (goal.at.sum_point-area-requires c).In-At-b)).loop.inv in
-    search (rules, sum_small w, w.x_in, w.y_in, bits_near (nx (at_told (goal.at.sum_point-area-requires c).In-At-b)) (nx-in (at_told (goal.at.sum_point-area-requires c).In-At-b)), bits_near (ny (goal.at.sum_point-area-requires c).In-At-b) (ny-in (goal.at.sum_point-area-requires c).In-At-b))
+    let w = c.loop-left.invariant in
+    search (rules, sum_small w, w.x_in, w.y_in, bits_near (nx (goal.at.sum_point-area-requires c).In-At) (nx-in (goal.at.sum_point-area-requires c).In-At), bits_near (ny (goal.at.sum_point-area-requires c).In-At-b) (ny-in (goal.at.sum_point-area-requires c).In-At-b))
 
 pub loop-left-preserved : goal.loop-left-preserved
 loop-left-preserved c =
-    let q = at_told (goal.at.loop-left-preserved c).In-At-b in
     simp (x_is (goal.at.loop-left-preserved c).In-At-b, y_is (goal.at.loop-left-preserved c).In-At-b)
-    (next_point_lem (at-loop q).loop.inv (at_test q).loop-test.taken (first q) (second (goal.at.loop-left-preserved c).In-At-b) (simp (x_is (goal.at.loop-left-preserved c).In-At-b, y_is (goal.at.loop-left-preserved c).In-At-b) at c.see-seen.ensures.value)
+    (next_point_lem c.loop-left.invariant c.loop-left-test.true (first (goal.at.loop-left-preserved c).In-At) (second (goal.at.loop-left-preserved c).In-At-b) (simp (x_is (goal.at.loop-left-preserved c).In-At-b, y_is (goal.at.loop-left-preserved c).In-At-b) at c.see-seen.ensures.value)
     (simp (x_is (goal.at.loop-left-preserved c).In-At-b, y_is (goal.at.loop-left-preserved c).In-At-b) at c.sum_point-area.ensures.value))
 
 pub sum_closed-requires : goal.sum_closed-requires

@@ -48,7 +48,7 @@ read_coordinate-b-requires c = c.loop-left.invariant.y_in
 
 pub returns-in_default-b : goal.returns-in_default-b
 returns-in_default-b c = record {
-  value = no_y (at-loop (goal.at.returns-in_default-b c).In-At).loop.invariant (at_test (goal.at.returns-in_default-b c).In-At).loop-test.true (first (goal.at.returns-in_default-b c).In-At)
+  value = no_y c.loop-left.invariant c.loop-left-test.true (first (goal.at.returns-in_default-b c).In-At)
       (sym c.read_coordinate-b.ensures.value ∙ c.in_default-b.is);
 }
 
@@ -71,14 +71,13 @@ module _ (c : In-At-b) where
 
 pub sum_point-sum-requires : goal.sum_point-sum-requires
 sum_point-sum-requires c =
-    let w = (at-loop (at_told c)).loop.inv in
-    search (rules, sum_small w, w.x_in, w.y_in, bits_near (nx (at_told c)) (nx-in (at_told c)), bits_near (ny c) (ny-in c))
+    let w = c.loop-left.invariant in
+    search (rules, sum_small w, w.x_in, w.y_in, bits_near (nx (goal.at.sum_point-sum-requires c).In-At) (nx-in (goal.at.sum_point-sum-requires c).In-At), bits_near (ny c) (ny-in c))
 
 pub loop-left-preserved : goal.loop-left-preserved
 loop-left-preserved c =
-    let q = at_told (goal.at.loop-left-preserved c).In-At-b in
     simp (x_is (goal.at.loop-left-preserved c).In-At-b, y_is (goal.at.loop-left-preserved c).In-At-b)
-    (next_point_lem (at-loop q).loop.inv (at_test q).loop-test.taken (first q) (second (goal.at.loop-left-preserved c).In-At-b) refl (simp (x_is (goal.at.loop-left-preserved c).In-At-b, y_is (goal.at.loop-left-preserved c).In-At-b) at c.sum_point-sum.ensures.value))
+    (next_point_lem c.loop-left.invariant c.loop-left-test.true (first (goal.at.loop-left-preserved c).In-At) (second (goal.at.loop-left-preserved c).In-At-b) refl (simp (x_is (goal.at.loop-left-preserved c).In-At-b, y_is (goal.at.loop-left-preserved c).In-At-b) at c.sum_point-sum.ensures.value))
 
 pub sum_closed-requires : goal.sum_closed-requires
 sum_closed-requires c =

@@ -33,9 +33,9 @@ check_counted-c-requires c = height_in c.args.profile _ _ _ c.requires (height c
 
 pub returns-in-End : goal.returns-in-End
 returns-in-End c = record {
-  value = contours_pass _ _ _ _ (start (goal.at.returns-in-End c).In-Above).requires (height (goal.at.returns-in-End c).In-Above) (sym c.check_counted-c.ensures.value ∙ c.in-End.is)
+  value = contours_pass _ _ _ _ c.requires (height (goal.at.returns-in-End c).In-Above) (sym c.check_counted-c.ensures.value ∙ c.in-End.is)
       (same w64 c.in-Above.z (omega arith)) (same w64 c.in-End.sum (omega arith));
 }
 
 pub returns-in-Refused : goal.returns-in-Refused
-returns-in-Refused c = record { value = contours_stop _ _ _ _ (start (goal.at.returns-in-Refused c).In-Above).requires (height (goal.at.returns-in-Refused c).In-Above) (sym c.check_counted-c.ensures.value ∙ c.in-Refused.is) }
+returns-in-Refused c = record { value = contours_stop _ _ _ _ c.requires (height (goal.at.returns-in-Refused c).In-Above) (sym c.check_counted-c.ensures.value ∙ c.in-Refused.is) }

@@ -56,7 +56,7 @@ returns-then-z-gt-LARGEST_COORDINATE_64 c = record { value = far _ _ _ (read (go
 -- the coordinate is in the range
 within : (c : Else-z-gt-LARGEST_COORDINATE_64)
     →
-    nat_abs ((start c.before.before).args.before +ℤ unzigzag (m c.before.before)) ≤ largest
+    nat_abs (c.args.before +ℤ unzigzag (m c.before.before)) ≤ largest
 within c =
     coordinate_in_range _
     (lt_false (z c.before.before) (lit (negsuc 1048575) tt) c.if-z-lt-LEAST_COORDINATE_64.false)

@@ -21,9 +21,6 @@ fits : (c : After-sum_areas-a) (j k : ℕ) → j < 2 ^ 64 → k < 2 ^ 64
 fits c j k ej ek =
     line_fits c.args.h j k c.sum_areas-a.result c.ranges.h ej ek c.sum_areas-a.type_inv
 
-pub slice-s-requires : goal.slice-s-requires
-slice-s-requires c = let given = search rules in record { fact_1 = given.0; fact_2 = given.1 }
-
 pub sum_areas-a-requires : goal.sum_areas-a-requires
 sum_areas-a-requires c =
     sums c.requires.fact_1 c.requires.fact_2.few c.slice-s.ensures.outcome c.in-Layer.is

@@ -47,9 +47,6 @@ slice_bounds-list_part-end-in-Counts-4 c = (read (goal.at.slice_bounds-list_part
 pub slice_bounds-list_part-end-in-Counts-5 : goal.slice_bounds-list_part-end-in-Counts-5
 slice_bounds-list_part-end-in-Counts-5 c = front_length _ _ (read (goal.at.slice_bounds-list_part-end-in-Counts-5 c).After-slice_known-8-1).heights_there
 
-pub list_part-requires : goal.list_part-requires
-list_part-requires c = let given = search rules in record { fact_1 = given.0; fact_2 = given.1 }
-
 pub returns-in-Counts : goal.returns-in-Counts
 returns-in-Counts c = record { outcome = put_part (read (goal.at.returns-in-Counts c).After-slice_known-8-1) c.list_part.ensures.outcome }
 

@@ -16,9 +16,6 @@ returns-then-pairing-c c = record { value = not_paired _ _ _ (λ p. omega (arith
 pub returns-then-corners-d : goal.returns-then-corners-d
 returns-then-corners-d c = record { value = not_paired _ _ _ (λ p. omega (arith, p.corner, c.if-corners-d.true, c.wide-d.ensures.value)) }
 
-pub is_reverse-requires : goal.is_reverse-requires
-is_reverse-requires c = let given = search rules in record { fact_1 = given.0; fact_2 = given.1 }
-
 pub returns-then-not-is_reverse : goal.returns-then-not-is_reverse
 returns-then-not-is_reverse c = record {
   value = not_paired _ _ _

@@ -16,6 +16,3 @@ pub meet_all-requires : goal.meet_all-requires
 meet_all-requires c =
     let extent = c.extent_of-e.ensures.value in
     (holder_of c.requires.0 c.requires.1 c.contour-c.ensures.value extent c.absolute_area-size.ensures.value, c.requires.2)
-
-pub returns : goal.returns
-returns c = record { left = search rules }

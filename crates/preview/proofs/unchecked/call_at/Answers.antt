@@ -65,14 +65,14 @@ bounds-points-l c = omega (arith, inside (goal.at.bounds-points-l c).Else-wide-i
 
 pub drawn_point-p-requires : goal.drawn_point-p-requires
 drawn_point-p-requires c =
-    let points = (start (goal.at.drawn_point-p-requires c).Else-wide-i).args.points.now in
-    (read_small (table_point points (point (goal.at.drawn_point-p-requires c).Else-wide-i)).x (small (goal.at.drawn_point-p-requires c).Else-wide-i).0, read_small (table_point points (point (goal.at.drawn_point-p-requires c).Else-wide-i)).y (small (goal.at.drawn_point-p-requires c).Else-wide-i).1, (passed (start (goal.at.drawn_point-p-requires c).Else-wide-i)).origin)
+    let points = c.args.points.now in
+    (read_small (table_point points (point (goal.at.drawn_point-p-requires c).Else-wide-i)).x (small (goal.at.drawn_point-p-requires c).Else-wide-i).0, read_small (table_point points (point (goal.at.drawn_point-p-requires c).Else-wide-i)).y (small (goal.at.drawn_point-p-requires c).Else-wide-i).1, (passed (goal.at.drawn_point-p-requires c).Start).origin)
 
 pub returns-then-prior_end-i : goal.returns-then-prior_end-i
 returns-then-prior_end-i c =
     let s = small (goal.at.returns-then-prior_end-i c).Else-wide-i in record {
       told = ap gives
-          (fetch_move (layer_of (start (goal.at.returns-then-prior_end-i c).Else-wide-i)) _ (passed (start (goal.at.returns-then-prior_end-i c).Else-wide-i)) _ _ (contour (goal.at.returns-then-prior_end-i c).Else-wide-i).contour-with.ensures (there (goal.at.returns-then-prior_end-i c).Else-wide-i) c.wide.ensures.value c.if-wide-i.false
+          (fetch_move (layer_of (goal.at.returns-then-prior_end-i c).Start) _ (passed (goal.at.returns-then-prior_end-i c).Start) _ _ c.contour_with-j.ensures.result (there (goal.at.returns-then-prior_end-i c).Else-wide-i) c.wide.ensures.value c.if-wide-i.false
           c.prior_end.ensures.value (read_is _ s.0) (read_is _ s.1) c.drawn_point-p.ensures.value c.if-prior_end-i.true);
     }
 
@@ -80,6 +80,6 @@ pub returns : goal.returns
 returns c =
     let s = small (goal.at.returns c).Else-wide-i in record {
       told = ap gives
-          (fetch_line (layer_of (start (goal.at.returns c).Else-wide-i)) _ (passed (start (goal.at.returns c).Else-wide-i)) _ _ (contour (goal.at.returns c).Else-wide-i).contour-with.ensures (there (goal.at.returns c).Else-wide-i) c.wide.ensures.value c.if-wide-i.false
+          (fetch_line (layer_of (goal.at.returns c).Start) _ (passed (goal.at.returns c).Start) _ _ c.contour_with-j.ensures.result (there (goal.at.returns c).Else-wide-i) c.wide.ensures.value c.if-wide-i.false
           c.prior_end.ensures.value (read_is _ s.0) (read_is _ s.1) c.drawn_point-p.ensures.value c.if-prior_end-i.false);
     }

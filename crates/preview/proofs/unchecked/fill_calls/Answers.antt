@@ -59,9 +59,8 @@ loop-n-smaller c =
 
 pub loop-n-preserved : goal.loop-n-preserved
 loop-n-preserved c =
-    let filled = (c.fill_contour-n.ensures.value, c.fill_contour-n.ensures.left) in
     running_next _ _ _ _ c.loop-n.invariant (passed (goal.at.loop-n-preserved c).Start) c.loop-n-test.true c.if-ends-j.false c.prior_end-s.ensures.value
-    c.wide-e.ensures.value refl filled.0 filled.1
+    c.wide-e.ensures.value refl c.fill_contour-n.ensures.value c.fill_contour-n.ensures.left
 
 pub shape_of-kinds : goal.shape_of-kinds
 shape_of-kinds c = (running_long _ _ _ _ c.loop-n.invariant).0

@@ -28,36 +28,33 @@ drawn_point-requires c =
 
 pub fill_rest-requires : goal.fill_rest-requires
 fill_rest-requires c =
-    let points = (start (goal.at.fill_rest-requires c).After-put_point).args.points.now in
-    let i = (start (goal.at.fill_rest-requires c).After-put_point).args.i in
-    let p = (start (goal.at.fill_rest-requires c).After-put_point).requires.1.0 in record {
-      fact_1 = moved_room (start (goal.at.fill_rest-requires c).After-put_point).requires.0 p (start (goal.at.fill_rest-requires c).After-put_point).requires.1.1.0 (start (goal.at.fill_rest-requires c).After-put_point).requires.1.1.1 (start (goal.at.fill_rest-requires c).After-put_point).requires.1.1.2 (at-if (goal.at.fill_rest-requires c).After-put_point).if1.true
+    let points = c.args.points.now in
+    let i = c.args.i in
+    let p = c.requires.fact_2 in record {
+      fact_1 = moved_room c.requires.fact_1 p c.requires.fact_3.0 c.requires.fact_3.1 c.requires.fact_3.2 c.if-i-s.true
           (read_is (get_or points (2 * i) (pos 0)) (p.small (2 * i) (omega (arith, there (goal.at.fill_rest-requires c).After-put_point))))
           (read_is (get_or points (2 * i + 1) (pos 0)) (p.small (2 * i + 1) (there (goal.at.fill_rest-requires c).After-put_point)))
           c.drawn_point.ensures.value c.put_point.ensures.left;
       fact_2 = p;
-      fact_3 = omega (arith, (start (goal.at.fill_rest-requires c).After-put_point).requires.1.1.0, (at-if (goal.at.fill_rest-requires c).After-put_point).if1.true);
+      fact_3 = omega (arith, c.requires.fact_3.0, c.if-i-s.true);
     }
 
 pub shape_of-kinds-then-i-s : goal.shape_of-kinds-then-i-s
 shape_of-kinds-then-i-s c =
-    c.kinds-1.given ∙ length-set (start (goal.at.shape_of-kinds-then-i-s c).After-put_point).args.kinds.now (start (goal.at.shape_of-kinds-then-i-s c).After-put_point).args.n 0
+    c.kinds-1.given ∙ length-set c.args.kinds.now c.args.n 0
 
 pub returns-then-i-s : goal.returns-then-i-s
 returns-then-i-s c =
-    let points = (start (goal.at.returns-then-i-s c).After-put_point).args.points.now in
-    let i = (start (goal.at.returns-then-i-s c).After-put_point).args.i in
-    let p = (start (goal.at.returns-then-i-s c).After-put_point).requires.1.0 in record {
-      value = moved_at (start (goal.at.returns-then-i-s c).After-put_point).requires.0 p (start (goal.at.returns-then-i-s c).After-put_point).requires.1.1.0 (start (goal.at.returns-then-i-s c).After-put_point).requires.1.1.1 (start (goal.at.returns-then-i-s c).After-put_point).requires.1.1.2 (at-if (goal.at.returns-then-i-s c).After-put_point).if1.true
+    let points = c.args.points.now in
+    let i = c.args.i in
+    let p = c.requires.fact_2 in record {
+      value = moved_at c.requires.fact_1 p c.requires.fact_3.0 c.requires.fact_3.1 c.requires.fact_3.2 c.if-i-s.true
           c.fill_rest.ensures.value;
-      left = moved_left (start (goal.at.returns-then-i-s c).After-put_point).requires.0 p (start (goal.at.returns-then-i-s c).After-put_point).requires.1.1.0 (start (goal.at.returns-then-i-s c).After-put_point).requires.1.1.1 (start (goal.at.returns-then-i-s c).After-put_point).requires.1.1.2 (at-if (goal.at.returns-then-i-s c).After-put_point).if1.true
+      left = moved_left c.requires.fact_1 p c.requires.fact_3.0 c.requires.fact_3.1 c.requires.fact_3.2 c.if-i-s.true
           (read_is (get_or points (2 * i) (pos 0)) (p.small (2 * i) (omega (arith, there (goal.at.returns-then-i-s c).After-put_point))))
           (read_is (get_or points (2 * i + 1) (pos 0)) (p.small (2 * i + 1) (there (goal.at.returns-then-i-s c).After-put_point)))
           c.drawn_point.ensures.value c.put_point.ensures.left c.fill_rest.ensures.left;
     }
-
-pub fill_rest-requires-2 : goal.fill_rest-requires-2
-fill_rest-requires-2 c = let given = search rules in record { fact_1 = given.0; fact_2 = given.1.0; fact_3 = given.1.1 }
 
 pub returns : goal.returns
 returns c = record {

@@ -28,6 +28,3 @@ overflow_mul-t c = omega (arith, (took (sym c.read_number-m.ensures.value ∙ c.
 pub find_tables-requires : goal.find_tables-requires
 find_tables-requires c =
     counts_stand _ (sym c.read_number-n.ensures.value ∙ c.in-Value.is) (sym c.read_number-m.ensures.value ∙ c.in-Value-m.is)
-
-pub returns : goal.returns
-returns c = record { result = search rules }

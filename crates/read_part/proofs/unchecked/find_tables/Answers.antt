@@ -13,9 +13,6 @@ pub find_heights-requires : goal.find_heights-requires
 find_heights-requires c =
     tabled _ c.requires (sym c.check_run-e.ensures.value ∙ c.in-End.is) (sym c.check_run-f.ensures.value ∙ c.in-End-f.is)
 
-pub returns-in-End-f : goal.returns-in-End-f
-returns-in-End-f c = record { result = search rules }
-
 pub returns-in-Refused-f : goal.returns-in-Refused-f
 unfolding Finds
 returns-in-Refused-f c = record {

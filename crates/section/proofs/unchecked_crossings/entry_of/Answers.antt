@@ -5,9 +5,6 @@ use Rattle.section.proofs.Turns.{passed_held, entry_none}
 use borrow.Author.Rules.{rules}
 use Rattle.section.proofs.unchecked_crossings.entry_of.Goals as goal
 
-pub is_rising-requires : goal.is_rising-requires
-is_rising-requires c = let given = search rules in record { fact_1 = given.0; fact_2 = given.1 }
-
 pub link_of-requires : goal.link_of-requires
 link_of-requires c = record {
   fact_1 = c.requires.fact_1;

@@ -28,15 +28,6 @@ seen c =
       r_is = c.starts_passed-r.ensures.value;
     }
 
-pub starts_passed-p-requires : goal.starts_passed-p-requires
-starts_passed-p-requires c = let given = search rules in record { fact_1 = given.0; fact_2 = given.1 }
-
-pub starts_passed-q-requires : goal.starts_passed-q-requires
-starts_passed-q-requires c = let given = search rules in record { fact_1 = given.0; fact_2 = given.1 }
-
-pub starts_passed-r-requires : goal.starts_passed-r-requires
-starts_passed-r-requires c = let given = search rules in record { fact_1 = given.0; fact_2 = given.1 }
-
 pub returns-then-is_level : goal.returns-then-is_level
 returns-then-is_level c =
     let level = c.is_level.ensures.sound c.if-is_level.true in record {

@@ -6,6 +6,3 @@ use Rattle.section.proofs.unchecked_crossings.put_three.Goals as goal
 
 pub bounds-t-c-2 : goal.bounds-t-c-2
 bounds-t-c-2 c = simp length-set (omega arith)
-
-pub returns : goal.returns
-returns c = record { left = search rules }

@@ -13,9 +13,6 @@ use Rattle.sweep.proofs.unchecked.is_wrong.Goals as goal
 pub returns-then-ring-c : goal.returns-then-ring-c
 returns-then-ring-c c = record { value = wrong_missing _ _ _ _ _ c.if-ring-c.true }
 
-pub entry_of-requires : goal.entry_of-requires
-entry_of-requires c = let given = search rules in record { fact_1 = given.0; fact_2 = given.1.0; fact_3 = given.1.1 }
-
 pub returns : goal.returns
 returns c =
     let ring = c.args.ring.now in

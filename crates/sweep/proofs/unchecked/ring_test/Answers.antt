@@ -23,9 +23,6 @@ height_behind-h-requires c = record {
 pub number_behind-k-requires : goal.number_behind-k-requires
 number_behind-k-requires c = placed_long c.requires
 
-pub first_wrong-c-requires : goal.first_wrong-c-requires
-first_wrong-c-requires c = let given = search rules in record { fact_1 = given.0; fact_2 = given.1 }
-
 pub returns-then-c-corners : goal.returns-then-c-corners
 returns-then-c-corners c = record {
   told = ring_refused (sweepOf (goal.at.returns-then-c-corners c).Start) c.requires (same w32 c.height_behind-h.result c.height_behind-h.type_inv ∙ c.height_behind-h.ensures.value)

@@ -33,12 +33,6 @@ never c =
     never_refused (sweepOf start) (height_of start) (tested start) start.args.marks.now at-link.link_at.ensures at_copy.copy-front.ensures
     at-outline.outline-rings.ensures c.s2.given.1
 
-pub risen_to-p-requires : goal.risen_to-p-requires
-risen_to-p-requires c = let given = search rules in record { fact_1 = given.0; fact_2 = given.1 }
-
-pub link_at-requires : goal.link_at-requires
-link_at-requires c = let given = search rules in record { fact_1 = given.0; fact_2 = given.1.0; fact_3 = given.1.1 }
-
 pub outline_rings-s-requires : goal.outline_rings-s-requires
 outline_rings-s-requires c =
     let marks = c.args.marks.now in record {
