@@ -1,5 +1,5 @@
 -- Laws of areas: cleaning changes no contour's, and one that it drops has area 0; so the sum of a layer's areas stays (CLEAN-12).
-use Rattle.std.specs.Prelude.{◌≡◌, refl, true, false, List, [], ◌∷◌, ◌⊎◌, ◌<◌, ℤ, pos, ◌+ℤ◌, ◌-ℤ◌, ◌*ℤ◌}
+use Rattle.std.specs.Prelude.{◌≡◌, refl, true, false, List, [], ◌∷◌, ◌⊎◌, ◌<◌, ℤ, pos, ◌+ℤ◌}
 use Rattle.std.proofs.Common.{sym, ap, ◌∙◌, inl, inr, ⊎_elim, leb-false}
 use Rattle.std.proofs.Math.IntN.{+ℤ_idl, +ℤ_idr}
 use Rattle.laws.specs.Ring.{ring, x, #, ◌⊕◌, ◌⊖◌, ◌⊗◌}

@@ -1,5 +1,5 @@
 -- Laws of cleaning: what it leaves is clean, what is clean it leaves as it is, and so twice is once (CLEAN-11).
-use Rattle.std.specs.Prelude.{◌≡◌, refl, Bool, true, false, not, cond, List, [], ◌∷◌, ◌⊎◌, ◌↔◌, leb}
+use Rattle.std.specs.Prelude.{◌≡◌, refl, Bool, true, false, not, cond, List, [], ◌∷◌, ◌↔◌, leb}
 use Rattle.std.proofs.Common.{sym, ap, ◌∙◌, subst, ⊎_elim, arith, leb-true}
 use Rattle.std.proofs.lemmas.Bool.{not-true}
 use Rattle.laws.specs.Booleans.{clash, is_false, same_test, and_parts, and_of, not_of}

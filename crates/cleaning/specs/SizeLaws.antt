@@ -1,5 +1,5 @@
 -- What cleaning leaves: points that were there, no more of them, and of each contour at least three.
-use Rattle.std.specs.Prelude.{◌≡◌, true, false, ◌⊎◌, suc, ◌≤◌, length}
+use Rattle.std.specs.Prelude.{◌≡◌, true, false, suc, ◌≤◌, length}
 use Rattle.std.proofs.Common.{sym, ap, arith, leb-true}
 use Rattle.std.proofs.Math.Path.{subst}
 use mathlib.Core.List.{List, [], ◌∷◌}

@@ -1,6 +1,6 @@
 -- Tests: a Bool that is both is absurd, and the parts of a conjunction and of a disjunction.
 use Rattle.std.specs.Prelude.{◌≡◌, refl, Bool, true, false, not, ◌&&◌, ◌||◌, ℕ, ◌<◌, ◌≤◌, ◌⊎◌, T, ltb, eqb}
-use Rattle.std.proofs.Common.{sym, ◌∙◌, true≢false, arith, inl, inr, ltb-true, ltb-false, eqb-true}
+use Rattle.std.proofs.Common.{sym, ◌∙◌, true≢false, inl, inr, ltb-true, ltb-false, eqb-true}
 use Rattle.std.proofs.lemmas.Bool.{eqb-false}
 
 pub clash : {b : Bool} → b ≡ true → b ≡ false → ⊥

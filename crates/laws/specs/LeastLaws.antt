@@ -1,5 +1,5 @@
 -- Laws of `least` and `some`: what they say of every place, and what a search in ascending order has found.
-use Rattle.std.specs.Prelude.{ℕ, zero, suc, ◌+◌, ◌≤◌, ◌<◌, ◌≡◌, refl, Bool, true, false, cond, ◌⊎◌}
+use Rattle.std.specs.Prelude.{ℕ, zero, suc, ◌+◌, ◌≤◌, ◌<◌, ◌≡◌, refl, Bool, true, false, cond}
 use Rattle.std.proofs.Common.{sym, ◌∙◌, ⊎_elim, arith, not-suc-le-zero, le_of_suc-le-suc, ltb-true, ltb-false, lt-ltb}
 use Rattle.laws.specs.Booleans.{clash, split_lt}
 use Rattle.laws.specs.Least.{least, some}

@@ -1,6 +1,6 @@
 -- A whole expression's difference of naturals, for `omega`:  P e - N e  over the  up  and  dn  of its variables alone.
 -- `le_by ρ e f (omega arith)` proves  eval ρ e ≤ℤ eval ρ f  from linear facts of those, and `le_of` reads such a fact. Assumes nothing.
-use Rattle.std.specs.Prelude.{◌≡◌, List, [], ℕ, ◌+◌, ◌*◌, ◌<◌, ◌≤◌, ℤ, nat_abs, ◌≤ℤ◌, ◌<ℤ◌}
+use Rattle.std.specs.Prelude.{◌≡◌, List, ℕ, ◌+◌, ◌*◌, ◌<◌, ◌≤◌, ℤ, nat_abs, ◌≤ℤ◌, ◌<ℤ◌}
 use Rattle.std.proofs.Common.{ap, arith}
 use Rattle.laws.specs.Integers.{up, dn, one_zero, abs_is, sum, diff, prod, up_neg, dn_neg, ext, le_in, lt_in, le_out, lt_out}
 use Rattle.laws.specs.Ring.{Ex, x, #, ⊝, ◌⊕◌, ◌⊖◌, ◌⊗◌, atom_at, eval}

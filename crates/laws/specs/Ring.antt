@@ -1,7 +1,7 @@
 -- Identities of a commutative ring over ℤ, decided: `ring ρ e f tt` proves  eval ρ e ≡ eval ρ f  where the polynomial of e - f, computed, has no term left.
 -- An expression is written with  x 0, x 1, ..  for the integers of the list ρ, and  ⊕ ⊖ ⊗ ⊝ #  for the operations and a literal.
 -- Assumes nothing.
-use Rattle.std.specs.Prelude.{◌≡◌, refl, Bool, true, false, cond, ◌&&◌, List, [], ◌∷◌, ℕ, zero, suc, ◌+◌, ◌*◌, T, ltb, leb, eqb, ℤ, pos, negsuc, neg_ℤ, ◌+ℤ◌, ◌-ℤ◌, ◌*ℤ◌}
+use Rattle.std.specs.Prelude.{◌≡◌, refl, Bool, true, false, cond, ◌&&◌, List, [], ◌∷◌, ℕ, zero, suc, T, ltb, leb, eqb, ℤ, pos, negsuc, neg_ℤ, ◌+ℤ◌, ◌-ℤ◌, ◌*ℤ◌}
 use Rattle.std.proofs.Common.{sym, ap, ◌∙◌, arith, eqb→eq}
 use Rattle.std.proofs.Math.IntN.{+ℤ_idl, +ℤ_idr, +ℤ_assoc, zero-*ℤ, *ℤ_comm, neg_ℤ-+ℤ}
 use Rattle.laws.specs.Integers.{diff, ext, eq_in, add_mul, mul_add, mul_assoc, mul_left_comm}

@@ -1,6 +1,6 @@
 -- Laws of `tabulate`, `overwrite` and `refill`: lengths, entries, one entry more, and equality by entries.
 use Prim.Native.Nat.{ℕ, zero, suc, ◌+◌, ◌-◌, ◌≤◌, ◌<◌}
-use Rattle.std.specs.Prelude.{◌≡◌, ◌⊎◌, take, replicate}
+use Rattle.std.specs.Prelude.{◌≡◌, take, replicate}
 use Rattle.std.proofs.Math.Path.{refl, sym, ap}
 use Rattle.std.proofs.Common.{◌∙◌, ⊎_elim, add-one, not-suc-le-zero, le_of_suc-le-suc, add-zero, length-append, length-drop, drop-cons, ext_get_or}
 use mathlib.Core.List.{List, [], ◌∷◌, ◌++◌, append-nil}

@@ -1,7 +1,7 @@
 -- What holds of every operation: it refuses exactly if a listed condition holds, the first in order, at its
 -- least place; it gives its values exactly if none does (RESULT-4); and the outcome that its contract allows
 -- is the only one (WRONG-1). Below them the laws by which a function that runs tests in order meets a verdict.
-use Rattle.std.specs.Prelude.{ℕ, zero, suc, ◌≤◌, ◌<◌, ◌≡◌, Bool, ◌↔◌, replicate}
+use Rattle.std.specs.Prelude.{ℕ, ◌≤◌, ◌<◌, ◌≡◌, Bool, ◌↔◌, replicate}
 use Rattle.std.proofs.Math.Path.{refl, sym, ap, subst}
 use Rattle.std.proofs.Common.{◌∙◌, arith, lt-ltb, le-ltb}
 use Rattle.std.proofs.Math.Bool.{true, false, cond}

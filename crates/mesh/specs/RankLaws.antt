@@ -8,7 +8,6 @@ use borrow.Author.Tests.{ltb-true, lt-ltb}
 use Rattle.std.proofs.Math.Dec.{ltb}
 use Rattle.std.specs.Int.Signed.{lt_z, lt_z_yes, lt_z_no}
 use Rattle.laws.specs.Booleans.{clash, is_true, is_false, from_T, split_lt}
-use Rattle.laws.specs.Count.{count}
 use Rattle.laws.specs.CountLaws.{count_lt, count_bound}
 use Rattle.laws.specs.Integers.{up, dn, le_in, lt_in, lt_out}
 use Rattle.mesh.specs.Corners.{vertex_count, z_of}

@@ -1,8 +1,8 @@
 -- Laws of a rising prefix: ranks rise with it, so where an entry's rank is its place, so is that of each in front of it.
-use Rattle.std.specs.Prelude.{ℕ, zero, suc, ◌+◌, ◌-◌, ◌≤◌, ◌<◌, ◌≡◌, true, List, get_or, ℤ}
+use Rattle.std.specs.Prelude.{ℕ, zero, suc, ◌+◌, ◌-◌, ◌≤◌, ◌<◌, ◌≡◌, List, get_or, ℤ}
 use Rattle.std.proofs.Common.{ap, arith}
 use Rattle.mesh.specs.Corners.{vertex_count}
-use Rattle.mesh.specs.Order.{before, rank, RisingPrefix}
+use Rattle.mesh.specs.Order.{rank, RisingPrefix}
 use Rattle.mesh.specs.RankLaws.{before_rank, rank_below}
 
 module _ (coords : List ℤ) (order : List ℕ) (m : ℕ) (prefix : RisingPrefix coords order m) where

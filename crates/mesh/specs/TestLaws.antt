@@ -1,17 +1,17 @@
 -- Laws of the tests: what the code's branches say of the conditions, and what passing them gives.
-use Rattle.std.specs.Prelude.{ℕ, zero, suc, ◌+◌, ◌*◌, ◌/◌, ◌%◌, ◌^◌, ◌<◌, ◌≤◌, ◌≡◌, refl, Bool, true, false, not, ◌&&◌, ◌||◌, List, [], ◌∷◌, ltb, leb, length, ℤ, nat_abs, ◌<ℤ◌, ◌≤ℤ◌}
+use Rattle.std.specs.Prelude.{ℕ, zero, suc, ◌+◌, ◌*◌, ◌/◌, ◌%◌, ◌^◌, ◌<◌, ◌≤◌, ◌≡◌, refl, Bool, true, false, not, List, ltb, leb, length, ℤ, nat_abs, ◌<ℤ◌, ◌≤ℤ◌}
 use Rattle.std.proofs.Math.Path.{sym, ap}
 use Rattle.std.proofs.Common.{◌∙◌, subst, arith, to_z, of_z}
-use borrow.Author.Tests.{ltb-true, ltb-false, leb-true, leb-false, eqb-true, eqb-false, lt-ltb, le-ltb, le-leb, lt-leb, eq-eqb, ne_eqb, not-true, not-false}
+use borrow.Author.Tests.{ltb-true, ltb-false, leb-true, leb-false, eqb-true, eqb-false, lt-ltb, le-leb, lt-leb, eq-eqb, ne_eqb}
 use Rattle.std.proofs.Math.Dec.{T, eqb}
 use Rattle.std.proofs.Math.ListN.{get_or}
 use Rattle.std.proofs.Math.IntN.{pos, negsuc}
 use Rattle.std.specs.Int.Signed.{lt_z, mag, lt_z_yes, lt_z_no}
 use mir.Syntax.{w32}
-use Rattle.laws.specs.Booleans.{clash, is_true, is_false, from_T, same_test, and_parts, and_of, or_parts}
-use Rattle.laws.specs.Integers.{up, dn, abs_is, one_zero, le_in, lt_in, lt_out}
+use Rattle.laws.specs.Booleans.{is_false, from_T, same_test, and_parts, and_of, or_parts}
+use Rattle.laws.specs.Integers.{abs_is, one_zero, le_in, lt_in, lt_out}
 use Rattle.laws.specs.Machine.{same}
-use Rattle.mesh.specs.Corners.{most_vertices, most_triangles, largest, vertex_count, triangle_count, next_corner, start_of, end_of}
+use Rattle.mesh.specs.Corners.{most_vertices, most_triangles, largest, triangle_count, next_corner, start_of, end_of}
 use Rattle.mesh.specs.Tests.{sizes_fit, WholeTriangles, out_of_range, names_none, names_twice, pair_of, reverse, paired_at, unpaired}
 pub use Rattle.mesh.specs.Tests.{Paired}
 

@@ -1,9 +1,9 @@
 -- The refusals that several operations share: 1, 2, 3 and 4
 -- (ANSWER-3, CHECK-5, CHECK-7 to CHECK-9), 7 (CUT-10) and 8 (STEP-7).
 use Rattle.std.specs.Prelude.{ℕ, ◌+◌, ◌*◌, ◌/◌, ◌%◌, ◌≤◌, ◌<◌, ◌≡◌, Bool, true, not, ◌&&◌, ◌||◌, List, [], ◌∷◌, ltb, leb, eqb, length, get_or, ℤ, pos, nat_abs}
-use Rattle.mesh.specs.Corners.{most_vertices, most_triangles, largest, vertex_count, triangle_count, next_corner, start_of, end_of, most_corners}
+use Rattle.mesh.specs.Corners.{most_vertices, most_triangles, largest, vertex_count, triangle_count, start_of, end_of, most_corners}
 use Rattle.mesh.specs.Order.{order_of}
-use Rattle.mesh.specs.Meshes.{Mesh, PairedMesh}
+use Rattle.mesh.specs.Meshes.{Mesh}
 use Rattle.mesh.specs.Operation.{Condition, whole}
 use Rattle.mesh.specs.Refusals.{Told, refusal}
 

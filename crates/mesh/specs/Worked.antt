@@ -1,5 +1,5 @@
 -- Worked values, by computation: a refusal that also tells a part of several, by the same conditions, verdict and laws.
-use Rattle.std.specs.Prelude.{ℕ, suc, ◌≡◌, refl, List, [], ◌∷◌, ◌↔◌, ℤ, pos}
+use Rattle.std.specs.Prelude.{ℕ, suc, ◌≡◌, refl, List, [], ◌∷◌, ◌↔◌, pos}
 use Rattle.laws.specs.Least.{least, some}
 use Rattle.mesh.specs.Corners.{largest}
 use Rattle.mesh.specs.Operation.{refuses, Condition, test, ◌then◌, verdict}

@@ -9,9 +9,8 @@ use borrow.Author.Tests.{le-leb, lt-leb, eq-eqb, ne_eqb}
 use lib.Dec.{eqb, leb}
 use lib.ListN.{length, get_or, drop, drop_of_length-le}
 use lib.Seq.{drop-cons}
-use lib.IntN.{ℤ}
 use Rattle.mesh.specs.Corners.{most_points}
-use Rattle.mesh.specs.Operation.{Finding, refuses, fine, test, verdict}
+use Rattle.mesh.specs.Operation.{Finding, refuses, test, verdict}
 use Rattle.mesh.specs.OperationLaws.{whole_refused, whole_fine, verdict_stop, verdict_next, verdict_one}
 use Rattle.mesh.specs.Refusals.{Told, refusal}
 use Rattle.mesh.specs.Tests.{range}

@@ -1,6 +1,6 @@
 -- Layers as data and their tables are the same thing: the contours of the tables of some contours are these contours; the tables of the contours of a layer's
 -- tables are these tables; and the test passes exactly the tables of contours of two points or more, not too many in all.
-use Prim.Native.Nat.{ℕ, zero, suc, ◌+◌, ◌-◌, ◌*◌, ◌/◌, ◌%◌, ◌≤◌, ◌<◌}
+use Prim.Native.Nat.{ℕ, zero, suc, ◌+◌, ◌-◌, ◌*◌, ◌≤◌, ◌<◌}
 use Rattle.std.specs.Prelude.{◌≡◌, true, not, ◌↔◌, get_or, take, leb, ℤ, pos, nat_abs}
 use Rattle.std.proofs.Math.Path.{refl, sym, ap}
 use Rattle.std.proofs.Common.{◌∙◌, subst, length-append, drop_of_length-le, take_at, drop_at, drop-drop}
@@ -17,7 +17,7 @@ use Rattle.mesh.specs.OperationLaws.{None, more, done, whole_fine, fine_nowhere,
 use Rattle.mesh.specs.Refusals.{refusal}
 use Rattle.mesh.specs.Tests.{out_of_range, range}
 pub use Rattle.polygons.specs.TestedLayers.{FlatTested, LayerTested}
-use Rattle.polygons.specs.Flat.{Point, no_point, PointNear, most_points, fewest_points, point_total, Each, Polygons, FlatLayer, flat, numbers_of, ends_from}
+use Rattle.polygons.specs.Flat.{Point, no_point, PointNear, fewest_points, point_total, Each, Polygons, FlatLayer, flat, numbers_of, ends_from}
 use Rattle.polygons.specs.Flat.{ends_of, flat_of}
 use Rattle.polygons.specs.Flat.{holding, layer_front, points_in, points_between, contours_in, polygons_of, end_before}
 use Rattle.polygons.specs.Flat.{run_fits, ends_rise, last_end, is_layer, not_layer, layer_tests}

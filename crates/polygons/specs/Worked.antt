@@ -1,5 +1,5 @@
 -- Worked values, by computation: the tables of part P at height 5, and tables that are none of a layer.
-use Rattle.std.specs.Prelude.{◌≡◌, refl, true, false, ℕ, ℤ, pos}
+use Rattle.std.specs.Prelude.{◌≡◌, refl, true, false, ℤ, pos}
 use mathlib.Core.List.{List, [], ◌∷◌, flatten}
 use Rattle.polygons.specs.Flat.{Point, flat, numbers_of, ends_from, flat_of, points_in, contours_in, polygons_of, run_fits, ends_rise, last_end, is_layer}
 

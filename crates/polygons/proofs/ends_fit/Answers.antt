@@ -1,9 +1,6 @@
 -- `ends_fit` meets its contract.
-use Prim.Native.Nat.{◌-◌}
 use native.Mathlib.Omega.{arith}
-use lib.ListN.{length}
-use borrow.Author.Rules.{rules}
-use Rattle.polygons.proofs.Testing.{EndsPassed, passed_start, passed_stop, passed_next, passed_end}
+use Rattle.polygons.proofs.Testing.{passed_start, passed_stop, passed_next, passed_end}
 use Rattle.polygons.proofs.ends_fit.Goals as goal
 
 pub loop-i-init : goal.loop-i-init

@@ -1,9 +1,7 @@
 -- `ends_fit` meets its contract.
 use Prim.Native.Nat.{◌-◌}
-use native.Mathlib.Omega.{arith}
 use lib.ListN.{length}
-use borrow.Author.Rules.{rules}
-use Rattle.polygons.proofs.Testing.{EndsPassed, passed_start, passed_stop, passed_next, passed_end}
+use Rattle.polygons.proofs.Testing.{EndsPassed}
 use Rattle.polygons.proofs.ends_fit.Given as goal
 
 abbrev pub invariant-loop-i : goal.invariant-loop-i

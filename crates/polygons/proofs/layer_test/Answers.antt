@@ -1,7 +1,6 @@
 -- `layer_test` meets its contract.
 use Rattle.polygons.specs.Flat.{FlatLayer, flat}
 use Rattle.polygons.proofs.Testing.{run_refused, ends_refused, layer_passed}
-use borrow.Author.Rules.{rules}
 use Rattle.polygons.proofs.layer_test.Goals as goal
 use Rattle.polygons.proofs.layer_test.Goals.{Start}
 

@@ -1,13 +1,9 @@
 -- `tests::all_in_range` meets its contract. The invariant: while fine, nothing out of range was passed.
-use mathlib.Core.Path.{◌≡◌, sym, ◌∙◌}
-use mathlib.Core.Bool.{true}
-use Prim.Native.Nat.{◌-◌, ◌≤◌}
+use mathlib.Core.Path.{sym, ◌∙◌}
 use native.Mathlib.Omega.{arith}
 use borrow.Author.Tests.{not-true}
-use lib.ListN.{length}
 use Rattle.laws.specs.Booleans.{and_parts}
-use Rattle.laws.specs.LeastLaws.{Scanned, scan_start, scan_miss}
-use Rattle.mesh.specs.Tests.{out_of_range}
+use Rattle.laws.specs.LeastLaws.{scan_start, scan_miss}
 use Rattle.mesh.proofs.tests.all_in_range.Goals as goal
 
 pub loop-i-init : goal.loop-i-init

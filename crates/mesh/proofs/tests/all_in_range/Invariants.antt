@@ -1,12 +1,9 @@
 -- `tests::all_in_range` meets its contract. The invariant: while fine, nothing out of range was passed.
-use mathlib.Core.Path.{◌≡◌, sym, ◌∙◌}
+use mathlib.Core.Path.{◌≡◌}
 use mathlib.Core.Bool.{true}
 use Prim.Native.Nat.{◌-◌, ◌≤◌}
-use native.Mathlib.Omega.{arith}
-use borrow.Author.Tests.{not-true}
 use lib.ListN.{length}
-use Rattle.laws.specs.Booleans.{and_parts}
-use Rattle.laws.specs.LeastLaws.{Scanned, scan_start, scan_miss}
+use Rattle.laws.specs.LeastLaws.{Scanned}
 use Rattle.mesh.specs.Tests.{out_of_range}
 use Rattle.mesh.proofs.tests.all_in_range.Given as goal
 

@@ -1,14 +1,9 @@
 -- `tests::all_named` meets its contract. The invariant: while fine, no corner that names no vertex was passed.
-use mathlib.Core.Path.{◌≡◌, refl}
-use mathlib.Core.Bool.{true}
-use Prim.Native.Nat.{◌-◌, ◌≤◌}
+use mathlib.Core.Path.{refl}
 use native.Mathlib.Omega.{arith}
-use lib.ListN.{length}
-use borrow.Author.Rules.{rules}
 use borrow.Author.Tests.{ltb-true}
 use Rattle.laws.specs.Booleans.{clash, and_parts}
-use Rattle.laws.specs.LeastLaws.{Scanned, scan_start, scan_miss}
-use Rattle.mesh.specs.Tests.{names_none}
+use Rattle.laws.specs.LeastLaws.{scan_start, scan_miss}
 use Rattle.mesh.specs.TestLaws.{names_one}
 use Rattle.mesh.proofs.tests.all_named.Goals as goal
 

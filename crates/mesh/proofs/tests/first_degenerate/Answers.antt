@@ -1,11 +1,7 @@
 -- `tests::first_degenerate` meets its contract. The invariant: nothing that fits was passed.
-use mathlib.Core.Path.{◌≡◌, refl, sym, ◌∙◌}
-use Prim.Native.Nat.{◌-◌}
+use mathlib.Core.Path.{refl, sym, ◌∙◌}
 use native.Mathlib.Omega.{arith}
-use lib.ListN.{length}
-use Rattle.laws.specs.LeastLaws.{Scanned, scan_start, scan_hit, scan_miss, scan_end}
-use Rattle.mesh.specs.Tests.{names_twice}
-use Rattle.mesh.specs.Corners.{triangle_count}
+use Rattle.laws.specs.LeastLaws.{scan_start, scan_hit, scan_miss, scan_end}
 use Rattle.mesh.proofs.tests.first_degenerate.Goals as goal
 
 pub loop-t-init : goal.loop-t-init

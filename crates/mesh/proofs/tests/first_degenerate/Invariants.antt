@@ -1,9 +1,7 @@
 -- `tests::first_degenerate` meets its contract. The invariant: nothing that fits was passed.
-use mathlib.Core.Path.{◌≡◌, refl, sym, ◌∙◌}
+use mathlib.Core.Path.{◌≡◌}
 use Prim.Native.Nat.{◌-◌}
-use native.Mathlib.Omega.{arith}
-use lib.ListN.{length}
-use Rattle.laws.specs.LeastLaws.{Scanned, scan_start, scan_hit, scan_miss, scan_end}
+use Rattle.laws.specs.LeastLaws.{Scanned}
 use Rattle.mesh.specs.Tests.{names_twice}
 use Rattle.mesh.specs.Corners.{triangle_count}
 use Rattle.mesh.proofs.tests.first_degenerate.Given as goal

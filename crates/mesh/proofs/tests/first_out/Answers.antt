@@ -1,10 +1,7 @@
 -- `tests::first_out` meets its contract. The invariant: nothing that fits was passed.
-use mathlib.Core.Path.{◌≡◌, refl, sym, ◌∙◌}
-use Prim.Native.Nat.{◌-◌}
+use mathlib.Core.Path.{sym, ◌∙◌}
 use native.Mathlib.Omega.{arith}
-use lib.ListN.{length}
-use Rattle.laws.specs.LeastLaws.{Scanned, scan_start, scan_hit, scan_miss, scan_end}
-use Rattle.mesh.specs.Tests.{out_of_range}
+use Rattle.laws.specs.LeastLaws.{scan_start, scan_hit, scan_miss, scan_end}
 use Rattle.mesh.proofs.tests.first_out.Goals as goal
 
 pub loop-i-init : goal.loop-i-init

@@ -1,9 +1,7 @@
 -- `tests::first_stray` meets its contract. The invariant: nothing that fits was passed.
-use mathlib.Core.Path.{◌≡◌, refl, sym, ◌∙◌}
 use Prim.Native.Nat.{◌-◌}
-use native.Mathlib.Omega.{arith}
 use lib.ListN.{length}
-use Rattle.laws.specs.LeastLaws.{Scanned, scan_start, scan_hit, scan_miss, scan_end}
+use Rattle.laws.specs.LeastLaws.{Scanned}
 use Rattle.mesh.specs.Tests.{names_none}
 use Rattle.mesh.proofs.tests.first_stray.Given as goal
 

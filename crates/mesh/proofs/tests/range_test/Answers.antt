@@ -1,6 +1,5 @@
 -- `tests::range_test` meets its contract.
 use Rattle.mesh.specs.OperationLaws.{test_refused, test_fine, nowhere_fine}
-use borrow.Author.Rules.{rules}
 use Rattle.mesh.proofs.tests.range_test.Goals as goal
 
 pub returns-then-all_in_range : goal.returns-then-all_in_range

@@ -2,7 +2,6 @@
 use mathlib.Core.Path.{sym, ap, ◌∙◌}
 use mathlib.Core.Bool.{not}
 use Rattle.mesh.specs.OperationLaws.{whole_refused, whole_fine}
-use borrow.Author.Rules.{rules}
 use Rattle.mesh.proofs.tests.size_test.Goals as goal
 
 pub returns-then-sizes_fit : goal.returns-then-sizes_fit

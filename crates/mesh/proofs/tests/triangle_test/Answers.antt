@@ -1,6 +1,5 @@
 -- `tests::triangle_test` meets its contract.
 use Rattle.mesh.specs.OperationLaws.{test_refused, test_fine}
-use borrow.Author.Rules.{rules}
 use Rattle.mesh.proofs.tests.triangle_test.Goals as goal
 
 pub returns-then-t-corners : goal.returns-then-t-corners

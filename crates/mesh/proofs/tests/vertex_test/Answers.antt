@@ -1,6 +1,5 @@
 -- `tests::vertex_test` meets its contract.
 use Rattle.mesh.specs.OperationLaws.{test_refused, test_fine, nowhere_fine}
-use borrow.Author.Rules.{rules}
 use Rattle.mesh.proofs.tests.vertex_test.Goals as goal
 
 pub returns-then-all_named : goal.returns-then-all_named

@@ -1,6 +1,5 @@
 -- `unchecked::comes_before` meets its contract.
 use Rattle.mesh.proofs.Comparisons.{before_lower, before_higher, before_level}
-use borrow.Author.Rules.{rules}
 use Rattle.mesh.proofs.unchecked.comes_before.Goals as goal
 
 pub returns-then-a-b : goal.returns-then-a-b

@@ -1,6 +1,5 @@
 -- `unchecked::names_none` meets its contract.
 use Rattle.mesh.specs.TestLaws.{names_is}
-use borrow.Author.Rules.{rules}
 use Rattle.mesh.proofs.unchecked.names_none.Goals as goal
 
 pub returns : goal.returns

@@ -1,6 +1,5 @@
 -- `unchecked::names_twice` meets its contract.
 use Rattle.mesh.specs.TestLaws.{twice_1, twice_2, twice_3}
-use borrow.Author.Rules.{rules}
 use Rattle.mesh.proofs.unchecked.names_twice.Goals as goal
 
 pub returns-then-a-b : goal.returns-then-a-b

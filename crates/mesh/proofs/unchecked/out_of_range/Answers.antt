@@ -1,6 +1,5 @@
 -- `unchecked::out_of_range` meets its contract.
 use Rattle.mesh.specs.TestLaws.{range_low, range_high}
-use borrow.Author.Rules.{rules}
 use Rattle.mesh.proofs.unchecked.out_of_range.Goals as goal
 
 pub returns-then-z-lt-LEAST_COORDINATE : goal.returns-then-z-lt-LEAST_COORDINATE
