@@ -1,7 +1,7 @@
 -- `unchecked_order::rank_of` meets its contract: r counts the vertices below u that stand before v.
 use Prim.Native.Nat.{ℕ, ◌≤◌, ◌-◌}
 use mathlib.Core.Path.{◌≡◌, sym, ap, ◌∙◌}
-use mathlib.Core.Logic.{⊎_elim}
+use Rattle.mesh_tables.proofs.unchecked_order.rank_of.Goals.{then-comes_before, else-comes_before}
 use mathlib.Core.Bool.{Bool}
 use native.Mathlib.Omega.{arith}
 use Rattle.laws.specs.Count.{count}
@@ -17,10 +17,10 @@ pub loop-u-preserved : goal.loop-u-preserved
 loop-u-preserved c =
     let a = c.args in
     let t : ℕ → Bool = λ w. before a.coords.now w a.v in
-    ⊎_elim
-    (λ w. omega (arith, w.1, count_one c.loop-u.u t (sym c.comes_before.ensures.value ∙ w.0.taken)))
-    (λ w. omega (arith, w.1, count_none c.loop-u.u t (sym c.comes_before.ensures.value ∙ w.0.left)))
-    c.if-comes_before.branch
+    elim c.if-comes_before.branch [
+      | then-comes_before w ↦ omega (arith, w.r-is, count_one c.loop-u.u t (sym c.comes_before.ensures.value ∙ w.if-comes_before.true))
+      | else-comes_before w ↦ omega (arith, w.r-is, count_none c.loop-u.u t (sym c.comes_before.ensures.value ∙ w.if-comes_before.false))
+    ]
 
 pub returns : goal.returns
 returns c =
