@@ -45,7 +45,8 @@ shape_of-names-then-d-start c = let l = c.loop-start in length-set l.names l.k l
 
 pub returns-then-d-start : goal.returns-then-d-start
 returns-then-d-start c =
-    let e = walking_end c.loop-start.invariant c.wide-d.ensures.value c.if-d-start.true in FIXME[value names_left links_left] (ap Closed e.0, e.1)
+    let e = walking_end c.loop-start.invariant c.wide-d.ensures.value c.if-d-start.true in
+    record { value = ap Closed e.0; names_left = e.1.0; links_left = e.1.1 }
 
 pub offset_bounds-links-d : goal.offset_bounds-links-d
 offset_bounds-links-d c = omega (arith, d_small c.loop-start.invariant c.wide-d.ensures.value)
@@ -64,7 +65,8 @@ shape_of-names-then-links-d c =
     length-set l.names l.k l.c ∙ names_length l.invariant
 
 pub returns-then-links-d : goal.returns-then-links-d
-returns-then-links-d c = let given = absurd (never_met (walking_next c.loop-start.invariant c.wide-d.ensures.value c.if-d-start.false) c.if-links-d.true) in record { value = given.0; names_left = given.1.0; links_left = given.1.1 }
+returns-then-links-d c =
+    absurd (never_met (walking_next c.loop-start.invariant c.wide-d.ensures.value c.if-d-start.false) c.if-links-d.true)
 
 pub loop-start-smaller : goal.loop-start-smaller
 loop-start-smaller c =
