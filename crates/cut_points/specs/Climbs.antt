@@ -1,5 +1,5 @@
 -- A corner whose edge goes up through a height: what the tests of a mesh establish of it.
-use Rattle.std.specs.Prelude.{ℕ, ◌+◌, ◌*◌, ◌≤◌, ◌<◌, List, length, ℤ, pos, nat_abs, ◌≤ℤ◌, ◌<ℤ◌}
+use Rattle.std.specs.Prelude.{ℕ, ◌+◌, ◌*◌, ◌≤◌, ◌<◌, length, ℤ, pos, nat_abs, ◌≤ℤ◌, ◌<ℤ◌}
 use Rattle.mesh.specs.Corners.{largest, next_corner, start_of, end_of, coord_of, z_of, most_corners}
 use Rattle.mesh.specs.Meshes.{Mesh}
 

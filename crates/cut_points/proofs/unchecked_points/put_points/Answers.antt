@@ -1,14 +1,12 @@
 -- `put_points` meets its contract.
-use Prim.Native.Nat.{◌-◌}
 use native.Mathlib.Omega.{arith}
 use lib.ListN.{length-set}
 use mir.Syntax.{w32}
 use mir.Val.{to_z, of_z}
 use mir.ValLaws.{to_z-of_z}
-use borrow.Author.Rules.{rules}
 use Rattle.mesh.specs.Meshes.{mesh}
 use Rattle.cut_points.specs.Climbs.{Climbs}
-use Rattle.cut_points.proofs.Writing.{PointsPut, written_none, written_more, written_all}
+use Rattle.cut_points.proofs.Writing.{written_none, written_more, written_all}
 use Rattle.cut_points.proofs.unchecked_points.put_points.Goals as goal
 use Rattle.cut_points.proofs.unchecked_points.put_points.Goals.{After-wide-c}
 
@@ -17,32 +15,27 @@ loop-i-init c = written_none
 
 -- the name that was read, at the height as it is held
 climbs : (c : After-wide-c)
-    → 
-    let c.before.before.before.before.before.before = c.args in Climbs (mesh FIXME[c at Start: s.coords.now] FIXME[c at Start: s.corners.now]) (to_z w32 (of_z w32 FIXME[c at Start: s.h]))
-    c.wide-c.result
+    → Climbs (mesh c.args.coords.now c.args.corners.now) (to_z w32 (of_z w32 c.args.h)) c.wide-c.result
 climbs c =
-    
-    
     rw (to_z-of_z w32 c.args.h c.ranges.h, c.wide-c.ensures.value) (c.requires.fact_2 c.loop-i.i c.loop-i-test.true)
 
 pub point_at-x-requires : goal.point_at-x-requires
 point_at-x-requires c = record {
-      fact_1 = omega arith;
-      fact_2 = climbs c;
-    }
+  fact_1 = omega arith;
+  fact_2 = climbs c;
+}
 
 pub point_at-y-requires : goal.point_at-y-requires
 point_at-y-requires c = record {
-      fact_1 = omega arith;
-      fact_2 = climbs (goal.at.point_at-y-requires c).After-wide-c;
-    }
+  fact_1 = omega arith;
+  fact_2 = climbs (goal.at.point_at-y-requires c).After-wide-c;
+}
 
 pub bounds-points-b : goal.bounds-points-b
 bounds-points-b c = simp length-set (omega arith)
 
 pub loop-i-preserved : goal.loop-i-preserved
 loop-i-preserved c =
-    
     written_more c.loop-i.invariant c.wide-c.result c.point_at-x.result c.point_at-y.result c.wide-c.ensures.value
     c.point_at-x.type_inv c.point_at-y.type_inv c.point_at-x.ensures.value c.point_at-y.ensures.value (omega arith) (omega arith) (omega arith)
 
