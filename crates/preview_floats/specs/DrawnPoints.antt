@@ -1,5 +1,5 @@
 -- Origins (PREVIEW-7), and where a point is drawn (PREVIEW-2).
-use Rattle.std.specs.Prelude.{Bool, ◌&&◌, ℤ, ◌+ℤ◌, Float}
+use Rattle.std.specs.Prelude.{Bool, ◌&&◌, ◌+ℤ◌, Float}
 use Rattle.polygons.specs.Flat.{Point}
 use Rattle.preview_floats.specs.declared.Origin.{Origin}
 use Rattle.preview_floats.specs.declared.DrawnPoint.{DrawnPoint}
