@@ -1,9 +1,8 @@
 -- What `call_at` reads and answers: contour j has call k, and point k - j is the one drawn.
-use Prim.Native.Nat.{ℕ, ◌+◌, ◌-◌, ◌*◌, ◌/◌, ◌≤◌, ◌<◌}
+use Prim.Native.Nat.{ℕ, ◌+◌, ◌-◌, ◌*◌, ◌≤◌, ◌<◌}
 use mathlib.Core.Path.{◌≡◌, sym, ap, ◌∙◌, subst}
 use mathlib.Core.Bool.{Bool, true, false, not}
-use mathlib.Core.List.{List, []}
-use mathlib.Core.Option.{Option, none, some}
+use mathlib.Core.Option.{none, some}
 use native.Mathlib.Omega.{arith}
 use lib.ListN.{length, get_or, get_elem?}
 use lib.IntN.{ℤ, nat_abs}
@@ -11,15 +10,14 @@ use mir.Syntax.{w32}
 use mir.Val.{to_z, of_z}
 use Rattle.laws.specs.Machine.{same_in}
 use Rattle.mesh.specs.Corners.{largest}
-use Rattle.mesh.specs.Operation.{Answer, Finding, gives, refuses, verdict}
+use Rattle.mesh.specs.Operation.{Finding, gives, refuses, verdict}
 use Rattle.mesh.specs.OperationLaws.{whole_refused, whole_fine, verdict_stop, verdict_next}
 use Rattle.mesh.specs.Refusals.{Told, refusal}
-use Rattle.polygons.specs.Flat.{Point, point, FlatLayer, end_before, layer_tests}
+use Rattle.polygons.specs.Flat.{point, FlatLayer, end_before, layer_tests}
 use Rattle.polygons.specs.FlatLaws.{before_all, end_rises}
 use Rattle.preview_floats.specs.declared.Origin.{Origin}
 use Rattle.preview_floats.specs.declared.DrawnPoint.{DrawnPoint}
 use Rattle.preview_floats.specs.DrawnPoints.{whole_origin, drawn_at}
-use Rattle.preview.specs.declared.PathCall.{PathCall}
 use Rattle.preview.specs.declared.PathCall.TheVariants.{Move, Line, Close}
 use Rattle.preview.specs.Calls.{calls_of}
 use Rattle.preview.specs.Preview.{bad_origin, preview_tests}

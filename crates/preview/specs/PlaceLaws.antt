@@ -1,18 +1,17 @@
 -- The calls of a tested layer by the numbers of its two tables.
-use Rattle.std.specs.Prelude.{ℕ, zero, suc, ◌+◌, ◌-◌, ◌*◌, ◌/◌, ◌≤◌, ◌<◌, ◌≡◌, Bool, cond, ◌↔◌, eqb, ℤ, pos}
+use Rattle.std.specs.Prelude.{ℕ, ◌+◌, ◌-◌, ◌/◌, ◌≤◌, ◌<◌, ◌≡◌, Bool, cond, ◌↔◌, eqb, ℤ}
 use Rattle.std.proofs.Math.Path.{refl, ap}
 use Rattle.std.proofs.Common.{sym, ◌∙◌, subst}
 use Rattle.std.proofs.Math.Bool.{true, false}
-use mathlib.Core.List.{List, [], ◌∷◌, ◌++◌, map, flatten}
+use mathlib.Core.List.{List, [], ◌∷◌, flatten}
 use Rattle.std.proofs.Math.Option
 use Rattle.std.proofs.Math.Option.{none, some}
 use native.Mathlib.Omega.{arith}
 use Rattle.std.proofs.Math.ListN.{length, get_or, get_elem?, length-map}
 use Rattle.laws.specs.EntryLaws.{entry_map, entry_none}
-use Rattle.polygons.specs.Flat.{Point, no_point, point, Each, FlatLayer, point_total, fewest_points, ends_of, numbers_of, flat_of, polygons_of, end_before, last_end}
+use Rattle.polygons.specs.Flat.{Point, no_point, point, Each, FlatLayer, fewest_points, ends_of, numbers_of, polygons_of, end_before}
 use Rattle.polygons.specs.FlatLaws.{number_x, number_y, length_ends, length_points, FlatTested, flat_polygons, layer_polygons}
 use Rattle.preview_floats.specs.declared.Origin.{Origin}
-use Rattle.preview.specs.declared.PathCall.{PathCall}
 use Rattle.preview.specs.declared.PathCall.TheVariants.{Close}
 use Rattle.preview.specs.Calls.{Stroke, move, line, close, drawn_call, strokes_of, calls_of}
 use Rattle.preview.specs.CallLaws.{strokes_count, stroke_at, strokes_at}

@@ -1,12 +1,12 @@
 -- Taking the origin off again gives back the contours, starts and order included; no two layers have the same calls for one origin (PREVIEW-4).
-use Rattle.std.specs.Prelude.{ℕ, zero, suc, ◌+◌, ◌*◌, ◌/◌, ◌≤◌, ◌<◌, ◌≡◌, refl, true, length, get_or, ℤ, pos, nat_abs}
+use Rattle.std.specs.Prelude.{ℕ, ◌+◌, ◌*◌, ◌≤◌, ◌<◌, ◌≡◌, refl, true, length, get_or, ℤ, pos, nat_abs}
 use Rattle.std.proofs.Common.{sym, ap, ◌∙◌, subst, arith}
 use mathlib.Core.List.{List, [], ◌∷◌, ◌++◌, map, flatten, append_assoc, append-nil}
 use Rattle.std.specs.Float.{binary32}
 use Rattle.std.specs.Float.Ieee.{sub}
 use Rattle.laws.specs.Booleans.{and_parts}
 use Rattle.mesh.specs.Corners.{largest}
-use Rattle.polygons.specs.Flat.{Point, no_point, point, Each, point_total, FlatLayer, flat_of, numbers_of, polygons_of}
+use Rattle.polygons.specs.Flat.{Point, no_point, point, Each, FlatLayer, flat_of, numbers_of, polygons_of}
 use Rattle.polygons.specs.FlatLaws.{number_x, number_y, length_numbers, flat_polygons, each_at, each_join, each_parts}
 use Rattle.preview_floats.specs.declared.Origin.{Origin}
 use Rattle.preview_floats.specs.WholeFloats.{is_whole, value_of, float}
@@ -14,8 +14,6 @@ use Rattle.preview_floats.specs.WholeLaws.{cast_stands}
 use Rattle.preview_floats.specs.WholeTestLaws.{stands_value}
 use Rattle.preview_floats.specs.DrawnPoints.{whole_origin, drawn_at}
 use Rattle.preview_floats.specs.DrawnLaws.{SmallPoint, coordinate_back}
-use Rattle.preview.specs.declared.PathCall.{PathCall}
-use Rattle.preview.specs.declared.PathCall.TheVariants.{Move, Line, Close}
 use Rattle.preview.specs.Calls.{Stroke, move, line, close, contour_strokes, strokes_of, drawn_call, calls_of}
 use Rattle.preview.specs.ReadCalls.{call_off, stroke_of, contours_drawn, contours_read}
 use Rattle.preview.specs.Preview.{Drawable}

@@ -1,16 +1,15 @@
 -- Calls written one after another: the tables that Preview of a run leaves, and the calls of a contour that are left at a point.
-use Prim.Native.Nat.{ℕ, zero, suc, ◌+◌, ◌-◌, ◌*◌, ◌/◌, ◌≤◌, ◌<◌, min}
-use Rattle.std.specs.Prelude.{◌≡◌, eqb, length, get_or, set, take, ℤ, Float}
+use Prim.Native.Nat.{ℕ, zero, suc, ◌+◌, ◌-◌, ◌*◌, ◌≤◌, ◌<◌}
+use Rattle.std.specs.Prelude.{◌≡◌, length, set, take, ℤ, Float}
 use Rattle.std.proofs.Math.Path.{refl, sym, ap}
-use Rattle.std.proofs.Common.{◌∙◌, subst, ⊎_elim, not-suc-le-zero, add-zero, suc-add, add-suc, length-append, length-set}
-use mathlib.Core.List.{List, [], ◌∷◌, ◌++◌, map}
+use Rattle.std.proofs.Common.{◌∙◌, ⊎_elim, not-suc-le-zero, add-zero, suc-add, add-suc, length-append, length-set}
+use mathlib.Core.List.{List, [], ◌∷◌, ◌++◌}
 use Rattle.std.proofs.Math.Option.{some}
 use native.Mathlib.Omega.{arith}
 use borrow.Author.Tests.{eq-eqb, ne_eqb}
 use Rattle.std.proofs.Math.ListN.{get_elem?}
-use Rattle.laws.specs.Booleans.{split_lt, split_eq}
+use Rattle.laws.specs.Booleans.{split_eq}
 use Rattle.laws.specs.Tables.{overwrite}
-use Rattle.laws.specs.TableLaws.{overwrite_none}
 use Rattle.preview_floats.specs.declared.Origin.{Origin}
 use Rattle.preview.specs.declared.PathCall.{PathCall}
 use Rattle.preview.specs.declared.PathCall.TheVariants.{Move, Line, Close}

@@ -1,17 +1,13 @@
 -- Worked values, by computation: the calls of part P's layer at height 5, with the origin (100, -7), and origins that are refused.
-use Rattle.std.specs.Prelude.{◌≡◌, refl, true, false, ℤ, pos, negsuc, Float}
-use mathlib.Core.List.{List, [], ◌∷◌, ◌++◌, map, flatten}
-use Rattle.std.proofs.Math.Option.{none, some}
-use Rattle.std.proofs.Math.ListN.{get_elem?}
-use Rattle.std.specs.Float.{nan, inf, fin, binary32}
+use Rattle.std.specs.Prelude.{◌≡◌, refl, true, false, pos, negsuc}
+use mathlib.Core.List.{[], ◌∷◌, flatten}
+use Rattle.std.specs.Float.{binary32}
 use Rattle.std.specs.Float.Ieee.{of_bits, of_int}
 use Rattle.polygons.specs.Flat.{FlatLayer, flat, point, contours_in, points_in}
-use Rattle.preview_floats.specs.declared.Origin.{Origin}
 use Rattle.preview_floats.specs.WholeFloats.{is_whole, value_of, float}
 use Rattle.preview_floats.specs.DrawnPoints.{origin_at}
-use Rattle.preview.specs.declared.PathCall.{PathCall}
 use Rattle.preview.specs.declared.PathCall.TheVariants.{Move, Line, Close}
-use Rattle.preview.specs.Calls.{Stroke, move, line, close, contour_strokes, strokes_of, calls_of}
+use Rattle.preview.specs.Calls.{move, line, close, contour_strokes, strokes_of, calls_of}
 
 -- (5, 0), (0, 5), (0, 0)
 abbrev five : FlatLayer

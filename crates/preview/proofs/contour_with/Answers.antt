@@ -1,8 +1,7 @@
 -- `contour_with` meets its contract.
 use Prim.Native.Nat.{◌+◌, ◌-◌, ◌/◌}
 use native.Mathlib.Omega.{arith}
-use borrow.Author.Rules.{rules}
-use Rattle.preview.proofs.Searching.{CallHalved, halved_start, halve_low, halve_high, halved_end}
+use Rattle.preview.proofs.Searching.{halved_start, halve_low, halve_high, halved_end}
 use Rattle.preview.proofs.contour_with.Goals as goal
 
 pub loop-a-init : goal.loop-a-init

@@ -1,8 +1,6 @@
 -- `contour_with` meets its contract.
-use Prim.Native.Nat.{◌+◌, ◌-◌, ◌/◌}
-use native.Mathlib.Omega.{arith}
-use borrow.Author.Rules.{rules}
-use Rattle.preview.proofs.Searching.{CallHalved, halved_start, halve_low, halve_high, halved_end}
+use Prim.Native.Nat.{◌-◌}
+use Rattle.preview.proofs.Searching.{CallHalved}
 use Rattle.preview.proofs.contour_with.Given as goal
 
 abbrev pub invariant-loop-a : goal.invariant-loop-a

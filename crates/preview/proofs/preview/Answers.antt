@@ -2,7 +2,6 @@
 use mathlib.Core.Path.{refl, sym, ap, ◌∙◌}
 use Rattle.mesh.specs.OperationLaws.{does_refuse, does_give}
 use Rattle.mesh.specs.Refusals.{tell_verdict}
-use borrow.Author.Rules.{rules}
 use Rattle.preview.proofs.preview.Goals as goal
 
 pub returns-in-Refused : goal.returns-in-Refused

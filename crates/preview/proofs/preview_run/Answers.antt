@@ -8,7 +8,6 @@ use Rattle.mesh.specs.Refusals.{tell_verdict}
 use Rattle.polygons.specs.Flat.{flat}
 use Rattle.preview.specs.Calls.{calls_of}
 use Rattle.preview.specs.Preview.{call_tables, filled_with}
-use borrow.Author.Rules.{rules}
 use Rattle.preview.proofs.preview_run.Goals as goal
 
 pub returns-in-Refused : goal.returns-in-Refused
@@ -16,14 +15,14 @@ unfolding unless_refused
 returns-in-Refused c = record { outcome = does_refuse c.preview_test-v.ensures.told (ap tell_verdict c.in-Refused.is) refl refl }
 
 pub fill_calls-requires : goal.fill_calls-requires
-fill_calls-requires c =
-    sym c.preview_test-v.ensures.told ∙ ap tell_verdict c.in_default.is
+fill_calls-requires c = sym c.preview_test-v.ensures.told ∙ ap tell_verdict c.in_default.is
 
 pub returns : goal.returns
 unfolding unless_refused
 returns c =
     let calls = calls_of c.args.origin (flat c.args.points.now c.args.ends.now) in
-    let u = call_tables c.args.kinds.now c.args.floats.now in record {
+    let u = call_tables c.args.kinds.now c.args.floats.now in
+    record {
       outcome = does_give c.preview_test-v.ensures.told (ap tell_verdict c.in_default.is) (ap gives c.fill_calls.ensures.value)
           (c.fill_calls.ensures.left ∙ ap (λ (n : ℕ). filled_with (take n (drop c.args.number calls)) u) c.fill_calls.ensures.value);
     }

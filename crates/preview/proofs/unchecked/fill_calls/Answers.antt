@@ -1,13 +1,9 @@
 -- `unchecked::fill_calls` meets its contract.
-use Prim.Native.Nat.{◌-◌, ◌<◌}
 use mathlib.Core.Path.{refl}
 use native.Mathlib.Omega.{arith}
-use lib.ListN.{length}
-use borrow.Author.Rules.{rules}
-use Rattle.polygons.specs.Flat.{FlatLayer, flat}
-use Rattle.preview.specs.Preview.{CallTables, call_tables}
+use Rattle.polygons.specs.Flat.{flat}
 use Rattle.preview.specs.PreviewLaws.{DrawTested, draw_tested}
-use Rattle.preview.proofs.Running.{CallsFilled, running_start, running_long, running_tables, running_full, running_past}
+use Rattle.preview.proofs.Running.{running_start, running_long, running_tables, running_full, running_past}
 use Rattle.preview.proofs.Running.{next_within, next_room, next_points, running_next}
 use Rattle.preview.proofs.unchecked.fill_calls.Goals as goal
 use Rattle.preview.proofs.unchecked.fill_calls.Goals.{Start}
@@ -27,7 +23,8 @@ shape_of-floats-then-ends-j c = (running_long _ _ _ _ c.loop-n.invariant).1
 
 pub returns-then-ends-j : goal.returns-then-ends-j
 returns-then-ends-j c =
-    let inv = c.loop-n.invariant in record {
+    let inv = c.loop-n.invariant in
+    record {
       value = running_past _ _ _ _ inv (passed (goal.at.returns-then-ends-j c).Start) c.loop-n-test.true c.if-ends-j.true;
       left = running_tables _ _ _ _ inv;
     }
@@ -38,8 +35,7 @@ overflow_add-i c =
     omega (arith, own.to c.if-ends-j.false, c.shared_slice_known-in-loop-n-1.given c.loop-n.j)
 
 pub overflow_sub-i : goal.overflow_sub-i
-overflow_sub-i c =
-    omega (arith, (c.loop-n.invariant.belongs c.loop-n-test.true).from)
+overflow_sub-i c = omega (arith, (c.loop-n.invariant.belongs c.loop-n-test.true).from)
 
 pub fill_contour-n-requires : goal.fill_contour-n-requires
 fill_contour-n-requires c =
@@ -47,15 +43,15 @@ fill_contour-n-requires c =
     let more = c.loop-n-test.true in
     let there = c.if-ends-j.false in
     let s-is = c.prior_end-s.ensures.value in
-    let e_is = c.wide-e.ensures.value in record {
+    let e_is = c.wide-e.ensures.value in
+    record {
       fact_1 = next_room _ _ _ _ inv (passed (goal.at.fill_contour-n-requires c).Start) more there s-is e_is refl;
       fact_2 = next_points _ _ _ _ inv (passed (goal.at.fill_contour-n-requires c).Start) more there s-is e_is refl;
       fact_3 = next_within _ _ _ _ inv (passed (goal.at.fill_contour-n-requires c).Start) more there s-is e_is refl;
     }
 
 pub loop-n-smaller : goal.loop-n-smaller
-loop-n-smaller c =
-    omega (arith, c.fill_contour-n.ensures.value)
+loop-n-smaller c = omega (arith, c.fill_contour-n.ensures.value)
 
 pub loop-n-preserved : goal.loop-n-preserved
 loop-n-preserved c =
@@ -69,7 +65,9 @@ pub shape_of-floats : goal.shape_of-floats
 shape_of-floats c = (running_long _ _ _ _ c.loop-n.invariant).1
 
 pub returns : goal.returns
-returns c = let inv = c.loop-n.invariant in record {
-  value = running_full _ _ _ _ inv c.loop-n-test.false;
-  left = running_tables _ _ _ _ inv;
-}
+returns c =
+    let inv = c.loop-n.invariant in
+    record {
+      value = running_full _ _ _ _ inv c.loop-n-test.false;
+      left = running_tables _ _ _ _ inv;
+    }

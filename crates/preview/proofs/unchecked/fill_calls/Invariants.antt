@@ -1,14 +1,8 @@
 -- `unchecked::fill_calls` meets its contract.
-use Prim.Native.Nat.{◌-◌, ◌<◌}
-use mathlib.Core.Path.{refl}
-use native.Mathlib.Omega.{arith}
-use lib.ListN.{length}
-use borrow.Author.Rules.{rules}
-use Rattle.polygons.specs.Flat.{FlatLayer, flat}
-use Rattle.preview.specs.Preview.{CallTables, call_tables}
-use Rattle.preview.specs.PreviewLaws.{DrawTested, draw_tested}
-use Rattle.preview.proofs.Running.{CallsFilled, running_start, running_long, running_tables, running_full, running_past}
-use Rattle.preview.proofs.Running.{next_within, next_room, next_points, running_next}
+use Prim.Native.Nat.{◌-◌}
+use Rattle.polygons.specs.Flat.{flat}
+use Rattle.preview.specs.Preview.{call_tables}
+use Rattle.preview.proofs.Running.{CallsFilled}
 use Rattle.preview.proofs.unchecked.fill_calls.Given as goal
 
 abbrev pub invariant-loop-n : goal.invariant-loop-n

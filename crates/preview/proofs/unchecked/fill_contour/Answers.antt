@@ -6,7 +6,6 @@ use lib.ListN.{length, get_or, length-set}
 use lib.IntN.{pos}
 use Rattle.preview.proofs.Fetching.{read_is, read_small}
 use Rattle.preview.proofs.Filling.{start_there, moved_room, moved_left, moved_at, later_left}
-use borrow.Author.Rules.{rules}
 use Rattle.preview.proofs.unchecked.fill_contour.Goals as goal
 use Rattle.preview.proofs.unchecked.fill_contour.Goals.{After-put_point}
 
@@ -30,7 +29,8 @@ pub fill_rest-requires : goal.fill_rest-requires
 fill_rest-requires c =
     let points = c.args.points.now in
     let i = c.args.i in
-    let p = c.requires.fact_2 in record {
+    let p = c.requires.fact_2 in
+    record {
       fact_1 = moved_room c.requires.fact_1 p c.requires.fact_3.0 c.requires.fact_3.1 c.requires.fact_3.2 c.if-i-s.true
           (read_is (get_or points (2 * i) (pos 0)) (p.small (2 * i) (omega (arith, there (goal.at.fill_rest-requires c).After-put_point))))
           (read_is (get_or points (2 * i + 1) (pos 0)) (p.small (2 * i + 1) (there (goal.at.fill_rest-requires c).After-put_point)))
@@ -40,14 +40,14 @@ fill_rest-requires c =
     }
 
 pub shape_of-kinds-then-i-s : goal.shape_of-kinds-then-i-s
-shape_of-kinds-then-i-s c =
-    c.kinds-1.given ∙ length-set c.args.kinds.now c.args.n 0
+shape_of-kinds-then-i-s c = c.kinds-1.given ∙ length-set c.args.kinds.now c.args.n 0
 
 pub returns-then-i-s : goal.returns-then-i-s
 returns-then-i-s c =
     let points = c.args.points.now in
     let i = c.args.i in
-    let p = c.requires.fact_2 in record {
+    let p = c.requires.fact_2 in
+    record {
       value = moved_at c.requires.fact_1 p c.requires.fact_3.0 c.requires.fact_3.1 c.requires.fact_3.2 c.if-i-s.true
           c.fill_rest.ensures.value;
       left = moved_left c.requires.fact_1 p c.requires.fact_3.0 c.requires.fact_3.1 c.requires.fact_3.2 c.if-i-s.true

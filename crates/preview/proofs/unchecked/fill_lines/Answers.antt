@@ -1,12 +1,11 @@
 -- `unchecked::fill_lines` meets its contract.
-use Prim.Native.Nat.{◌+◌, ◌-◌}
+use Prim.Native.Nat.{◌+◌}
 use mathlib.Core.Path.{refl}
 use native.Mathlib.Omega.{arith}
 use lib.ListN.{get_or}
 use lib.IntN.{pos}
-use Rattle.preview.specs.Preview.{call_tables}
 use Rattle.preview.proofs.Fetching.{read_is, read_small}
-use Rattle.preview.proofs.Lining.{Lining, lining_start, lining_long, lining_there, lining_small, lining_step, lining_end}
+use Rattle.preview.proofs.Lining.{lining_start, lining_long, lining_there, lining_small, lining_step, lining_end}
 use Rattle.preview.proofs.unchecked.fill_lines.Goals as goal
 
 pub overflow_mul-a : goal.overflow_mul-a
@@ -28,8 +27,7 @@ pub offset_bounds-points-b : goal.offset_bounds-points-b
 offset_bounds-points-b c = omega (arith, lining_there c.loop-k.invariant c.loop-k-test.true)
 
 pub bounds-points-b : goal.bounds-points-b
-bounds-points-b c =
-    omega (arith, lining_there c.loop-k.invariant c.loop-k-test.true)
+bounds-points-b c = omega (arith, lining_there c.loop-k.invariant c.loop-k-test.true)
 
 pub drawn_point-requires : goal.drawn_point-requires
 drawn_point-requires c =
@@ -39,16 +37,13 @@ drawn_point-requires c =
     (read_small (get_or points a (pos 0)) small.0, read_small (get_or points (a + 1) (pos 0)) small.1, c.loop-k.invariant.drawn.origin)
 
 pub put_point-requires : goal.put_point-requires
-put_point-requires c =
-    omega (arith, c.loop-k.invariant.room.floats_room, (lining_long c.loop-k.invariant).1)
+put_point-requires c = omega (arith, c.loop-k.invariant.room.floats_room, (lining_long c.loop-k.invariant).1)
 
 pub bounds-kinds-k : goal.bounds-kinds-k
-bounds-kinds-k c =
-    omega (arith, c.loop-k.invariant.room.kinds_room, (lining_long c.loop-k.invariant).0)
+bounds-kinds-k c = omega (arith, c.loop-k.invariant.room.kinds_room, (lining_long c.loop-k.invariant).0)
 
 pub overflow_add-a : goal.overflow_add-a
-overflow_add-a c =
-    omega (arith, lining_there c.loop-k.invariant c.loop-k-test.true)
+overflow_add-a c = omega (arith, lining_there c.loop-k.invariant c.loop-k-test.true)
 
 pub loop-k-preserved : goal.loop-k-preserved
 loop-k-preserved c =

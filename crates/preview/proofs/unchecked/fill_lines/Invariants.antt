@@ -1,12 +1,7 @@
 -- `unchecked::fill_lines` meets its contract.
-use Prim.Native.Nat.{◌+◌, ◌-◌}
-use mathlib.Core.Path.{refl}
-use native.Mathlib.Omega.{arith}
-use lib.ListN.{get_or}
-use lib.IntN.{pos}
+use Prim.Native.Nat.{◌-◌}
 use Rattle.preview.specs.Preview.{call_tables}
-use Rattle.preview.proofs.Fetching.{read_is, read_small}
-use Rattle.preview.proofs.Lining.{Lining, lining_start, lining_long, lining_there, lining_small, lining_step, lining_end}
+use Rattle.preview.proofs.Lining.{Lining}
 use Rattle.preview.proofs.unchecked.fill_lines.Given as goal
 
 abbrev pub invariant-loop-k : goal.invariant-loop-k

@@ -1,25 +1,27 @@
 -- `unchecked::fill_rest` meets its contract.
-use Rattle.preview.proofs.Filling.{rest_room, rest_points, rest_long, rest_closed, rest_full, closed_at, full_at}
-use borrow.Author.Rules.{rules}
+use Rattle.preview.proofs.Filling.{rest_room, rest_points, rest_closed, rest_full, closed_at, full_at}
 use Rattle.preview.proofs.unchecked.fill_rest.Goals as goal
 
 pub fill_lines-requires : goal.fill_lines-requires
 fill_lines-requires c =
-    let last_is = c.lesser-last.ensures.value in record {
+    let last_is = c.lesser-last.ensures.value in
+    record {
       fact_1 = rest_room c.requires.fact_1 c.requires.fact_2 c.requires.fact_3 last_is;
       fact_2 = rest_points c.requires.fact_1 c.requires.fact_2 c.requires.fact_3 last_is;
     }
 
 pub returns-then-last-room : goal.returns-then-last-room
 returns-then-last-room c =
-    let last_is = c.lesser-last.ensures.value in record {
+    let last_is = c.lesser-last.ensures.value in
+    record {
       value = closed_at c.requires.fact_1 c.requires.fact_2 c.requires.fact_3 last_is c.if-last-room.true;
       left = rest_closed c.requires.fact_1 c.requires.fact_2 c.requires.fact_3 last_is c.fill_lines.ensures.left c.if-last-room.true;
     }
 
 pub returns : goal.returns
 returns c =
-    let last_is = c.lesser-last.ensures.value in record {
+    let last_is = c.lesser-last.ensures.value in
+    record {
       value = full_at c.requires.fact_1 c.requires.fact_2 c.requires.fact_3 last_is c.if-last-room.false;
       left = rest_full c.requires.fact_1 c.requires.fact_2 c.requires.fact_3 last_is c.fill_lines.ensures.left c.if-last-room.false;
     }
