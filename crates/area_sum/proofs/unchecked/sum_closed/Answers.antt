@@ -29,7 +29,7 @@ trapezoid-requires c =
 pub overflow_add-result : goal.overflow_add-result
 overflow_add-result c =
     let t = c.trapezoid in
-    sum_ok c.requires.0 t.result t.type_inv t.ensures.1
+    sum_ok c.requires.0 t.result t.type_inv t.ensures.result.1
 
 pub trapezoid-requires-2 : goal.trapezoid-requires-2
 trapezoid-requires-2 c =
@@ -40,12 +40,12 @@ trapezoid-requires-2 c =
 pub overflow_add-result-2 : goal.overflow_add-result-2
 overflow_add-result-2 c =
     let t = c.trapezoid in
-    sum_twice_ok c.requires.0 t.result t.type_inv t.ensures.1
+    sum_twice_ok c.requires.0 t.result t.type_inv t.ensures.result.1
     c.trapezoid-2.result c.trapezoid-2.type_inv c.trapezoid-2.ensures.result.1
 
 pub returns : goal.returns
 returns c =
     let t = c.trapezoid in record {
       value = closes c.args.s (last (goal.at.returns c).Start) c.requires.0 c.requires.1
-          t.result t.type_inv t.ensures.1 t.ensures.0 c.trapezoid-2.result c.trapezoid-2.type_inv c.trapezoid-2.ensures.result.1 c.trapezoid-2.ensures.result.0;
+          t.result t.type_inv t.ensures.result.1 t.ensures.result.0 c.trapezoid-2.result c.trapezoid-2.type_inv c.trapezoid-2.ensures.result.1 c.trapezoid-2.ensures.result.0;
     }

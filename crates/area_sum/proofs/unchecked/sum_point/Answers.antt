@@ -41,7 +41,7 @@ pub trapezoid-requires : goal.trapezoid-requires
 trapezoid-requires c = edge_near (prior c) (next c) c.requires.1 c.requires.2
 
 pub overflow_add-sum : goal.overflow_add-sum
-overflow_add-sum c = let t = c.trapezoid in sum_ok c.requires.0 t.result t.type_inv t.ensures.1
+overflow_add-sum c = let t = c.trapezoid in sum_ok c.requires.0 t.result t.type_inv t.ensures.result.1
 
 pub returns-then-s : goal.returns-then-s
 returns-then-s c =
