@@ -21,7 +21,8 @@ module _ (s : ContourSeen) (p q : Point) where
     unfolding seeing
     see_known f t = simp (ne_eqb s.different 0 h, sym f ∙ t, e)
 
-    pub see_new : {k : Bool} {n : ℕ} → k ≡ is_known s q → k ≡ false → n ≡ one_more s.different → seen n (first_seen s) q (s.apart && not b) ≡ seeing s p q
+    pub see_new : {k : Bool} {n : ℕ} → k ≡ is_known s q → k ≡ false → n ≡ one_more s.different
+        → seen n (first_seen s) q (s.apart && not b) ≡ seeing s p q
     unfolding seeing
     see_new f t g = simp (ne_eqb s.different 0 h, sym f ∙ t, e, g)
 
@@ -31,7 +32,8 @@ module _ (s : ContourSeen) (q : Point) where
   pub known_three : s.different ≡ 3 → true ≡ is_known s q
   known_three e = simp (eq-eqb s.different 3 e)
 
-  pub known_points : (s.different ≡ 3 → ⊥) → {a b : Bool} → a ≡ same_point (first_seen s) q → b ≡ same_point (latest_seen s) q → (a || b) ≡ is_known s q
+  pub known_points : (s.different ≡ 3 → ⊥) → {a b : Bool} → a ≡ same_point (first_seen s) q → b ≡ same_point (latest_seen s) q
+      → (a || b) ≡ is_known s q
   known_points h e f = simp (ne_eqb s.different 3 h, e, f)
 
   pub ends_clean : {a : Bool} → a ≡ same_point (first_seen s) q → (eqb s.different 3 && (s.apart && not a)) ≡ seen_clean s q

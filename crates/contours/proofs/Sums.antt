@@ -17,17 +17,17 @@ use Rattle.contours.specs.AreaLaws.{sum_bound, area_none}
 use Rattle.contours.specs.Runs.{largest_cross, PointRun}
 use Rattle.contours.specs.TrapezoidLaws.{trapezoid_of, trapezoid_at, trapezoid_bound, area_trapezoids}
 
--- the bits x and y stand for point i
-pub record PointHeld (points : List ℤ) (i x y : ℕ) : Type 0 where
-  pub x_is : to_z w64 x ≡ x_of points i
-  pub y_is : to_z w64 y ≡ y_of points i
+-- (x, y) is point i
+pub record PointHeld (points : List ℤ) (i : ℕ) (x y : ℤ) : Type 0 where
+  pub x_is : x ≡ x_of points i
+  pub y_is : y ≡ y_of points i
 
-pub record TrapezoidsSummed (points : List ℤ) (last x y sum k : ℕ) : Type 0 where
+pub record TrapezoidsSummed (points : List ℤ) (last : ℕ) (x y sum : ℤ) (k : ℕ) : Type 0 where
   pub run : PointRun points
   pub some : last + 1 ≡ point_count points
   pub upto : k ≤ last
   pub held : PointHeld points k x y
-  pub sum_is : to_z w64 sum ≡ sum_of k (trapezoid_at points)
+  pub sum_is : sum ≡ sum_of k (trapezoid_at points)
 
 pub area_empty : (points : List ℤ) → length points ≡ 0 → pos 0 ≡ area_of points
 area_empty [] e = sym area_none
@@ -45,20 +45,21 @@ module _ {points : List ℤ} (r : PointRun points) where
   wide i = cast (number i) tt
 
   -- a point that was loaded
-  pub loaded : (i : ℕ) → PointHeld points i (wide (2 * i)).n (wide (2 * i + 1)).n
+  pub loaded : (i : ℕ) → PointHeld points i (to_z w64 (wide (2 * i)).n) (to_z w64 (wide (2 * i + 1)).n)
   loaded i = record { x_is = (wide (2 * i)).is; y_is = (wide (2 * i + 1)).is }
 
-  pub start : {last : ℕ} → last + 1 ≡ point_count points → TrapezoidsSummed points last (wide 0).n (wide 1).n 0 0
+  pub held_x : {i : ℕ} {x y : ℤ} → PointHeld points i x y → nat_abs x ≤ largest
+  held_x {i} h = rw h.x_is (r.ranged (2 * i))
+
+  pub held_y : {i : ℕ} {x y : ℤ} → PointHeld points i x y → nat_abs y ≤ largest
+  held_y {i} h = rw h.y_is (r.ranged (2 * i + 1))
+
+  pub start : {last : ℕ} → last + 1 ≡ point_count points → TrapezoidsSummed points last (to_z w64 (wide 0).n) (to_z w64 (wide 1).n) (pos 0) 0
   unfolding sum_of
   start e = record { run = r; some = e; upto = omega arith; held = loaded 0; sum_is = refl }
 
-module _ {points : List ℤ} {last x y sum k : ℕ} (s : TrapezoidsSummed points last x y sum k) where
-  pub held_x : {i x y : ℕ} → PointHeld points i x y → nat_abs (to_z w64 x) ≤ largest
-  held_x {i} h = rw h.x_is (s.run.ranged (2 * i))
-
-  pub held_y : {i x y : ℕ} → PointHeld points i x y → nat_abs (to_z w64 y) ≤ largest
-  held_y {i} h = rw h.y_is (s.run.ranged (2 * i + 1))
-
+-- in a turn, where the sum so far is held as bits
+module _ {points : List ℤ} {last : ℕ} {x y : ℤ} (sum : ℕ) {k : ℕ} (s : TrapezoidsSummed points last x y (to_z w64 sum) k) where
   sum_le : nat_abs (sum_of k (trapezoid_at points)) ≤ most_points * (2 * largest_cross)
   sum_le =
       let few : k ≤ most_points = omega (arith, s.run.few, s.some, s.upto) in
@@ -69,8 +70,8 @@ module _ {points : List ℤ} {last x y sum k : ℕ} (s : TrapezoidsSummed points
   whole = record { n = sum; is = s.sum_is; le = sum_le }
 
   -- what `trapezoid` promises of its result, for the point at hand and (u, v)
-  abbrev Trapezoid : ℕ → ℕ → ℤ → Type 0
-  Trapezoid u v z = z ≡ (to_z w64 x -ℤ to_z w64 u) *ℤ (to_z w64 y +ℤ to_z w64 v)
+  abbrev Trapezoid : ℤ → ℤ → ℤ → Type 0
+  Trapezoid u v z = z ≡ (x -ℤ u) *ℤ (y +ℤ v)
 
   module _ (z : ℤ) (f : mag z < 2 ^ 63) (h : nat_abs z ≤ 2 * largest_cross) where
     abbrev more : Rd w64 z (2 * largest_cross)
@@ -80,7 +81,7 @@ module _ {points : List ℤ} {last x y sum k : ℕ} (s : TrapezoidsSummed points
     pub sum_ok : SFits w64 (to_z w64 sum +ℤ to_z w64 (of_z w64 z))
     sum_ok = add_ok whole more tt
 
-    module _ {m u v : ℕ} (b : PointHeld points m u v) (e : Trapezoid u v z) where
+    module _ {m : ℕ} {u v : ℤ} (b : PointHeld points m u v) (e : Trapezoid u v z) where
       trapezoid_is : z ≡ trapezoid_of points k m
       unfolding trapezoid_of
       trapezoid_is = e ∙ (λ t. (s.held.x_is t -ℤ b.x_is t) *ℤ (s.held.y_is t +ℤ b.y_is t))
@@ -89,14 +90,14 @@ module _ {points : List ℤ} {last x y sum k : ℕ} (s : TrapezoidsSummed points
       added = (add whole more tt).is ∙ ap (λ (y : ℤ). sum_of k (trapezoid_at points) +ℤ y) trapezoid_is
 
     -- a turn: the next point
-    pub again : {u v : ℕ} (b : PointHeld points (k + 1) u v) → Trapezoid u v z → k < last
-        → TrapezoidsSummed points last u v (of_z w64 (to_z w64 sum +ℤ to_z w64 (of_z w64 z))) (k + 1)
+    pub again : {u v : ℤ} (b : PointHeld points (k + 1) u v) → Trapezoid u v z → k < last
+        → TrapezoidsSummed points last u v (to_z w64 (of_z w64 (to_z w64 sum +ℤ to_z w64 (of_z w64 z)))) (k + 1)
     unfolding sum_of
     again b e l =
         let summed = added b e ∙ ap (λ (n : ℕ). sum_of n (trapezoid_at points)) (sym (add-one k)) in
         record { run = s.run; some = s.some; upto = omega arith; held = b; sum_is = summed }
 
     -- the end: closed round
-    pub closed : {u v : ℕ} (b : PointHeld points 0 u v) → Trapezoid u v z → last ≤ k
+    pub closed : {u v : ℤ} (b : PointHeld points 0 u v) → Trapezoid u v z → last ≤ k
         → to_z w64 (of_z w64 (to_z w64 sum +ℤ to_z w64 (of_z w64 z))) ≡ area_of points
     closed b e g = added b e ∙ area_trapezoids points k (omega (arith, s.some, s.upto))

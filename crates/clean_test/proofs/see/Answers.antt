@@ -45,14 +45,16 @@ returns-then-s-eq0 c = record {
 pub returns-then-is_known : goal.returns-then-is_known
 returns-then-is_known c =
     let s = c.args.s in
+    let at = goal.at.returns-then-is_known c in
     let fits = c.struct_told-1.given.1 in record {
       value = simp (held w32 s.x fits.0.1, held w32 s.y fits.1.0.1, held w32 s.u fits.1.1.0.1, held w32 s.v fits.1.1.1.0.1)
-          (see_known s (before (goal.at.returns-then-is_known c).Start) (next (goal.at.returns-then-is_known c).Start) c.if-s-eq0.false (same-told (goal.at.returns-then-is_known c).After-same_point) (known-told (goal.at.returns-then-is_known c).After-is_known) c.if-is_known.true);
+          (see_known s (before at.Start) (next at.Start) c.if-s-eq0.false (same-told at.After-same_point) (known-told at.After-is_known) c.if-is_known.true);
     }
 
 pub returns : goal.returns
 returns c =
     let s = c.args.s in
+    let at = goal.at.returns c in
     let fits = c.struct_told-2-1.given.1 in record {
       value = simp (
         held w32 s.x fits.0.1,
@@ -60,6 +62,6 @@ returns c =
         to_z-of_z w32 c.args.x c.ranges.x,
         to_z-of_z w32 c.args.y c.ranges.y,
       )
-          (see_new s (before (goal.at.returns c).Start) (next (goal.at.returns c).Start) c.if-s-eq0.false (same-told (goal.at.returns c).After-same_point) (known-told (goal.at.returns c).After-is_known) c.if-is_known.false
+          (see_new s (before at.Start) (next at.Start) c.if-s-eq0.false (same-told at.After-same_point) (known-told at.After-is_known) c.if-is_known.false
           c.one_more.ensures.value);
     }

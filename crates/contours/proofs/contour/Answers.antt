@@ -20,5 +20,8 @@ overflow_add-end c = omega (arith, fits (goal.at.overflow_add-end c).After-conto
 pub offset_bounds-points-first : goal.offset_bounds-points-first
 offset_bounds-points-first c = omega (arith, fits (goal.at.offset_bounds-points-first c).After-contour_part-part)
 
+pub slice_bounds-result-end : goal.slice_bounds-result-end
+slice_bounds-result-end c = omega (arith, fits (goal.at.slice_bounds-result-end c).After-contour_part-part)
+
 pub returns : goal.returns
 returns c = let p = c.contour_part-part.ensures.result in record { value = part_is _ _ _ p.0 p.1 }

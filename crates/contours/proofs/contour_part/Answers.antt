@@ -18,4 +18,7 @@ pub returns-then-numbers-end : goal.returns-then-numbers-end
 returns-then-numbers-end c = record { result = part_past _ _ _ c.wide-end.ensures.value c.if-numbers-end.true }
 
 pub returns : goal.returns
-returns c = record { result = part_there _ _ _ c.prior_end-start.ensures.value c.wide-end.ensures.value c.if-ends-j.false c.if-end-start.false c.if-numbers-end.false }
+returns c = record {
+  result = part_there _ _ _ c.prior_end-start.ensures.value c.wide-end.ensures.value
+      c.if-ends-j.false c.if-end-start.false c.if-numbers-end.false;
+}

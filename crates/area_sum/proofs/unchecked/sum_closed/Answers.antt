@@ -45,7 +45,9 @@ overflow_add-result-2 c =
 
 pub returns : goal.returns
 returns c =
-    let t = c.trapezoid in record {
+    let t = c.trapezoid in
+    let u = c.trapezoid-2 in record {
       value = closes c.args.s (last (goal.at.returns c).Start) c.requires.0 c.requires.1
-          t.result t.type_inv t.ensures.result.1 t.ensures.result.0 c.trapezoid-2.result c.trapezoid-2.type_inv c.trapezoid-2.ensures.result.1 c.trapezoid-2.ensures.result.0;
+          t.result t.type_inv t.ensures.result.1 t.ensures.result.0
+          u.result u.type_inv u.ensures.result.1 u.ensures.result.0;
     }

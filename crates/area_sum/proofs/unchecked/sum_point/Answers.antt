@@ -45,13 +45,15 @@ overflow_add-sum c = let t = c.trapezoid in sum_ok c.requires.0 t.result t.type_
 
 pub returns-then-s : goal.returns-then-s
 returns-then-s c =
-    let s = c.args.s in record {
+    let s = c.args.s in
+    let at = goal.at.returns-then-s c in record {
       value = simp (narrow_is s.x c.requires.0.near.0, narrow_is s.y c.requires.0.near.1)
-          (point_later s (prior (goal.at.returns-then-s c).Start) (next (goal.at.returns-then-s c).Start) (sum_told (goal.at.returns-then-s c).After-trapezoid) c.if-s.true);
+          (point_later s (prior at.Start) (next at.Start) (sum_told at.After-trapezoid) c.if-s.true);
     }
 
 pub returns : goal.returns
-returns c = record {
-  value = simp (narrow_is c.args.x c.requires.2.0, narrow_is c.args.y c.requires.2.1)
-      (point_first c.args.s (prior (goal.at.returns c).Start) (next (goal.at.returns c).Start) (sum_told (goal.at.returns c).After-trapezoid) c.if-s.false);
-}
+returns c =
+    let at = goal.at.returns c in record {
+      value = simp (narrow_is c.args.x c.requires.2.0, narrow_is c.args.y c.requires.2.1)
+          (point_first c.args.s (prior at.Start) (next at.Start) (sum_told at.After-trapezoid) c.if-s.false);
+    }

@@ -37,27 +37,28 @@ trapezoid-sum-requires c =
     let at-loop = c.loop-k in
     let s = at-loop.invariant in
     let next = loaded s.run (at-loop.k + 1) in
-    search (rules, held_x s s.held, held_y s s.held, held_x s next, held_y s next)
+    search (rules, held_x s.run s.held, held_y s.run s.held, held_x s.run next, held_y s.run next)
 
 pub overflow_add-sum : goal.overflow_add-sum
-overflow_add-sum c = sum_ok c.loop-k.invariant c.trapezoid-sum.result c.trapezoid-sum.type_inv c.trapezoid-sum.ensures.result.1
+overflow_add-sum c = sum_ok c.loop-k.sum-bits c.loop-k.invariant c.trapezoid-sum.result c.trapezoid-sum.type_inv c.trapezoid-sum.ensures.result.1
 
 pub loop-k-preserved : goal.loop-k-preserved
 loop-k-preserved c =
-    let at-loop = c.loop-k in
-    let next = loaded at-loop.invariant.run (at-loop.k + 1) in
-    again at-loop.invariant c.trapezoid-sum.result c.trapezoid-sum.type_inv c.trapezoid-sum.ensures.result.1 next c.trapezoid-sum.ensures.result.0 c.loop-k-test.true
+    let s = c.loop-k.invariant in
+    let z = c.trapezoid-sum in
+    again c.loop-k.sum-bits s z.result z.type_inv z.ensures.result.1 (loaded s.run (c.loop-k.k + 1)) z.ensures.result.0 c.loop-k-test.true
 
 pub trapezoid-requires : goal.trapezoid-requires
 trapezoid-requires c =
     let s = c.loop-k.invariant in
     let first = loaded s.run 0 in
-    search (rules, held_x s s.held, held_y s s.held, held_x s first, held_y s first)
+    search (rules, held_x s.run s.held, held_y s.run s.held, held_x s.run first, held_y s.run first)
 
 pub overflow_add-result : goal.overflow_add-result
-overflow_add-result c = sum_ok c.loop-k.invariant c.trapezoid.result c.trapezoid.type_inv c.trapezoid.ensures.result.1
+overflow_add-result c = sum_ok c.loop-k.sum-bits c.loop-k.invariant c.trapezoid.result c.trapezoid.type_inv c.trapezoid.ensures.result.1
 
 pub returns : goal.returns
 returns c =
     let s = c.loop-k.invariant in
-    let first = loaded s.run 0 in record { value = closed s c.trapezoid.result c.trapezoid.type_inv c.trapezoid.ensures.result.1 first c.trapezoid.ensures.result.0 c.loop-k-test.false }
+    let z = c.trapezoid in
+    record { value = closed c.loop-k.sum-bits s z.result z.type_inv z.ensures.result.1 (loaded s.run 0) z.ensures.result.0 c.loop-k-test.false }
