@@ -18,7 +18,8 @@ use Rattle.cleaning.specs.declared.Profile.{Profile}
 use Rattle.cleaning.specs.declared.Profile.TheVariants.{Full, Clean}
 use Rattle.file_formats.specs.Formats.{Format, parsed, refused, state_after, sequence}
 use Rattle.file_formats.specs.Numbers.{largest_word}
-use Rattle.file_formats.specs.LayerFile.{Point, most_points, fewest_points, point_format, origin, latest, contour_format, contour_in, room_after, contour_list_in}
+use Rattle.file_formats.specs.LayerFile.{Point, most_points, fewest_points, point_format, origin, latest}
+use Rattle.file_formats.specs.LayerFile.{contour_format, contour_in, room_after, contour_list_in}
 use Rattle.file_formats.specs.LayerFileLaws.{point_tails, contour_bad, contour_few, contour_points}
 use Rattle.file_formats.specs.LayerRules.{point_total}
 use Rattle.file_formats.specs.Positions.{number_at}
@@ -55,7 +56,8 @@ module _ (p : Profile) (room : ℕ) (l : List ℕ) where
       by Full e = e
       by Clean e = simp e
 
-  parsed_in : {c : List Point} {r : List ℕ} → (contour_format room).parse l ≡ parsed c r → fits_in p c ≡ true → (contour_in p room).parse l ≡ parsed c r
+  parsed_in : {c : List Point} {r : List ℕ} → (contour_format room).parse l ≡ parsed c r → fits_in p c ≡ true
+      → (contour_in p room).parse l ≡ parsed c r
   parsed_in = by p
     where
       by : (p : Profile) {c : List Point} {r : List ℕ} → (contour_format room).parse l ≡ parsed c r → fits_in p c ≡ true
@@ -63,7 +65,8 @@ module _ (p : Profile) (room : ℕ) (l : List ℕ) where
       by Full e t = e
       by Clean e t = simp (e, t)
 
-  unfit_in : {c : List Point} {r : List ℕ} → (contour_format room).parse l ≡ parsed c r → fits_in p c ≡ false → (contour_in p room).parse l ≡ refused l
+  unfit_in : {c : List Point} {r : List ℕ} → (contour_format room).parse l ≡ parsed c r → fits_in p c ≡ false
+      → (contour_in p room).parse l ≡ refused l
   unfit_in = by p
     where
       by : (p : Profile) {c : List Point} {r : List ℕ} → (contour_format room).parse l ≡ parsed c r → fits_in p c ≡ false
@@ -208,7 +211,7 @@ module _ {p : Profile} {file : List ℕ} {at count room : ℕ} {sum : ℤ} {i le
     contour_passes h {z} same =
         let q = contour_read p file i room w.run.inside next r area f in
         let total : sum +ℤ contour_area q.0 ≡ z = ap (λ (y : ℤ). sum +ℤ y) q.1.area_is ∙ sym same in
-        subst (λ (k : ℕ). ContoursChecked p file at count k z next (left - 1)) q.1.room_after
+        subst (λ (k : ℕ). ContoursChecked p file at count k z next (left - 1)) q.1.room_after_lem
         (subst (λ (y : ℤ). ContoursChecked p file at count (room_after room q.0) y next (left - 1)) total (contour_passed q.0 q.1.stands h))
 
 -- the sum in the machine: its bits are n, and the area is added
@@ -248,7 +251,7 @@ module _ (p : Profile) (file : List ℕ) (at : ℕ) (h : at ≤ length file) whe
       room_and_points : room + point_total all_told.0 ≡ most_points
       room_and_points =
           let q = all_told.1 in
-          omega (arith, q.room_after, room_left_lem p n most_points (drop next file) all_told.0 (drop i file) q.stands.parses)
+          omega (arith, q.room_after_lem, room_left_lem p n most_points (drop next file) all_told.0 (drop i file) q.stands.parses)
 
       pub room_low : room ≤ most_points
       room_low = omega (arith, room_and_points)

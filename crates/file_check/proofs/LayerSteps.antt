@@ -92,7 +92,8 @@ unfolding extent_at
 extent_off F file at i o = let p = o.parses in simp p (ap ExtentRefused o.place)
 
 module _ (p : Profile) (n : ℕ) (low : ℤ) (file : List ℕ) (at : ℕ) where
-  pub layers_stop : {i : ℕ} → levels_at p n low file at ≡ Refused i → ExtentRefused i ≡ extent_at (final (sequence (layer_format_in p) height_of n low)) file at
+  pub layers_stop : {i : ℕ} → levels_at p n low file at ≡ Refused i
+      → ExtentRefused i ≡ extent_at (final (sequence (layer_format_in p) height_of n low)) file at
   layers_stop {i} e =
       extent_off (final (sequence (layer_format_in p) height_of n low)) file at i
       (final_off (sequence (layer_format_in p) height_of n low) file at i (levels_off p file at n low i e))

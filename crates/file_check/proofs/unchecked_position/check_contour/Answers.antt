@@ -24,11 +24,14 @@ count : (c : In-Value)
 count c = sym c.read_number-n.ensures.value ∙ c.in-Value.is
 
 pub returns-then-count-lt2 : goal.returns-then-count-lt2
-returns-then-count-lt2 c = record { value = few_points_lem c.args.profile _ _ _ c.requires.0 (count (goal.at.returns-then-count-lt2 c).In-Value) (omega (arith, c.if-count-lt2.true)) }
+returns-then-count-lt2 c = record {
+  value = few_points_lem c.args.profile _ _ _ c.requires.0 (count (goal.at.returns-then-count-lt2 c).In-Value) (omega (arith, c.if-count-lt2.true));
+}
 
 pub check_points-p-requires : goal.check_points-p-requires
 check_points-p-requires c =
-    ((took (count (goal.at.check_points-p-requires c).In-Value)).inside, omega (arith, (took (count (goal.at.check_points-p-requires c).In-Value)).low, c.requires.1))
+    let n = count (goal.at.check_points-p-requires c).In-Value in
+    ((took n).inside, omega (arith, (took n).low, c.requires.1))
 
 -- the points checked
 points : (c : In-End)
@@ -43,12 +46,15 @@ overflow_sub-result c =
 
 pub returns-then-fits : goal.returns-then-fits
 returns-then-fits c = record {
-  value = points_pass c.args.profile _ _ _ c.requires.0 (count (goal.at.returns-then-fits c).In-Value) c.if-count-lt2.false (points (goal.at.returns-then-fits c).In-End)
-      (same w64 c.in-End.area (omega arith)) c.if-fits.true;
+  value = points_pass c.args.profile _ _ _ c.requires.0 (count (goal.at.returns-then-fits c).In-Value) c.if-count-lt2.false
+      (points (goal.at.returns-then-fits c).In-End) (same w64 c.in-End.area (omega arith)) c.if-fits.true;
 }
 
 pub returns-else-fits : goal.returns-else-fits
-returns-else-fits c = record { value = points_unfit c.args.profile _ _ _ c.requires.0 (count (goal.at.returns-else-fits c).In-Value) c.if-count-lt2.false (points (goal.at.returns-else-fits c).In-End) c.if-fits.false }
+returns-else-fits c = record {
+  value = points_unfit c.args.profile _ _ _ c.requires.0 (count (goal.at.returns-else-fits c).In-Value) c.if-count-lt2.false
+      (points (goal.at.returns-else-fits c).In-End) c.if-fits.false;
+}
 
 pub returns-in-Refused : goal.returns-in-Refused
 returns-in-Refused c = record {

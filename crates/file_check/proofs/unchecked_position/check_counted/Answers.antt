@@ -36,4 +36,7 @@ returns-in-End c = record {
 }
 
 pub returns-in-Refused : goal.returns-in-Refused
-returns-in-Refused c = record { value = contours_stop _ _ _ c.requires (count (goal.at.returns-in-Refused c).In-Value) (sym c.check_contours-c.ensures.value ∙ c.in-Refused.is) }
+returns-in-Refused c = record {
+  value = contours_stop _ _ _ c.requires (count (goal.at.returns-in-Refused c).In-Value)
+      (sym c.check_contours-c.ensures.value ∙ c.in-Refused.is);
+}

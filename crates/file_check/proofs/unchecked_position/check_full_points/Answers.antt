@@ -1,8 +1,7 @@
 -- `check_full_points` meets its contract: the loop keeps what the points before have come to.
 use mathlib.Core.Path.{◌≡◌, refl, sym, ◌∙◌}
 use borrow.Author.Rules.{rules}
-use mathlib.Core.List.{List}
-use Prim.Native.Nat.{ℕ, ◌≤◌}
+use Prim.Native.Nat.{◌≤◌}
 use lib.IntN.{ℤ, nat_abs}
 use mir.Syntax.{w32, w64}
 use mir.Val.{to_z, of_z}
@@ -15,7 +14,7 @@ use Rattle.file_check.specs.declared.Coordinate.TheVariants.{At}
 use Rattle.file_check.proofs.PointSteps.{bits_is, bits_near, PointsChecked, points_checked, sum_small, points_end, no_x, no_y, x_near, y_near}
 use Rattle.file_check.proofs.PointSteps.{next_point_lem}
 use Rattle.file_check.proofs.unchecked_position.check_full_points.Goals as goal
-use Rattle.file_check.proofs.unchecked_position.check_full_points.Goals.{In-At, In-At-b}
+use Rattle.file_check.proofs.unchecked_position.check_full_points.Goals.{In-At-b}
 
 pub loop-left-init : goal.loop-left-init
 loop-left-init c = points_checked Full _ _ _ refl c.sum_none-sum.ensures.value c.requires
@@ -26,45 +25,37 @@ read_coordinate-a-requires c = c.loop-left.invariant.x_in
 pub returns-in_default : goal.returns-in_default
 returns-in_default c = record { value = no_x c.loop-left.invariant c.loop-left-test.true (sym c.read_coordinate-a.ensures.value ∙ c.in_default.is) }
 
--- the first coordinate read
-module _ (c : In-At) where
-  abbrev file : List ℕ
-  file = c.args.file.now
-
-  abbrev nx : ℤ
-  nx = c.in-At.nx
-
-  abbrev next : ℕ
-  next = c.in-At.j
-
-  first : coordinate_at (to_z w32 c.loop-left.x-bits) file c.loop-left.i ≡ At nx next
-  first = sym c.read_coordinate-a.ensures.value ∙ c.in-At.is
-
-  nx-in : nat_abs nx ≤ largest
-  nx-in = x_near c.loop-left.invariant c.loop-left-test.true first
-
 pub read_coordinate-b-requires : goal.read_coordinate-b-requires
 read_coordinate-b-requires c = c.loop-left.invariant.y_in
 
 pub returns-in_default-b : goal.returns-in_default-b
 returns-in_default-b c = record {
-  value = no_y c.loop-left.invariant c.loop-left-test.true (first (goal.at.returns-in_default-b c).In-At)
+  value = no_y c.loop-left.invariant c.loop-left-test.true (sym c.read_coordinate-a.ensures.value ∙ c.in-At.is)
       (sym c.read_coordinate-b.ensures.value ∙ c.in_default-b.is);
 }
 
--- the second coordinate read
+-- both coordinates read
 module _ (c : In-At-b) where
+  abbrev nx : ℤ
+  nx = c.in-At.nx
+
   abbrev ny : ℤ
   ny = c.in-At-b.ny
 
-  second : coordinate_at (to_z w32 c.loop-left.y-bits) (file c.before.before.before.before) (next c.before.before.before.before) ≡ At ny c.in-At-b.k
+  first : coordinate_at (to_z w32 c.loop-left.x-bits) c.args.file.now c.loop-left.i ≡ At nx c.in-At.j
+  first = sym c.read_coordinate-a.ensures.value ∙ c.in-At.is
+
+  second : coordinate_at (to_z w32 c.loop-left.y-bits) c.args.file.now c.in-At.j ≡ At ny c.in-At-b.k
   second = sym c.read_coordinate-b.ensures.value ∙ c.in-At-b.is
 
-  ny-in : nat_abs ny ≤ largest
-  ny-in = y_near c.loop-left.invariant c.loop-left-test.true (first c.before.before.before.before) second
+  nx-in : nat_abs nx ≤ largest
+  nx-in = x_near c.loop-left.invariant c.loop-left-test.true first
 
-  x_is : to_z w32 (of_z w32 (nx c.before.before.before.before)) ≡ nx c.before.before.before.before
-  x_is = bits_is (nx c.before.before.before.before) (nx-in c.before.before.before.before)
+  ny-in : nat_abs ny ≤ largest
+  ny-in = y_near c.loop-left.invariant c.loop-left-test.true first second
+
+  x_is : to_z w32 (of_z w32 nx) ≡ nx
+  x_is = bits_is nx nx-in
 
   y_is : to_z w32 (of_z w32 ny) ≡ ny
   y_is = bits_is ny ny-in
@@ -72,12 +63,16 @@ module _ (c : In-At-b) where
 pub sum_point-sum-requires : goal.sum_point-sum-requires
 sum_point-sum-requires c =
     let w = c.loop-left.invariant in
-    search (rules, sum_small w, w.x_in, w.y_in, bits_near (nx (goal.at.sum_point-sum-requires c).In-At) (nx-in (goal.at.sum_point-sum-requires c).In-At), bits_near (ny c) (ny-in c))
+    let b = (goal.at.sum_point-sum-requires c).In-At-b in
+    search (rules, sum_small w, w.x_in, w.y_in, bits_near (nx b) (nx-in b), bits_near (ny b) (ny-in b))
 
 pub loop-left-preserved : goal.loop-left-preserved
 loop-left-preserved c =
-    simp (x_is (goal.at.loop-left-preserved c).In-At-b, y_is (goal.at.loop-left-preserved c).In-At-b)
-    (next_point_lem c.loop-left.invariant c.loop-left-test.true (first (goal.at.loop-left-preserved c).In-At) (second (goal.at.loop-left-preserved c).In-At-b) refl (simp (x_is (goal.at.loop-left-preserved c).In-At-b, y_is (goal.at.loop-left-preserved c).In-At-b) at c.sum_point-sum.ensures.value))
+    let b = (goal.at.loop-left-preserved c).In-At-b in
+    simp (x_is b, y_is b)
+    (next_point_lem c.loop-left.invariant c.loop-left-test.true (first b) (second b)
+    refl
+    (simp (x_is b, y_is b) at c.sum_point-sum.ensures.value))
 
 pub sum_closed-requires : goal.sum_closed-requires
 sum_closed-requires c =
@@ -85,4 +80,7 @@ sum_closed-requires c =
     search (rules, sum_small w, w.x_in, w.y_in)
 
 pub returns : goal.returns
-returns c = record { value = points_end c.loop-left.invariant c.loop-left-test.false refl (same w64 c.sum_closed.result c.sum_closed.type_inv ∙ c.sum_closed.ensures.value) }
+returns c = record {
+  value = points_end c.loop-left.invariant c.loop-left-test.false refl
+      (same w64 c.sum_closed.result c.sum_closed.type_inv ∙ c.sum_closed.ensures.value);
+}

@@ -21,10 +21,19 @@ answer c =
     (to_z-of_z w64 c.args.low c.ranges.low))
 
 pub returns-then-e-file : goal.returns-then-e-file
-returns-then-e-file c = record { value = left_over_lem c.args.profile c.args.count c.args.low _ _ c.requires (answer (goal.at.returns-then-e-file c).After-check_layers-c ∙ c.in-End.is) c.if-e-file.true }
+returns-then-e-file c = record {
+  value = left_over_lem c.args.profile c.args.count c.args.low _ _ c.requires
+      (answer (goal.at.returns-then-e-file c).After-check_layers-c ∙ c.in-End.is) c.if-e-file.true;
+}
 
 pub returns-else-e-file : goal.returns-else-e-file
-returns-else-e-file c = record { value = all_passed c.args.profile c.args.count c.args.low _ _ c.requires (answer (goal.at.returns-else-e-file c).After-check_layers-c ∙ c.in-End.is) c.if-e-file.false }
+returns-else-e-file c = record {
+  value = all_passed c.args.profile c.args.count c.args.low _ _ c.requires
+      (answer (goal.at.returns-else-e-file c).After-check_layers-c ∙ c.in-End.is) c.if-e-file.false;
+}
 
 pub returns-in-Refused : goal.returns-in-Refused
-returns-in-Refused c = record { value = layers_stop c.args.profile c.args.count c.args.low _ _ (answer (goal.at.returns-in-Refused c).After-check_layers-c ∙ c.in-Refused.is) }
+returns-in-Refused c = record {
+  value = layers_stop c.args.profile c.args.count c.args.low _ _
+      (answer (goal.at.returns-in-Refused c).After-check_layers-c ∙ c.in-Refused.is);
+}

@@ -1,9 +1,12 @@
 -- `read_coordinate` meets its contract.
 use mathlib.Core.Path.{◌≡◌, sym, ap, ◌∙◌}
 use Prim.Native.Nat.{ℕ, ◌≤◌}
+use mathlib.Core.Bool.{false}
 use native.Mathlib.Omega.{arith}
 use lib.IntN.{ℤ, pos, negsuc, nat_abs, ◌+ℤ◌}
 use mir.Syntax.{w32, w64}
+use mir.Val.{to_z}
+use lib.Signed.{lt_z}
 use Rattle.laws.specs.Machine.{Rd, arg, got, lit, bounded, cast, cast_ok, add, add_ok, lt_true, lt_false}
 use Rattle.mesh.specs.Corners.{largest}
 use Rattle.file_formats.specs.Numbers.{largest_word, unzigzag}
@@ -15,7 +18,7 @@ use Rattle.file_check.specs.declared.Coordinate.TheVariants.{At}
 use Rattle.file_check.proofs.PointSteps.{too_low, too_high, coordinate_in_range, no_number, far, near}
 use borrow.Author.Rules.{rules}
 use Rattle.file_check.proofs.unchecked_position.read_coordinate.Goals as goal
-use Rattle.file_check.proofs.unchecked_position.read_coordinate.Goals.{After-signed_of, Else-z-gt-LARGEST_COORDINATE_64}
+use Rattle.file_check.proofs.unchecked_position.read_coordinate.Goals.{After-signed_of}
 
 pub returns-in_default : goal.returns-in_default
 returns-in_default c = record { value = no_number _ _ _ (sym c.read_number-n.ensures.value ∙ c.in_default.is) }
@@ -48,25 +51,29 @@ pub overflow_add-z : goal.overflow_add-z
 overflow_add-z c = add_ok (before c) (moved c) tt
 
 pub returns-then-z-lt-LEAST_COORDINATE_64 : goal.returns-then-z-lt-LEAST_COORDINATE_64
-returns-then-z-lt-LEAST_COORDINATE_64 c = record { value = far _ _ _ (read (goal.at.returns-then-z-lt-LEAST_COORDINATE_64 c).After-signed_of) (too_low _ (lt_true (z (goal.at.returns-then-z-lt-LEAST_COORDINATE_64 c).After-signed_of) (lit (negsuc 1048575) tt) c.if-z-lt-LEAST_COORDINATE_64.true)) }
+returns-then-z-lt-LEAST_COORDINATE_64 c =
+    let at = (goal.at.returns-then-z-lt-LEAST_COORDINATE_64 c).After-signed_of in
+    record { value = far _ _ _ (read at) (too_low _ (lt_true (z at) (lit (negsuc 1048575) tt) c.if-z-lt-LEAST_COORDINATE_64.true)) }
 
 pub returns-then-z-gt-LARGEST_COORDINATE_64 : goal.returns-then-z-gt-LARGEST_COORDINATE_64
-returns-then-z-gt-LARGEST_COORDINATE_64 c = record { value = far _ _ _ (read (goal.at.returns-then-z-gt-LARGEST_COORDINATE_64 c).After-signed_of) (too_high _ (lt_true (lit (pos 1048576) tt) (z (goal.at.returns-then-z-gt-LARGEST_COORDINATE_64 c).After-signed_of) c.if-z-gt-LARGEST_COORDINATE_64.true)) }
+returns-then-z-gt-LARGEST_COORDINATE_64 c =
+    let at = (goal.at.returns-then-z-gt-LARGEST_COORDINATE_64 c).After-signed_of in
+    record { value = far _ _ _ (read at) (too_high _ (lt_true (lit (pos 1048576) tt) (z at) c.if-z-gt-LARGEST_COORDINATE_64.true)) }
 
--- the coordinate is in the range
-within : (c : Else-z-gt-LARGEST_COORDINATE_64)
-    →
-    nat_abs (c.args.before +ℤ unzigzag (m c.before.before)) ≤ largest
-within c =
-    coordinate_in_range _
-    (lt_false (z c.before.before) (lit (negsuc 1048575) tt) c.if-z-lt-LEAST_COORDINATE_64.false)
-    (lt_false (lit (pos 1048576) tt) (z c.before.before) c.if-z-gt-LARGEST_COORDINATE_64.false)
+-- the coordinate, which the two tests have passed
+within : {y : ℤ} (r : Rd w64 y 2148532224) → lt_z (to_z w64 r.n) (negsuc 1048575) ≡ false → lt_z (pos 1048576) (to_z w64 r.n) ≡ false
+    → nat_abs y ≤ largest
+within r low high = coordinate_in_range _ (lt_false r (lit (negsuc 1048575) tt) low) (lt_false (lit (pos 1048576) tt) r high)
 
 pub overflow_cast-result : goal.overflow_cast-result
-overflow_cast-result c = cast_ok (bounded (z (goal.at.overflow_cast-result c).After-signed_of) (within c)) tt
+overflow_cast-result c =
+    let y = z (goal.at.overflow_cast-result c).After-signed_of in
+    cast_ok (bounded y (within y c.if-z-lt-LEAST_COORDINATE_64.false c.if-z-gt-LARGEST_COORDINATE_64.false)) tt
 
 pub returns : goal.returns
-returns c = record {
-  value = ap (λ (y : ℤ). At y (next (goal.at.returns c).After-signed_of)) (cast {w' = w32} (bounded (z (goal.at.returns c).After-signed_of) (within c)) tt).is
-      ∙ near _ _ _ (read (goal.at.returns c).After-signed_of) (within c);
-}
+returns c =
+    let at = (goal.at.returns c).After-signed_of in
+    let y = z at in
+    let k = within y c.if-z-lt-LEAST_COORDINATE_64.false c.if-z-gt-LARGEST_COORDINATE_64.false in record {
+      value = ap (λ (y : ℤ). At y (next at)) (cast {w' = w32} (bounded y k) tt).is ∙ near _ _ _ (read at) k;
+    }

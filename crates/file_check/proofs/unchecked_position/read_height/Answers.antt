@@ -31,10 +31,13 @@ module _ (c : After-signed_of-h) where
   height = got c.signed_of-h.type_inv c.signed_of-h.ensures.value (unzigzag_abs m 2147483648 (omega (arith, (took read).low)))
 
 pub returns-then-low-h : goal.returns-then-low-h
-returns-then-low-h c = record {
-  value = ap (λ (z : ℤ). Above z c.in-Value.next) (height (goal.at.returns-then-low-h c).After-signed_of-h).is
-      ∙ above _ _ _ (read (goal.at.returns-then-low-h c).After-signed_of-h) (lt_is (fit c.ranges.low) (height (goal.at.returns-then-low-h c).After-signed_of-h) c.if-low-h.true);
-}
+returns-then-low-h c =
+    let at = (goal.at.returns-then-low-h c).After-signed_of-h in record {
+      value = ap (λ (z : ℤ). Above z c.in-Value.next) (height at).is
+          ∙ above _ _ _ (read at) (lt_is (fit c.ranges.low) (height at) c.if-low-h.true);
+    }
 
 pub returns : goal.returns
-returns c = record { value = not_above_lem _ _ _ (read (goal.at.returns c).After-signed_of-h) (lt_is (fit c.ranges.low) (height (goal.at.returns c).After-signed_of-h) c.if-low-h.false) }
+returns c =
+    let at = (goal.at.returns c).After-signed_of-h in
+    record { value = not_above_lem _ _ _ (read at) (lt_is (fit c.ranges.low) (height at) c.if-low-h.false) }
