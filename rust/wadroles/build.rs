@@ -1,8 +1,8 @@
 //! Links the proved library, `libwadroles.a`.
 //!
-//! The archive is taken from `target/staticlib` at the root of the repository, or from the
-//! directory that the environment variable `WADROLES_LIB_DIR` names by its absolute path. The tests
-//! find it by `env!("WADROLES_ARCHIVE")`, to link it to the C example.
+//! The archive is taken from `crates/wadroles/out` in the repository, where `rt lib` writes it, or
+//! from the directory that the environment variable `WADROLES_LIB_DIR` names by its absolute path. The
+//! tests find it by `env!("WADROLES_ARCHIVE")`, to link it to the C example.
 
 use std::env;
 use std::path::{Path, PathBuf};
@@ -18,8 +18,8 @@ fn main() {
 
     if !archive.is_file() {
         println!(
-            "cargo::error=there is no archive {}: make it with `rt staticlib wadroles` \
-             at the root of the repository, or name its directory in {DIRECTORY_VARIABLE}",
+            "cargo::error=there is no archive {}: make it with `rt lib` in crates/wadroles, \
+             or name its directory in {DIRECTORY_VARIABLE}",
             archive.display()
         );
         exit(1);
@@ -32,7 +32,7 @@ fn main() {
 fn archive_directory() -> PathBuf {
     match env::var_os(DIRECTORY_VARIABLE) {
         Some(directory) => PathBuf::from(directory),
-        None => repository_root().join("target").join("staticlib"),
+        None => repository_root().join("crates/wadroles/out"),
     }
 }
 

@@ -1,6 +1,7 @@
-//! Tests of the listing program, `target/bin/listing`, against the oracle and against worked cases.
+//! Tests of the listing program, `crates/listing/out/listing`, against the oracle and against worked
+//! cases.
 //!
-//! `rt check listing` makes the program. The random test prints its seed, and a failure names seed
+//! `rt ci` makes the program, and so does `rt run` in `crates/listing`. The random test prints its seed, and a failure names seed
 //! and round. The environment variable `WADROLES_SEED` gives another seed.
 
 mod program;

@@ -2,13 +2,13 @@ use std::io::Write;
 use std::path::{Path, PathBuf};
 use std::process::{Command, Stdio};
 
-/// The program, two directories above this package.
+/// The program, in its crate two directories above this package.
 fn path() -> PathBuf {
     let root = Path::new(env!("CARGO_MANIFEST_DIR")).join("../..");
-    let path = root.join("target/bin/listing");
+    let path = root.join("crates/listing/out/listing");
     assert!(
         path.is_file(),
-        "there is no {}: make it with `rt check listing` at the root of the repository",
+        "there is no {}: make it with `rt run` in crates/listing",
         path.display()
     );
     path

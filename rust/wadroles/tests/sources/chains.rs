@@ -1,5 +1,6 @@
-//! A place that lies far back in a proof has a name: no chain of more than four `.before` outside a
-//! `let`, or outside a definition whose whole value is the place, from another place or none.
+//! A fact that lies deep in a proof has a name: no chain of more than four steps without one outside a
+//! `let`, or outside a definition whose whole value is the fact. Steps without a name are `.before`, one
+//! step back in a proof that walks the code, and fields by their place, as `.0` and `.1`.
 
 use crate::tree;
 
@@ -25,19 +26,40 @@ fn paragraphs(text: &str) -> Vec<Vec<Word<'_>>> {
     all
 }
 
-/// A word without the parentheses and commas that it touches, and these.
+/// A word without the parentheses, commas and semicolons that it touches, and these.
 fn parts(word: &str) -> impl Iterator<Item = &str> {
-    word.split_inclusive(['(', ')', ','])
+    word.split_inclusive(['(', ')', ',', ';'])
         .flat_map(|part| match part.char_indices().next_back() {
-            Some((at, '(' | ')' | ',')) => [&part[..at], &part[at..]],
+            Some((at, '(' | ')' | ',' | ';')) => [&part[..at], &part[at..]],
             _ => [part, ""],
         })
         .filter(|part| !part.is_empty())
 }
 
-/// Where the chain between these words stands: in the value of a `let`, or as the value of a name,
-/// which may have one parameter, the place that the chain begins at.
-fn is_named(before: &[Word<'_>], after: &[Word<'_>]) -> bool {
+fn is_unnamed(step: &str) -> bool {
+    step == "before" || !step.is_empty() && step.chars().all(|c| c.is_ascii_digit())
+}
+
+/// The lengths of the chains without a name in a path, and whether each is the end of the path.
+fn chains(path: &str) -> Vec<(usize, bool)> {
+    let steps: Vec<_> = path.split('.').skip(1).collect();
+    let mut found = Vec::new();
+    let mut at = 0;
+    while at < steps.len() {
+        let count = steps[at..].iter().take_while(|step| is_unnamed(step));
+        let count = count.count();
+        at += count;
+        if 0 < count {
+            found.push((count, at == steps.len()));
+        }
+        at += 1;
+    }
+    found
+}
+
+/// Whether the path between these words has a name: as the value of a `let`, or, where it ends in the
+/// chain, as the value of a definition, which may have one parameter, what the path begins at.
+fn is_named(before: &[Word<'_>], path: &str, is_end: bool, after: &[Word<'_>]) -> bool {
     let bound = before
         .iter()
         .rev()
@@ -45,34 +67,26 @@ fn is_named(before: &[Word<'_>], after: &[Word<'_>]) -> bool {
     if bound.is_some_and(|(_, word)| *word == "let") {
         return true;
     }
-    let fields = before
-        .iter()
-        .rev()
-        .take_while(|(_, word)| word.starts_with('.'));
-    let head = before.len() - fields.count();
-    match before[..head] {
-        [.., (above, _), (line, _), (_, from), (_, "="), (_, first)] if from == first => {
-            above < line && after.is_empty()
+    let first = path.split('.').next();
+    is_end
+        && after.is_empty()
+        && match *before {
+            [.., (above, _), (line, _), (_, from), (_, "=")] if first == Some(from) => above < line,
+            [.., (above, _), (line, _), (_, "=")] => above < line,
+            _ => false,
         }
-        [.., (above, _), (line, _), (_, "="), (_, _)] => above < line && after.is_empty(),
-        _ => false,
-    }
 }
 
 /// The lines in which an unnamed chain is too long, each with the length of the first.
 fn long_chains(text: &str) -> Vec<(usize, usize)> {
     let mut found = Vec::new();
     for words in paragraphs(text) {
-        let mut at = 0;
-        while at < words.len() {
-            let steps = words[at..]
-                .iter()
-                .take_while(|(_, word)| *word == ".before");
-            let steps = steps.count();
-            if MOST_STEPS < steps && !is_named(&words[..at], &words[at + steps..]) {
-                found.push((words[at].0, steps));
-            }
-            at += steps.max(1);
+        for (at, &(line, path)) in words.iter().enumerate() {
+            let long = chains(path).into_iter().find(|&(count, is_end)| {
+                let (before, after) = (&words[..at], &words[at + 1..]);
+                MOST_STEPS < count && !is_named(before, path, is_end, after)
+            });
+            found.extend(long.map(|(count, _)| (line, count)));
         }
     }
     found.dedup_by_key(|(line, _)| *line);
@@ -84,7 +98,7 @@ fn every_far_place_has_a_name() {
     let mut faults = Vec::new();
     for path in tree::files(".antt") {
         for (line, steps) in long_chains(&tree::read(&path)) {
-            faults.push(format!("{path}:{line}: {steps} times .before"));
+            faults.push(format!("{path}:{line}: {steps} steps without a name"));
         }
     }
     tree::assert_none(&faults);
@@ -94,21 +108,25 @@ fn every_far_place_has_a_name() {
 fn chains_are_seen_where_they_have_no_name() {
     let text = "\
 returns c =
-    let at-test = c .before .before .before .before .before
-        .before .before in
-    let s = sweepOf (at-test .before .before .before .before .before .args) in
-    told (c .before .before .before .before .ok) (c .before .before .before .before
-    .before .ok) (c .before .before .before .before .before)
+    let at-test = c.before.before.before.before.before in
+    let s = sweep_of (at-test.1.1.1.1.1.0.args) in
+    told (c.before.before.before.before.ok) (c.before.before.before.before.before.ok)
+    (c.deal.auto.1.1.1.1.0)
 
-  abbrev at-found : tie.After-f
-  at-found = c .given .before .before .before .before .before
+  abbrev at-found : goal.found
+  at-found = c.given.before.before.before.before.before
 
-abbrev startOf : tie.After-f -> tie.Start
-startOf at = at .before .before .before .before .before
+abbrev start_of : goal.found -> goal.start
+start_of at = at.1.1.1.1.1.0
 
-add-c c = c .before .before .before .before .before .inv
+add-c c = c.before.before.before.before.before.inv
 
-held = c .before .before .before .before .before .ok
+held = c.loop-i.invariant.1.1.1.1.0.ok
+
+short c = record { least = c.loop-i.invariant.1.1.1.0.least; most = c.loop-i.invariant.1.1.1.1.1; }
 ";
-    assert_eq!(long_chains(text), [(5, 5), (6, 5), (14, 5), (16, 5)]);
+    assert_eq!(
+        long_chains(text),
+        [(4, 5), (5, 5), (13, 5), (15, 5), (17, 5)]
+    );
 }

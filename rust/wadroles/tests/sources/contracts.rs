@@ -1,9 +1,9 @@
-//! Contracts of public operations: every table that a function may write stands in its contract at
-//! exit, and none asks anything of its caller.
+//! Contracts of public operations: every table that a function may write stands in its contract as
+//! the function leaves it, and none asks anything of its caller.
 //!
-//! This sees the text of the contract only: that `table .exit` is written there for each parameter
+//! This sees the text of the contract only: that `table.new` is written there for each parameter
 //! whose type is `&mut`. It does not see whether the definition that is handed the table says
-//! anything of it; the law of the only outcome (`only-outcome`, mesh/OperationLaws) and the edits
+//! anything of it; the law of the only outcome (`only_outcome`, mesh/OperationLaws) and the edits
 //! do. Nor does it see a `&mut` inside a struct, which no operation has.
 
 use crate::tree;
@@ -86,6 +86,14 @@ fn words(text: &str) -> impl Iterator<Item = &str> {
         .filter(|word| !word.is_empty())
 }
 
+/// Whether a word of a contract is a table as the function leaves it, or a part of it.
+fn is_left(word: &str, table: &str) -> bool {
+    let field = word
+        .strip_prefix(table)
+        .and_then(|rest| rest.strip_prefix(".new"));
+    field.is_some_and(|rest| rest.is_empty() || rest.starts_with('.'))
+}
+
 /// What is amiss in the contracts of a module's public functions.
 fn faults(source: &str) -> Vec<String> {
     let mut faults = Vec::new();
@@ -97,8 +105,8 @@ fn faults(source: &str) -> Vec<String> {
     {
         let words: Vec<_> = words(contract).collect();
         for table in lent {
-            if !words.windows(2).any(|pair| pair == [table, ".exit"]) {
-                faults.push(format!("{name} says nothing of {table} at exit"));
+            if !words.iter().any(|word| is_left(word, table)) {
+                faults.push(format!("{name} says nothing of {table} as it leaves it"));
             }
         }
         if words.contains(&"requires") {
@@ -109,7 +117,7 @@ fn faults(source: &str) -> Vec<String> {
 }
 
 #[test]
-fn every_table_of_an_operation_stands_in_its_contract_at_exit() {
+fn every_table_of_an_operation_stands_in_its_contract_as_it_is_left() {
     let mut all = Vec::new();
     for (name, expected) in OPERATIONS {
         let path = format!("crates/{name}/src/lib.rt");
@@ -131,8 +139,8 @@ fn every_table_of_an_operation_stands_in_its_contract_at_exit() {
 fn a_forgotten_table_and_a_requirement_are_seen() {
     let source = "
 pub fn good<'a>(file: &[u8], points: &'a mut [i32], ends: &mut [u32]) -> bool
-    ensures { λ r. ⌜ Reads (file .entry .now) (points .entry .now) r
-        (points .exit .now) (now (ends .exit)) ⌝ }
+    ensures outcome { Reads file.now points.old result
+        points.new (ends.new) }
 {
     points[0] = 0;
 }
@@ -141,14 +149,14 @@ pub fn forgetful(
     points: &mut [i32],
     ends: &mut [u32],
 ) -> bool
-    ensures { λ r. ⌜ Reads (ends .entry .now) r (now (points .exit)) ⌝ }
+    ensures outcome { Reads ends.old ends.newer result (points.new.items) }
 {
     ends[0] = 0;
 }
 
 pub extern \"C\" fn asking(out: &mut [u64; 4]) -> u32
-    requires { ⌜ Fits (out .entry .now) ⌝ }
-    ensures { λ r. ⌜ Fills r (out .exit .now) ⌝ }
+    requires { Fits out.old }
+    ensures outcome { Fills result out.new }
 {
     0
 }
@@ -158,7 +166,7 @@ pub extern \"C\" fn asking(out: &mut [u64; 4]) -> u32
     assert_eq!(
         faults(source),
         [
-            "forgetful says nothing of ends at exit",
+            "forgetful says nothing of ends as it leaves it",
             "asking asks something of its caller"
         ]
     );

@@ -3,14 +3,16 @@
 
 use crate::tree;
 
-/// The file of the repository that a line uses, if it holds laws.
+/// The file of the repository that a line uses, if it holds laws. The library's are under Rattle.std.
 fn law_file(line: &str) -> Option<&str> {
-    let (before, path) = line.split_once("use Rattle·")?;
+    let (before, path) = line.split_once("use Rattle.")?;
     let words = ["ghost", "pub", "unfoldable"];
     let path = path.split(".{").next()?.trim_end_matches(';');
-    let file = path.split_whitespace().next()?.rsplit('.').next()?;
+    let mut parts = path.split_whitespace().next()?.split('.');
+    let is_ours = parts.next()? != "std";
+    let file = parts.next_back()?;
     let is_use = before.split_whitespace().all(|word| words.contains(&word));
-    (is_use && file.ends_with("Laws")).then_some(file)
+    (is_use && is_ours && file.ends_with("Laws")).then_some(file)
 }
 
 /// The lines of a text that use a file of laws.
@@ -68,19 +70,25 @@ fn uses_of_laws_are_seen() {
     let text = "\
 -- Internal: see AreaLaws.
 use mir.ValLaws.{toZ-ofZ}
-use Rattle·mesh.specs.Tests.{size}
-unfoldable pub use Rattle·file_formats.specs.PositionLaws.{ParsedAt}
--- use Rattle·mesh.specs.TestLaws.{Paired}
-ghost use Rattle·mesh·specs.specs.OperationLaws.{Nowhere};
+use Rattle.std.specs.ListLaws.{length}
+use Rattle.mesh.specs.Tests.{size}
+unfoldable pub use Rattle.file_formats.specs.PositionLaws.{ParsedAt}
+-- use Rattle.mesh.specs.TestLaws.{Paired}
+ghost use Rattle.mesh.specs.OperationLaws.{Nowhere};
+use Rattle.mesh.specs.RefusalLaws as laws
 pub mod AreaLaws
 ";
     assert_eq!(
         uses_of_laws(text),
-        [(4, "PositionLaws"), (6, "OperationLaws")]
+        [
+            (5, "PositionLaws"),
+            (7, "OperationLaws"),
+            (8, "RefusalLaws")
+        ]
     );
     assert!(opens_as_internal(text));
     assert!(is_definition_file("crates/mesh/specs/Tests.antt"));
     assert!(!is_definition_file("crates/mesh/specs/TestLaws.antt"));
     assert!(!is_definition_file("crates/cut/specs/Worked.antt"));
-    assert!(!is_definition_file("crates/cut/proofs/cut/Proof.antt"));
+    assert!(!is_definition_file("crates/cut/proofs/cut/Answers.antt"));
 }

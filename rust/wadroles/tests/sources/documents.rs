@@ -252,12 +252,22 @@ impl Sources {
         self.definitions.contains_key(place) || self.code.contains_key(place)
     }
 
+    /// Whether a path is of a folder `target`, or of the folder `out` of a crate.
+    fn is_made(&self, path: &str) -> bool {
+        let holder = match path.split_once("/out/") {
+            Some((holder, _)) => Some(holder),
+            None => path.strip_suffix("/out"),
+        };
+        path.starts_with("target/")
+            || holder.is_some_and(|it| it.starts_with("crates/") && self.paths.contains(it))
+    }
+
     /// A path, from the root or the end of one, or a word of the sources. Anything else in
     /// backquotes, such as an expression, is let pass, and so is what a build makes.
     fn has_word(&self, text: &str) -> bool {
         let end = format!("/{}", text.trim_end_matches('/'));
         let is_word = words(text).next().is_some_and(|word| word == text);
-        if text.starts_with("target/") || !is_path(text) && !is_word {
+        if self.is_made(text) || !is_path(text) && !is_word {
             return true;
         }
         self.words.contains(text)
@@ -268,12 +278,15 @@ impl Sources {
     }
 }
 
+/// Folders that a build makes, and what git keeps.
+const MADE: [&str; 3] = [".git", "target", "out"];
+
 fn gather(directory: &Path, found: &mut BTreeSet<String>) {
     for entry in fs::read_dir(directory).expect("a directory is read") {
         let path = entry.expect("an entry is read").path();
         let below = path.strip_prefix(tree::root()).expect("below the root");
         let name = below.to_string_lossy().into_owned();
-        if below.ends_with(".git") || below.ends_with("target") {
+        if MADE.iter().any(|made| below.ends_with(made)) {
             continue;
         }
         if path.is_dir() {
@@ -283,9 +296,14 @@ fn gather(directory: &Path, found: &mut BTreeSet<String>) {
     }
 }
 
+/// The words of a text. A prime belongs to the word before it.
 fn words(text: &str) -> impl Iterator<Item = String> + '_ {
-    text.split(|c: char| !c.is_alphanumeric() && !"_-′".contains(c))
-        .map(|word| word.trim_matches('-').to_owned())
+    text.split(|c: char| !c.is_alphanumeric() && !"_-'".contains(c))
+        .map(|word| {
+            word.trim_end_matches('-')
+                .trim_start_matches(['-', '\''])
+                .to_owned()
+        })
 }
 
 /// Whether a line of a file of definitions declares a name: a type follows, or it is a record's or
@@ -569,19 +587,19 @@ fn no_line_of_a_document_is_too_long() {
 
 fn made_up() -> Sources {
     let mut sources = Sources::default();
-    let text = "use Rattle·mesh.specs.Tests.{size}\nabbrev pub room : ℕ\nroom = used\n\
+    let text = "use Rattle.mesh.specs.Tests.{size}\nabbrev pub room : ℕ\nroom = used\n\
                 pub record Long (n : ℕ) : Type 0 where\n  pub fits : Bool\n";
     sources
         .definitions
         .insert("cut/Cut".to_owned(), text.to_owned());
-    let laws = "pub room-large : T\n    size : T\n";
+    let laws = "pub room_large : T\n    size : T\n";
     sources
         .definitions
         .insert("cut/CutLaws".to_owned(), laws.to_owned());
     let code = "pub enum Sliced {\npub extern \"C\" fn cut(n: usize)\n    trace(n);\n";
     sources.code.insert("cut".to_owned(), code.to_owned());
     sources.edits.insert("cut/room_taken".to_owned());
-    sources.words.extend(words("let out = room;"));
+    sources.words.extend(words("let out = room room';"));
     for path in ["crates/cut", "docs/OTHER.md", "rust/tests/lines.rs"] {
         sources.paths.insert(path.to_owned());
     }
@@ -648,13 +666,13 @@ Definitions: cut/Cut. Laws: cut/CutLaws, cut/LostLaws. Code: cut.
 
 | Rule | Definition | Proved by | Edit |
 |---|---|---|---|
-| CUT-1 | `room`, `Long`.`fits` | `room-large`; `cut` | cut/room_taken |
+| CUT-1 | `room`, `Long`.`fits` | `room_large`; `cut` | cut/room_taken |
 | CUT-2 | `used` | `trace` | cut/room_lost |
 | CUT-3 | `size` (cut/Cut); `room` (cut/Cut) | `size` (cut/CutLaws), `Sliced` (cut) | old/Cut |
 
 | What | In |
 |---|---|
-| `room`, `room-large` | cut/Cut |
+| `room`, `room_large` | cut/Cut |
 
 ## Another section
 
@@ -671,7 +689,7 @@ Definitions: cut/Cut. Laws: cut/CutLaws, cut/LostLaws. Code: cut.
             "no file or edit cut/room_lost",
             "no size in cut/Cut",
             "no file or edit old/Cut",
-            "no room-large in cut/Cut",
+            "no room_large in cut/Cut",
             "no such name or file lost",
             "no such name or file rust/lost.rs",
             "no file or crate cutter",
@@ -694,7 +712,8 @@ fn an_edit_that_is_not_named_is_seen() {
 #[test]
 fn what_documents_cite_is_sought() {
     let text = "\
-Read `docs/OTHER.md` and `docs/LOST.md`, `lines.rs` and `lost.rs`; `out` (new) and `lost`, but
+Read `docs/OTHER.md` and `docs/LOST.md`, `lines.rs` and `lost.rs`; `out` (new) and `lost`, made
+`crates/cut/out/libcut.a` and `crates/lost/out/cut.h`, `room'` and `used'`, but
 not `cargo run -p lost`; cut/Cut, cut/Lost and the edits cut/room_taken, cut/room_lost;
 `room` (cut/Cut), `used` (cut/Cut), `room` (cut_old).
 
@@ -710,6 +729,8 @@ See [it](OTHER.md#part), [that](../rust/lost.rs) and [more](https://lost).
             "no such name or file docs/LOST.md",
             "no such name or file lost.rs",
             "no such name or file lost",
+            "no such name or file crates/lost/out/cut.h",
+            "no such name or file used'",
             "no used in cut/Cut",
             "no file or crate cut_old",
             "no file or edit cut/Lost",

@@ -31,12 +31,13 @@ const CHECKING: [&str; 3] = ["check_mesh", "check_pairing", "check_order"];
 
 type Leaning<'a> = BTreeMap<&'a str, Vec<&'a str>>;
 
-/// What each crate leans on directly, by `crates.txt`.
+/// What each crate leans on directly, by `crates.txt`: its name, maybe a word for what it is made into,
+/// a colon and the names of others.
 fn leaning(text: &str) -> Leaning<'_> {
     text.lines()
-        .filter(|line| !line.starts_with('#'))
-        .filter_map(|line| line.split_once(':'))
-        .map(|(name, others)| (name.trim(), others.split_whitespace().collect()))
+        .filter_map(|line| line.split('#').next()?.split_once(':'))
+        .filter_map(|(name, others)| Some((name.split_whitespace().next()?, others)))
+        .map(|(name, others)| (name, others.split_whitespace().collect()))
         .collect()
 }
 
@@ -82,7 +83,7 @@ fn cutting_leans_on_no_checking() {
 #[test]
 fn leaning_through_another_is_seen() {
     let text = "# names\nmesh:\ncheck_order: mesh\ncheck_mesh: mesh check_order\ncut_trace: mesh check_order\n\
-                section: mesh\nall_layers: section cut_trace\n";
+                section: mesh # check_mesh\nall_layers staticlib: section cut_trace\n";
     assert_eq!(
         faults(text),
         [

@@ -25,6 +25,6 @@ fn no_line_is_too_long() {
 
 #[test]
 fn a_long_line_is_seen_and_characters_are_counted() {
-    let text = format!("short\n{}\n{}\n", "⌜".repeat(160), "a".repeat(161));
+    let text = format!("short\n{}\n{}\n", "◌".repeat(160), "a".repeat(161));
     assert_eq!(long_lines(&text), [(3, 161)]);
 }

@@ -86,9 +86,9 @@ fn each_fault_is_seen() {
 // requires { nothing } of 98304
 pub const MOST_POINTS: usize = 98304;
 fn few(n: usize) -> bool
-    requires { ⌜ n < 196608 ⌝ }
-    ensures { λ r. ⌜ r ≡ leb n 98304 ⌝ }
-    ensures value { λ r. ⌜ r ≡ leb n mostPoints ⌝ }
+    requires few { n < 196608 }
+    ensures { result ≡ leb n 98304 }
+    ensures value { result ≡ leb n most_points }
 {
     n <= 983040
 }

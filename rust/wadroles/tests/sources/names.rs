@@ -1,23 +1,27 @@
 //! One name, one thing: an enum, a struct, a record, a data type, a function of the code and a
-//! definition of `specs` outside files of laws and of worked values are each defined once.
+//! definition of `specs` outside files of laws and of worked values are each defined once. Only a
+//! function has the name of a definition that it computes, and its contract says so.
 
 use crate::definitions::is_definition_file;
 use crate::tree;
 use std::collections::BTreeMap;
 
 /// Names that are defined twice, and why.
-const TWICE: [(&str, &str); 9] = [
-    ("beyond", COMPUTES),
-    ("higher", COMPUTES),
-    ("limited", COMPUTES),
-    ("lower", COMPUTES),
+const TWICE: [(&str, &str); 11] = [
+    ("beyond", APART),
+    ("contour_area", COMPUTES),
+    ("contour_part", APART),
+    ("edge_counts", COMPUTES),
+    ("link_of", APART),
     ("main", "each program has one"),
-    ("rounded", COMPUTES),
+    ("prior_end", COMPUTES),
+    ("signed_word", APART),
     ("successor", COMPUTES),
     ("trace", COMPUTES),
     ("walk", COMPUTES),
 ];
-const COMPUTES: &str = "the function computes the definition";
+const COMPUTES: &str = "the function computes it, and its contract says so by another definition";
+const APART: &str = "two things, of crates of which neither uses the other's";
 
 /// What a name is defined as.
 #[derive(Clone, Copy, PartialEq, Eq, Debug)]
@@ -89,19 +93,66 @@ fn items<'a>(path: &str, text: &'a str) -> Vec<Item<'a>> {
     items
 }
 
-/// The names that more than one item has, each with its places.
+/// What a file of code calls a definition of the file of definitions at a path, if it uses it.
+fn used_as<'a>(code: &'a str, path: &str, name: &str) -> Option<&'a str> {
+    let parts: Vec<_> = path.split('/').collect();
+    let ["crates", holder, "specs", file] = parts[..] else {
+        return None;
+    };
+    let file = format!(
+        "Rattle.{holder}.specs.{}.{{",
+        file.trim_end_matches(".antt")
+    );
+    code.split("ghost use ").skip(1).find_map(|text| {
+        let (names, _) = text.strip_prefix(&file)?.split_once('}')?;
+        let mut names = names.split(',').map(str::trim);
+        names.find_map(|used| match used.split_once(" as ") {
+            Some((first, other)) => (first == name).then_some(other),
+            None => (used == name).then_some(used),
+        })
+    })
+}
+
+/// The promises of a function of a file of code, from its first `ensures` to its body.
+fn promises<'a>(code: &'a str, name: &str) -> Option<&'a str> {
+    let (_, text) = code.split_once(&format!("fn {name}("))?;
+    let (contract, _) = text.split_once("\n{")?;
+    let at = contract.find("ensures")?;
+    Some(&contract[at..])
+}
+
+/// Whether a function's contract says that the function computes a definition of the same name.
+fn computes(code: &str, path: &str, name: &str) -> bool {
+    let is_part = |c: char| c.is_alphanumeric() || "_'·".contains(c);
+    used_as(code, path, name).is_some_and(|word| {
+        promises(code, name).is_some_and(|text| text.split(|c| !is_part(c)).any(|it| it == word))
+    })
+}
+
+/// The names that more than one item has, each with its places, but for a function and the definition
+/// that it computes.
 fn twice(files: &[(String, String)]) -> BTreeMap<&str, Vec<String>> {
-    let mut places: BTreeMap<&str, Vec<String>> = BTreeMap::new();
+    let mut found: BTreeMap<&str, Vec<(&str, &str, usize, Kind)>> = BTreeMap::new();
     for (path, text) in files {
-        for (line, _, name) in items(path, text) {
-            places
-                .entry(name)
-                .or_default()
-                .push(format!("{path}:{line}"));
+        for (line, kind, name) in items(path, text) {
+            let all = found.entry(name).or_default();
+            all.push((path, text, line, kind));
         }
     }
-    places.retain(|_, all| 1 < all.len());
-    places
+    found.retain(|name, all| {
+        all.sort_by_key(|&(.., kind)| kind == Kind::Definition);
+        match all[..] {
+            [(_, code, _, Kind::Function), (path, _, _, Kind::Definition)] => {
+                !computes(code, path, name)
+            }
+            _ => 1 < all.len(),
+        }
+    });
+    let place = |(path, _, line, _): (&str, &str, usize, Kind)| format!("{path}:{line}");
+    found
+        .into_iter()
+        .map(|(name, all)| (name, all.into_iter().map(place).collect()))
+        .collect()
 }
 
 fn sources() -> Vec<(String, String)> {
@@ -137,12 +188,12 @@ fn every_exception_is_needed() {
 
 const DEFINITIONS: &str = "\
 -- record Said : in a comment
-use lib.ListN.{length}
+use Rattle.std.specs.Prelude.{length}
 pub record Layer : Type 0 where
   pub height : ℤ
 
 abbrev pub first : List ℕ → ℕ
-first r = getD r 0 0
+first r = get_or r 0 0
 
 module _ (m : Mesh)
     (h : ℤ) where
@@ -225,6 +276,31 @@ fn a_name_defined_twice_is_seen() {
     assert_eq!(seen, [("Place", 2), ("walk", 2)]);
     assert_eq!(
         twice["walk"],
-        ["crates/a/specs/A.antt:1", "crates/b/src/lib.rt:4"]
+        ["crates/b/src/lib.rt:4", "crates/a/specs/A.antt:1"]
     );
+}
+
+#[test]
+fn a_function_has_the_name_of_what_it_computes() {
+    let definition = "pub few : ℕ → Bool\nfew n = n < 3\n";
+    let function = |import: &str, clause: &str| {
+        format!("ghost use Rattle.a.specs.{import};\nfn few(n: u8) -> bool\n    {clause}\n{{\n    few(n)\n}}\n")
+    };
+    let seen = |import: &str, clause: &str| {
+        let file = |path: &str, text: String| (path.to_owned(), text);
+        let code = file("crates/b/src/lib.rt", function(import, clause));
+        let files = [file("crates/a/specs/A.antt", definition.to_owned()), code];
+        !twice(&files).is_empty()
+    };
+    let says = "ensures value { result ≡ few n }";
+    assert!(!seen("A.{more, few}", says));
+    assert!(!seen(
+        "A.{few as A·few}",
+        "ensures value { result ≡ A·few n }"
+    ));
+    assert!(seen("A.{more}", says));
+    assert!(seen("B.{few}", says));
+    assert!(seen("A.{few as A·few}", says));
+    assert!(seen("A.{few}", "ensures value { result ≡ fewer n }"));
+    assert!(seen("A.{few}", "requires { few n }"));
 }

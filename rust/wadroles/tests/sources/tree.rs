@@ -17,7 +17,8 @@ pub fn read(path: &str) -> String {
     fs::read_to_string(root().join(path)).unwrap_or_else(|error| panic!("{path}: {error}"))
 }
 
-/// The files under `crates` whose names end so, named from the root, in order.
+/// The files under `crates` whose names end so, named from the root, in order; none of those that the
+/// toolchain makes in `out`.
 pub fn files(ending: &str) -> Vec<String> {
     let mut found = Vec::new();
     gather(&root().join("crates"), ending, &mut found);
@@ -29,6 +30,9 @@ pub fn files(ending: &str) -> Vec<String> {
 fn gather(directory: &Path, ending: &str, found: &mut Vec<String>) {
     for entry in fs::read_dir(directory).expect("a directory is read") {
         let path = entry.expect("an entry is read").path();
+        if path.ends_with("out") {
+            continue;
+        }
         if path.is_dir() {
             gather(&path, ending, found);
         } else if path.to_string_lossy().ends_with(ending) {
