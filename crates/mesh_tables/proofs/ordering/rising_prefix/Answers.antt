@@ -16,7 +16,10 @@ pub goes_on-requires : goal.goes_on-requires
 goes_on-requires c = rising_of _ _ c.loop-m.m c.loop-m.invariant.1
 
 pub returns-then-not-goes_on : goal.returns-then-not-goes_on
-returns-then-not-goes_on c = record { value = risen_is _ _ c.loop-m.m c.loop-m-test.true c.loop-m.invariant.1 (sym c.goes_on.ensures.value ∙ not-true _ c.if-not-goes_on.true-raw) }
+returns-then-not-goes_on c = record {
+  value = risen_is _ _ c.loop-m.m c.loop-m-test.true c.loop-m.invariant.1
+      (sym c.goes_on.ensures.value ∙ not-true _ c.if-not-goes_on.true-raw);
+}
 
 pub loop-m-preserved : goal.loop-m-preserved
 loop-m-preserved c =

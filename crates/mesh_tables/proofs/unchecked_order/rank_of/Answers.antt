@@ -25,4 +25,5 @@ loop-u-preserved c =
 pub returns : goal.returns
 returns c =
     let a = c.args in
-    let e : c.loop-u.u ≡ vertex_count a.coords.now = omega (arith, c.loop-u-test.false) in record { value = c.loop-u.invariant.2 ∙ ap (λ (n : ℕ). count n (λ w. before a.coords.now w a.v)) e }
+    let e : c.loop-u.u ≡ vertex_count a.coords.now = omega (arith, c.loop-u-test.false) in
+    record { value = c.loop-u.invariant.2 ∙ ap (λ (n : ℕ). count n (λ w. before a.coords.now w a.v)) e }

@@ -13,4 +13,6 @@ pub returns-then-corners-d-2 : goal.returns-then-corners-d-2
 returns-then-corners-d-2 c = record { sound = λ e. absurd (clash e refl) }
 
 pub returns : goal.returns
-returns c = record { sound = λ e. meets_of _ _ _ _ _ _ c.wide-d.ensures.value (omega (arith, c.if-corners-d.false)) c.if-corners-d-2.false c.wide.ensures.value e }
+returns c = record {
+  sound = λ e. meets_of _ _ _ _ _ _ c.wide-d.ensures.value (omega (arith, c.if-corners-d.false)) c.if-corners-d-2.false c.wide.ensures.value e;
+}

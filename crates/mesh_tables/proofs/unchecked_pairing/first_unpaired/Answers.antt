@@ -18,7 +18,9 @@ is_paired-requires c = record {
 }
 
 pub returns-then-not-is_paired : goal.returns-then-not-is_paired
-returns-then-not-is_paired c = record { value = scan_hit c.loop-c.invariant (omega arith) (unpaired_is _ _ _ c.is_paired.ensures.value c.if-not-is_paired.true-raw) }
+returns-then-not-is_paired c = record {
+  value = scan_hit c.loop-c.invariant (omega arith) (unpaired_is _ _ _ c.is_paired.ensures.value c.if-not-is_paired.true-raw);
+}
 
 pub loop-c-preserved : goal.loop-c-preserved
 loop-c-preserved c = scan_miss c.loop-c.invariant (omega arith) (unpaired_is _ _ _ c.is_paired.ensures.value c.if-not-is_paired.false-raw)
