@@ -1,5 +1,4 @@
 -- `cut` meets its contract.
-use denote.Slice.{shr_slice_at}
 use mathlib.Core.Path.{ap, subst}
 use lib.IntN.{ℤ}
 use mir.Syntax.{w32}
@@ -9,7 +8,6 @@ use Rattle.mesh.specs.Refusals.{tell_verdict}
 use Rattle.cut.specs.Cut.{lent, section}
 use Rattle.cut.specs.Outlines.{Traces}
 use Rattle.cut.proofs.Slicing.{passed, cuts_refused, cuts_traced}
-use borrow.Author.Rules.{rules}
 use Rattle.cut.proofs.cut.Goals as goal
 
 pub returns-in-Refused : goal.returns-in-Refused
@@ -18,14 +16,17 @@ returns-in-Refused c = record { outcome = cuts_refused _ _ _ c.tables_test-v.ens
 pub slice-requires : goal.slice-requires
 slice-requires c =
     let m = paired c.args.coords.now c.args.corners.now c.args.pairing.now in
-    let t = lent c.args.names.now c.args.points.now c.args.ends.now c.args.marks.now in let given = passed m c.args.h t c.tables_test-v.ensures.told (ap tell_verdict c.in_default.is) in record { fact_1 = given.0; fact_2 = given.1 }
+    let t = lent c.args.names.now c.args.points.now c.args.ends.now c.args.marks.now in
+    let given = passed m c.args.h t c.tables_test-v.ensures.told (ap tell_verdict c.in_default.is) in
+    record { fact_1 = given.0; fact_2 = given.1 }
 
 pub returns : goal.returns
 returns c =
     let m = paired c.args.coords.now c.args.corners.now c.args.pairing.now in
     let t = lent c.args.names.now c.args.points.now c.args.ends.now c.args.marks.now in
-    let left = c.slice.new.1.1.1.1 in record {
+    let left = c.slice.new in
+    record {
       outcome = cuts_traced m c.args.h t c.tables_test-v.ensures.told (ap tell_verdict c.in_default.is)
-          (subst (λ (z : ℤ). Traces (section m z) m.mesh z t c.slice.result (lent left.0 left.1.0 left.1.1.0 left.1.1.1.0))
+          (subst (λ (z : ℤ). Traces (section m z) m.mesh z t c.slice.result (lent left.names left.points left.ends left.marks))
           (to_z-of_z w32 c.args.h c.ranges.h) c.slice.ensures.outcome);
     }

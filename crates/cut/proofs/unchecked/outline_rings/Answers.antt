@@ -3,7 +3,6 @@ use mir.Syntax.{w32}
 use mir.ValLaws.{to_z-of_z}
 use Rattle.cut.specs.Cut.{lent}
 use Rattle.cut.proofs.Outlining.{traceable, never_stuck, points_asked, traces}
-use borrow.Author.Rules.{rules}
 use Rattle.cut.proofs.unchecked.outline_rings.Goals as goal
 
 pub trace-f-requires : goal.trace-f-requires
@@ -13,15 +12,23 @@ trace-f-requires c =
 
 pub put_points-requires : goal.put_points-requires
 put_points-requires c =
-    let t = lent c.args.names.now c.args.points.now c.args.ends.now c.args.marks.now in let given = points_asked _ _ t c.requires.fact_1 c.requires.fact_2 (c.trace-f.ensures.value, c.trace-f.ensures.names_left, c.trace-f.ensures.ends_left, c.trace-f.ensures.links_left) c.in-Contours.is
-    (to_z-of_z w32 c.args.h c.ranges.h) in record { fact_1 = given.0; fact_2 = given.1 }
+    let t = lent c.args.names.now c.args.points.now c.args.ends.now c.args.marks.now in
+    let left = c.trace-f.ensures in
+    let given =
+    points_asked _ _ t c.requires.fact_1 c.requires.fact_2 (left.value, (left.names_left, (left.ends_left, left.links_left))) c.in-Contours.is
+    (to_z-of_z w32 c.args.h c.ranges.h) in
+    record { fact_1 = given.0; fact_2 = given.1 }
 
 pub returns-in-Contours : goal.returns-in-Contours
-returns-in-Contours c = record {
-  outcome = traces _ _ _ c.requires.fact_1 c.requires.fact_2 (c.trace-f.ensures.value, c.trace-f.ensures.names_left, c.trace-f.ensures.ends_left, c.trace-f.ensures.links_left) c.in-Contours.is
-      (to_z-of_z w32 c.args.h c.ranges.h) c.put_points.ensures.left;
-}
+returns-in-Contours c =
+    let left = c.trace-f.ensures in
+    record {
+      outcome = traces _ _ _ c.requires.fact_1 c.requires.fact_2 (left.value, (left.names_left, (left.ends_left, left.links_left))) c.in-Contours.is
+          (to_z-of_z w32 c.args.h c.ranges.h) c.put_points.ensures.left;
+    }
 
 pub returns-in-Stuck : goal.returns-in-Stuck
 returns-in-Stuck c =
-    let t = lent c.args.names.now c.args.points.now c.args.ends.now c.args.marks.now in record { outcome = absurd (never_stuck _ _ t c.requires.fact_1 c.requires.fact_2 (c.trace-f.ensures.value, c.trace-f.ensures.names_left, c.trace-f.ensures.ends_left, c.trace-f.ensures.links_left) c.in-Stuck.is) }
+    let t = lent c.args.names.now c.args.points.now c.args.ends.now c.args.marks.now in
+    let left = c.trace-f.ensures in
+    absurd (never_stuck _ _ t c.requires.fact_1 c.requires.fact_2 (left.value, (left.names_left, (left.ends_left, left.links_left))) c.in-Stuck.is)
