@@ -98,7 +98,8 @@ module _ (profile : Profile) (file : List ℕ) {n start : ℕ} (e : number_at mo
         by (refused r) q w = let z : ◌≡◌ {A = ℕ} 0 1 = cc in absurd (omega arith)
 
 -- a file that breaks at k in a profile is refused so
-pub refused_broken : (profile : Profile) (file : List ℕ) {n start : ℕ} (e : number_at most_layers file 0 ≡ Value n start) (i : ℕ) (entries : Entries) {k : ℕ}
+pub refused_broken : (profile : Profile) (file : List ℕ) {n start : ℕ} (e : number_at most_layers file 0 ≡ Value n start) (i : ℕ)
+    (entries : Entries) {k : ℕ}
     → layers_of_in profile file ≡ broken k
     → verdict (reading_tests profile file i entries) ≡ refuses (told_of (broken_told profile file (last_layers Full n lowest file start) k))
 refused_broken Full file e i entries h = verdict_broken file i entries Full h

@@ -16,7 +16,8 @@ use Rattle.cleaning.specs.declared.Profile.TheVariants.{Full}
 use Rattle.file_formats.specs.Formats.{parsed, refused, parse_all, sequence}
 use Rattle.file_formats.specs.FormatLaws.{not_refused}
 use Rattle.file_formats.specs.Numbers.{largest_word, number}
-use Rattle.file_formats.specs.LayerFile.{Point, most_points, fewest_points, point_format, origin, latest, contour_format, room_after, contour_list, contour_list_in}
+use Rattle.file_formats.specs.LayerFile.{Point, most_points, fewest_points, point_format, origin, latest}
+use Rattle.file_formats.specs.LayerFile.{contour_format, room_after, contour_list, contour_list_in}
 use Rattle.file_formats.specs.LayerFileLaws.{point_tails, contour_bad, contour_few, contour_points, contour_length}
 use Rattle.file_formats.specs.Positions.{number_at}
 use Rattle.file_formats.specs.PositionLaws.{Tails, took, not_took, sequence_tails, parsed_at, passed}

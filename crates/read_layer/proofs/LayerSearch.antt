@@ -86,7 +86,8 @@ module _ (profile : Profile) (more : ℕ) (low : ℤ) (file : List ℕ) (at : �
         subst (λ (d : Parse (List Layer)). Searched file 0 d (Found s)) (sym v) (omega arith, t)
 
 -- the same by what the code has read: the height z, and the counts of contours and points
-module _ (profile : Profile) (more : ℕ) (low : ℤ) (file : List ℕ) (at : ℕ) (h : at ≤ length file) {z : ℤ} {j : ℕ} (e : height_told_at low file at ≡ Above z j)
+module _ (profile : Profile) (more : ℕ) (low : ℤ) (file : List ℕ) (at : ℕ) (h : at ≤ length file) {z : ℤ} {j : ℕ}
+    (e : height_told_at low file at ≡ Above z j)
     {next k m : ℕ} {sum : ℤ} (f : counts_at profile file j ≡ CountsEnd next k m sum) where
   body : (cs : List (List Point)) × ContoursCounted profile file j cs next k m sum
   body = counts_read profile file j (height_inside profile low file at h z j e) next k m sum f
@@ -203,7 +204,8 @@ module _ (file : List ℕ) (at n e : ℕ) {profile : Profile} where
   told_full g = ap (λ (p : Profile). broken_told p file (last_layers Full n lowest file at) e) (sym g)
 
   module _ (g : profile ≡ Clean) where
-    as_clean : {r : Refusal} → r ≡ broken_told Clean file (last_layers Full n lowest file at) e → r ≡ broken_told profile file (last_layers Full n lowest file at) e
+    as_clean : {r : Refusal} → r ≡ broken_told Clean file (last_layers Full n lowest file at) e
+        → r ≡ broken_told profile file (last_layers Full n lowest file at) e
     as_clean h = h ∙ ap (λ (p : Profile). broken_told p file (last_layers Full n lowest file at) e) (sym g)
 
     pub told_unclean : {k : ℕ} → extent_at (final (sequence layer_format height_of n lowest)) file at ≡ End k

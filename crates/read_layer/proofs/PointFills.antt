@@ -31,7 +31,8 @@ pub record PointFilling (file : List ℕ) (at n : ℕ) (l : List ℤ) (from : �
   pub parses : parse_all point_format latest left (record { x = x; y = y }) (drop i file) ≡ parsed qs rest
   pub table : Emit l from (numbers_of (points_from n file at)) m k (numbers_of qs)
 
-pub point_filling : {file : List ℕ} {at n : ℕ} {l : List ℤ} {from : ℕ} → FillPoints file at n l from → PointFilling file at n l from l (pos 0) (pos 0) at n from
+pub point_filling : {file : List ℕ} {at n : ℕ} {l : List ℤ} {from : ℕ} → FillPoints file at n l from
+    → PointFilling file at n l from l (pos 0) (pos 0) at n from
 point_filling {file} {at} {n} {l} {from} f =
     let e : f.ps ≡ points_from n file at = told_parsed (λ ps next. ps) (λ q. []) (sequence point_format latest n origin) file at f.ps f.next f.stands in
     let z : length f.ps ≡ n = parsed_length point_format latest n origin (drop at file) f.ps (drop f.next file) f.stands.parses in
@@ -46,7 +47,8 @@ point_filling {file} {at} {n} {l} {from} f =
           (emit_start l from (numbers_of f.ps) (omega (arith, f.room, length_numbers f.ps)));
     }
 
-module _ {file : List ℕ} {at n : ℕ} {l : List ℤ} {from : ℕ} {m : List ℤ} {x y : ℤ} {i left k : ℕ} (w : PointFilling file at n l from m x y i left k) where
+module _ {file : List ℕ} {at n : ℕ} {l : List ℤ} {from : ℕ} {m : List ℤ} {x y : ℤ} {i left k : ℕ}
+    (w : PointFilling file at n l from m x y i left k) where
   pub filled : left ≤ 0 → FilledPoints file at n l from i m
   filled h =
       let q = none point_format latest left (record { x = x; y = y }) (drop i file) w.qs w.rest h w.parses in

@@ -7,12 +7,11 @@ use mir.ValLaws.{to_z-of_z}
 use Rattle.laws.specs.Machine.{same}
 use Rattle.file_check.specs.Answers.{height_told_at, counts_at}
 use Rattle.file_check.specs.AnswerLaws.{height_inside, layer_no_height, layer_no_contours}
-use Rattle.file_check.specs.declared.Height.TheVariants.{Above}
 use Rattle.file_check.specs.declared.CountsExtent.TheVariants.{End}
 use Rattle.read_layer.proofs.LayerSearch.{first_stops, next_inside, last_stops, last_passes}
 use borrow.Author.Rules.{rules}
 use Rattle.read_layer.proofs.unchecked.check_from.Goals as goal
-use Rattle.read_layer.proofs.unchecked.check_from.Goals.{After-read_height-h, In-Above, In-End}
+use Rattle.read_layer.proofs.unchecked.check_from.Goals.{After-read_height-h, In-End}
 
 -- what `read_height` answered, of `low` as it was given
 answer : (c : After-read_height-h)
@@ -27,43 +26,37 @@ returns-in_default c = record {
       (layer_no_height c.args.profile _ _ _ c.requires (answer (goal.at.returns-in_default c).After-read_height-h ∙ c.in_default.is));
 }
 
--- the height read
-height : (c : In-Above)
-    →
-    height_told_at c.args.low c.args.file.now c.args.at
-    ≡ Above c.in-Above.z c.in-Above.j
-height c = answer c.before.before.before ∙ c.in-Above.is
-
 pub check_counted-c-requires : goal.check_counted-c-requires
 check_counted-c-requires c =
-    height_inside c.args.profile _ _ _ c.requires _ _ (height c)
+    height_inside c.args.profile _ _ _ c.requires _ _ (answer (goal.at.check_counted-c-requires c).After-read_height-h ∙ c.in-Above.is)
 
 -- the counts of contours and points
-counts : (c : In-End)
-    →
-    counts_at c.args.profile c.args.file.now c.in-Above.j
+counts : (c : In-End) → counts_at c.args.profile c.args.file.now c.in-Above.j
     ≡ End c.in-End.next c.in-End.contours c.in-End.points c.in-End.field-3
 counts c = sym c.check_counted-c.ensures.value ∙ c.in-End.is
 
 pub check_last-rest-requires : goal.check_last-rest-requires
 check_last-rest-requires c =
-    next_inside c.args.profile c.args.more _ _ _ c.requires (height (goal.at.check_last-rest-requires c).In-Above) (counts c)
+    let at = goal.at.check_last-rest-requires c in
+    next_inside c.args.profile c.args.more _ _ _ c.requires (answer at.After-read_height-h ∙ c.in-Above.is) (counts c)
 
 pub returns-in-Refused : goal.returns-in-Refused
 returns-in-Refused c = record {
   result = first_stops c.args.profile c.args.more c.args.low _ _
-      (layer_no_contours c.args.profile _ _ _ c.requires _ _ (height (goal.at.returns-in-Refused c).In-Above) _
+      (layer_no_contours c.args.profile _ _ _ c.requires _ _ (answer (goal.at.returns-in-Refused c).After-read_height-h ∙ c.in-Above.is) _
       (sym c.check_counted-c.ensures.value ∙ c.in-Refused.is));
 }
 
 pub returns-in-Refused-rest : goal.returns-in-Refused-rest
-returns-in-Refused-rest c = record {
-  result = last_stops c.args.profile c.args.more _ _ _ c.requires (height (goal.at.returns-in-Refused-rest c).In-Above) (counts (goal.at.returns-in-Refused-rest c).In-End)
-      (same w64 c.in-Above.z (omega arith)) (sym c.check_last-rest.ensures.value ∙ c.in-Refused-rest.is);
-}
+returns-in-Refused-rest c =
+    let at = goal.at.returns-in-Refused-rest c in record {
+      result = last_stops c.args.profile c.args.more _ _ _ c.requires (answer at.After-read_height-h ∙ c.in-Above.is) (counts at.In-End)
+          (same w64 c.in-Above.z (omega arith)) (sym c.check_last-rest.ensures.value ∙ c.in-Refused-rest.is);
+    }
 
 pub returns-in-End-rest : goal.returns-in-End-rest
-returns-in-End-rest c = record {
-  result = last_passes c.args.profile c.args.more _ _ _ c.requires (height (goal.at.returns-in-End-rest c).In-Above) (counts (goal.at.returns-in-End-rest c).In-End)
-      (same w64 c.in-Above.z (omega arith)) (sym c.check_last-rest.ensures.value ∙ c.in-End-rest.is);
-}
+returns-in-End-rest c =
+    let at = goal.at.returns-in-End-rest c in record {
+      result = last_passes c.args.profile c.args.more _ _ _ c.requires (answer at.After-read_height-h ∙ c.in-Above.is) (counts at.In-End)
+          (same w64 c.in-Above.z (omega arith)) (sym c.check_last-rest.ensures.value ∙ c.in-End-rest.is);
+    }

@@ -1,6 +1,6 @@
 -- `fill_points` meets its contract.
 use mathlib.Core.Path.{◌≡◌, sym, ◌∙◌}
-use Prim.Native.Nat.{◌+◌, ◌<◌}
+use Prim.Native.Nat.{◌+◌}
 use native.Mathlib.Omega.{arith}
 use lib.Seq.{lt-length-set}
 use borrow.Author.Rules.{rules}
@@ -12,14 +12,10 @@ use Rattle.file_check.specs.Answers.{coordinate_at}
 use Rattle.file_check.specs.declared.Coordinate.TheVariants.{At}
 use Rattle.read_layer.proofs.PointFills.{PointFilling, point_filling, filled, x_fits, y_fits, x_there, x_near, y_there, y_near, next_filled}
 use Rattle.read_layer.proofs.unchecked.fill_points.Goals as goal
-use Rattle.read_layer.proofs.unchecked.fill_points.Goals.{In-At, In-At-b, In-loop-left}
+use Rattle.read_layer.proofs.unchecked.fill_points.Goals.{In-At, In-At-b}
 
 pub loop-left-init : goal.loop-left-init
 loop-left-init c = point_filling c.requires
-
--- a point is left
-more : (c : In-loop-left) → 0 < c.loop-left.false
-more c = omega (arith, c.loop-left-test.true)
 
 pub read_coordinate-a-requires : goal.read_coordinate-a-requires
 read_coordinate-a-requires c = c.loop-left.invariant.x_in
@@ -28,7 +24,9 @@ pub shape_of-points-in_default : goal.shape_of-points-in_default
 shape_of-points-in_default c = c.loop-left.invariant.table.size
 
 pub returns-in_default : goal.returns-in_default
-returns-in_default c = record { outcome = absurd (x_there c.loop-left.invariant (more (goal.at.returns-in_default c).In-loop-left) (sym c.read_coordinate-a.ensures.value ∙ c.in_default.is)) }
+returns-in_default c = record {
+  outcome = absurd (x_there c.loop-left.invariant c.loop-left-test.true (sym c.read_coordinate-a.ensures.value ∙ c.in_default.is));
+}
 
 -- the first coordinate read
 first : (c : In-At)
@@ -47,17 +45,17 @@ shape_of-points-in_default-b c =
 
 pub returns-in_default-b : goal.returns-in_default-b
 returns-in_default-b c = record {
-  outcome = absurd (y_there c.loop-left.invariant (more (goal.at.returns-in_default-b c).In-loop-left) (first (goal.at.returns-in_default-b c).In-At)
+  outcome = absurd (y_there c.loop-left.invariant c.loop-left-test.true (first (goal.at.returns-in_default-b c).In-At)
       (sym c.read_coordinate-b.ensures.value ∙ c.in_default-b.is));
 }
 
 pub bounds-points-k : goal.bounds-points-k
 bounds-points-k c =
-    x_fits c.loop-left.invariant (more (goal.at.bounds-points-k c).In-loop-left)
+    x_fits c.loop-left.invariant c.loop-left-test.true
 
 pub bounds-points-k-in-loop-left : goal.bounds-points-k-in-loop-left
 bounds-points-k-in-loop-left c =
-    lt-length-set c.loop-left.points c.loop-left.k _ {i = c.loop-left.k + 1} (y_fits c.loop-left.invariant (more (goal.at.bounds-points-k-in-loop-left c).In-loop-left))
+    lt-length-set c.loop-left.points c.loop-left.k _ {i = c.loop-left.k + 1} (y_fits c.loop-left.invariant c.loop-left-test.true)
 
 -- the second coordinate read
 second : (c : In-At-b)
@@ -68,11 +66,16 @@ second c = sym c.read_coordinate-b.ensures.value ∙ c.in-At-b.is
 
 pub loop-left-preserved : goal.loop-left-preserved
 loop-left-preserved c =
+    let w = c.loop-left.invariant in
+    let some = c.loop-left-test.true in
+    let at = goal.at.loop-left-preserved c in
+    let f = first at.In-At in
+    let s = second at.In-At-b in
     simp (
-      same_in w32 c.in-At.nx largest (x_near c.loop-left.invariant (more (goal.at.loop-left-preserved c).In-loop-left) (first (goal.at.loop-left-preserved c).In-At)) tt,
-      same_in w32 c.in-At-b.ny largest (y_near c.loop-left.invariant (more (goal.at.loop-left-preserved c).In-loop-left) (first (goal.at.loop-left-preserved c).In-At) (second c)) tt,
+      same_in w32 c.in-At.nx largest (x_near w some f) tt,
+      same_in w32 c.in-At-b.ny largest (y_near w some f s) tt,
     )
-    (next_filled c.loop-left.invariant (more (goal.at.loop-left-preserved c).In-loop-left) (first (goal.at.loop-left-preserved c).In-At) (second c))
+    (next_filled w some f s)
 
 pub shape_of-points : goal.shape_of-points
 shape_of-points c = c.loop-left.invariant.table.size

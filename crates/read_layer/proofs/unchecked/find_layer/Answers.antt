@@ -13,9 +13,7 @@ use Rattle.read_layer.proofs.unchecked.find_layer.Goals as goal
 use Rattle.read_layer.proofs.unchecked.find_layer.Goals.{In-End}
 
 -- the layers before layer i
-before : (c : In-End)
-    →
-    levels_at c.args.profile c.args.i lowest c.args.file.now c.args.at
+before : (c : In-End) → levels_at c.args.profile c.args.i lowest c.args.file.now c.args.at
     ≡ End c.in-End.next c.in-End.low
 before c = sym c.check_layers-b.ensures.value ∙ c.in-End.is
 
@@ -25,8 +23,8 @@ check_from-requires c =
 
 pub returns-in-End : goal.returns-in-End
 returns-in-End c = record {
-  result = before_passes c.args.profile _ _ _ _ _ c.requires (before (goal.at.returns-in-End c).In-End) c.if-i-count.true (same w64 c.in-End.low (omega arith)) _
-      c.check_from.ensures.result;
+  result = before_passes c.args.profile _ _ _ _ _ c.requires (before (goal.at.returns-in-End c).In-End) c.if-i-count.true
+      (same w64 c.in-End.low (omega arith)) _ c.check_from.ensures.result;
 }
 
 pub returns-in-Refused : goal.returns-in-Refused
