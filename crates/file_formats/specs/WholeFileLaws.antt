@@ -1,10 +1,10 @@
 -- Refusals 13 and 18 at the head of a list of refusals: answered exactly if the file is refused, at that place; and what is left to test of a file that
 -- holds something.
-use Rattle.std.specs.Prelude.{ℕ, suc, ◌-◌, ◌≤◌, ◌≡◌, refl, List, [], ◌∷◌, ◌↔◌, length}
+use Rattle.std.specs.Prelude.{ℕ, ◌-◌, ◌≤◌, ◌≡◌, refl, List, ◌∷◌, ◌↔◌, length}
 use Rattle.std.proofs.Math.Path.{sym, ap}
 use Rattle.std.proofs.Common.{◌∙◌, arith}
 use borrow.Author.Tests.{eq-eqb, ne_eqb}
-use Rattle.mesh.specs.Operation.{gives, refuses, Finding, fine, Condition, test, ◌then◌, verdict}
+use Rattle.mesh.specs.Operation.{refuses, fine, Condition, test, verdict}
 use Rattle.mesh.specs.OperationLaws.{apart, same_refusal, nowhere_fine, fits_refused, then_refused, then_fine, Every, refused_every}
 use Rattle.mesh.specs.Refusals.{Told, refusal}
 use Rattle.file_formats.specs.Formats.{Parse, parsed, refused, Format, Decoded, holds, broken, finished, decoded_in, decode}

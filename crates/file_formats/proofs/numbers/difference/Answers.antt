@@ -1,9 +1,8 @@
 -- `numbers::difference` meets its contract.
 use mathlib.Core.Path.{ap, ◌∙◌}
-use mir.Syntax.{w32}
+use mir.Syntax.{w32, w64}
 use Rattle.laws.specs.Machine.{Rd, fit, cast, cast_ok, sub, sub_ok}
 use Rattle.file_formats.specs.Numbers.{zigzag}
-use borrow.Author.Rules.{rules}
 use Rattle.file_formats.proofs.numbers.difference.Goals as goal
 use Rattle.file_formats.proofs.numbers.difference.Goals.{Start}
 
@@ -24,4 +23,8 @@ pub overflow_sub-z : goal.overflow_sub-z
 overflow_sub-z c = sub_ok (cast (z c) tt) (cast (before c) tt) tt
 
 pub returns : goal.returns
-returns c = record { value = c.unsigned_of.ensures.value ∙ ap zigzag (sub (cast (z (goal.at.returns c).Start) tt) (cast (before (goal.at.returns c).Start) tt) tt).is }
+returns c =
+    let z-read : Rd w32 c.args.z 2147483648 = fit c.ranges.z in
+    let before-read : Rd w32 c.args.before 2147483648 = fit c.ranges.before in record {
+      value = c.unsigned_of.ensures.value ∙ ap zigzag (sub {w = w64} (cast z-read tt) (cast before-read tt) tt).is;
+    }

@@ -1,5 +1,4 @@
 -- `numbers::number_length` meets its contract.
-use borrow.Author.Rules.{rules}
 use Rattle.file_formats.specs.GroupLaws.{top_fits, groups_are}
 use Rattle.file_formats.proofs.numbers.number_length.Goals as goal
 

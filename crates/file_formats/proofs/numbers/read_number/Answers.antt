@@ -1,9 +1,7 @@
 -- `numbers::read_number` meets its contract. The invariant: the number is the one at i above the groups that were read.
 use Prim.Native.Nat.{◌-◌, ◌<◌, ◌≤◌}
 use native.Mathlib.Omega.{arith}
-use borrow.Author.Rules.{rules}
-use lib.ListN.{length}
-use Rattle.file_formats.proofs.NumberReading.{NumberReading, number_reading, group_fits, ends, too_many_lem, too_large, needless, last, next}
+use Rattle.file_formats.proofs.NumberReading.{number_reading, group_fits, ends, too_many_lem, too_large, needless, last, next}
 use Rattle.file_formats.proofs.numbers.read_number.Goals as goal
 use Rattle.file_formats.proofs.numbers.read_number.Goals.{Else-rest-lt128}
 

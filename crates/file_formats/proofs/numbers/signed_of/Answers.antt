@@ -2,7 +2,6 @@
 use Prim.Native.Nat.{◌/◌, ◌<◌, ◌^◌}
 use native.Mathlib.Omega.{arith}
 use Rattle.file_formats.proofs.Signs.{minus_fits, even, odd}
-use borrow.Author.Rules.{rules}
 use Rattle.file_formats.proofs.numbers.signed_of.Goals as goal
 use Rattle.file_formats.proofs.numbers.signed_of.Goals.{Start}
 

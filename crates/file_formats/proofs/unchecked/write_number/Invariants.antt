@@ -1,8 +1,5 @@
 -- `unchecked::write_number` meets its contract. The invariant: what is left of the number goes to i.
-use native.Mathlib.Omega.{arith}
-use borrow.Author.Rules.{rules}
-use Rattle.file_formats.specs.NumberLaws.{encode_pos}
-use Rattle.file_formats.proofs.NumberWriting.{NumberWriting, number_writing, next, last}
+use Rattle.file_formats.proofs.NumberWriting.{NumberWriting}
 use Rattle.file_formats.proofs.unchecked.write_number.Given as goal
 
 abbrev pub invariant-loop-v : goal.invariant-loop-v
