@@ -1,6 +1,5 @@
 -- `unchecked_layers::contour_length` meets its contract.
 use native.Mathlib.Omega.{arith}
-use borrow.Author.Rules.{rules}
 use Rattle.file_write.proofs.Measuring.{contour_measured}
 use Rattle.file_write.proofs.unchecked_layers.contour_length.Goals as goal
 

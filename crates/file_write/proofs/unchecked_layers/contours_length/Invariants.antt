@@ -1,9 +1,6 @@
 -- `unchecked_layers::contours_length` meets its contract.
-use Prim.Native.Nat.{◌-◌, ◌*◌, ◌≤◌}
-use native.Mathlib.Omega.{arith}
-use lib.ListN.{length}
-use Rattle.file_write.proofs.Rows.{end_rises, end_within}
-use Rattle.file_write.proofs.Measuring.{ContoursMeasured, measure_contours_start, contour_fits, contours_next, contours_end}
+use Prim.Native.Nat.{◌-◌}
+use Rattle.file_write.proofs.Measuring.{ContoursMeasured}
 use Rattle.file_write.proofs.unchecked_layers.contours_length.Given as goal
 
 abbrev pub invariant-loop-i : goal.invariant-loop-i

@@ -1,10 +1,9 @@
 -- `unchecked_layers::points_length` meets its contract.
-use Prim.Native.Nat.{◌+◌, ◌-◌, ◌≤◌}
+use Prim.Native.Nat.{◌+◌, ◌≤◌}
 use native.Mathlib.Omega.{arith}
 use mir.Syntax.{w32}
-use mir.Val.{to_z}
 use Rattle.laws.specs.Machine.{same}
-use Rattle.file_write.proofs.Measuring.{PointsMeasured, measure_points_start, point_short, points_next, points_end}
+use Rattle.file_write.proofs.Measuring.{measure_points_start, point_short, points_next, points_end}
 use Rattle.file_write.proofs.unchecked_layers.points_length.Goals as goal
 use Rattle.file_write.proofs.unchecked_layers.points_length.Goals.{After-number_length-in-loop-k}
 

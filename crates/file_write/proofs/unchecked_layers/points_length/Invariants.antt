@@ -1,10 +1,6 @@
 -- `unchecked_layers::points_length` meets its contract.
-use Prim.Native.Nat.{◌+◌, ◌-◌, ◌≤◌}
-use native.Mathlib.Omega.{arith}
-use mir.Syntax.{w32}
-use mir.Val.{to_z}
-use Rattle.laws.specs.Machine.{same}
-use Rattle.file_write.proofs.Measuring.{PointsMeasured, measure_points_start, point_short, points_next, points_end}
+use Prim.Native.Nat.{◌-◌}
+use Rattle.file_write.proofs.Measuring.{PointsMeasured}
 use Rattle.file_write.proofs.unchecked_layers.points_length.Given as goal
 
 abbrev pub invariant-loop-k : goal.invariant-loop-k

@@ -1,5 +1,4 @@
 -- `unchecked_layers::write_contour` meets its contract.
-use borrow.Author.Rules.{rules}
 use Rattle.file_write.proofs.Rows.{row_bytes}
 use Rattle.file_write.proofs.Writing.{first_room, rest_room, both_put}
 use Rattle.file_write.proofs.unchecked_layers.write_contour.Goals as goal

@@ -1,9 +1,9 @@
 -- `unchecked_layers::write_contours` meets its contract.
-use Prim.Native.Nat.{◌-◌, ◌*◌, ◌≤◌}
+use Prim.Native.Nat.{◌*◌, ◌≤◌}
 use native.Mathlib.Omega.{arith}
 use lib.ListN.{length}
 use Rattle.file_write.proofs.Rows.{end_rises, end_within}
-use Rattle.file_write.proofs.Writing.{ContoursWritten, write_contours_start, contour_room, contours_next, contours_end}
+use Rattle.file_write.proofs.Writing.{write_contours_start, contour_room, contours_next, contours_end}
 use Rattle.file_write.proofs.unchecked_layers.write_contours.Goals as goal
 use Rattle.file_write.proofs.unchecked_layers.write_contours.Goals.{After-wide-end}
 

@@ -1,9 +1,6 @@
 -- `unchecked_layers::write_contours` meets its contract.
-use Prim.Native.Nat.{◌-◌, ◌*◌, ◌≤◌}
-use native.Mathlib.Omega.{arith}
-use lib.ListN.{length}
-use Rattle.file_write.proofs.Rows.{end_rises, end_within}
-use Rattle.file_write.proofs.Writing.{ContoursWritten, write_contours_start, contour_room, contours_next, contours_end}
+use Prim.Native.Nat.{◌-◌}
+use Rattle.file_write.proofs.Writing.{ContoursWritten}
 use Rattle.file_write.proofs.unchecked_layers.write_contours.Given as goal
 
 abbrev pub invariant-loop-i : goal.invariant-loop-i

@@ -1,10 +1,7 @@
 -- `unchecked_layers::write_points` meets its contract.
-use Prim.Native.Nat.{◌-◌}
-use native.Mathlib.Omega.{arith}
 use mir.Syntax.{w32}
-use mir.Val.{to_z}
 use Rattle.laws.specs.Machine.{same}
-use Rattle.file_write.proofs.Writing.{PointsWritten, write_points_start, x_room, y_room, points_next, points_end}
+use Rattle.file_write.proofs.Writing.{write_points_start, x_room, y_room, points_next, points_end}
 use Rattle.file_write.proofs.unchecked_layers.write_points.Goals as goal
 
 pub loop-k-init : goal.loop-k-init
