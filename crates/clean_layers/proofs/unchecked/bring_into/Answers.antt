@@ -1,6 +1,5 @@
 -- `unchecked::bring_into` meets its contract.
 use Rattle.clean_layers.proofs.Filling.{left_full, left_clean}
-use borrow.Author.Rules.{rules}
 use Rattle.clean_layers.proofs.unchecked.bring_into.Goals as goal
 
 pub returns-in-Full : goal.returns-in-Full

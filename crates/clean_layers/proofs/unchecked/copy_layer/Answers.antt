@@ -1,8 +1,7 @@
 -- `unchecked::copy_layer` meets its contract.
 use native.Mathlib.Omega.{arith}
-use lib.ListN.{length}
-use Prim.Native.Nat.{◌-◌, ◌<◌, ◌^◌}
-use Rattle.clean_layers.proofs.Filling.{Filling, fill_start, fill_points, fill_ends, fill_up, fill_room, fill_next, fill_dropped, fill_kept, fill_all}
+use Prim.Native.Nat.{◌<◌, ◌^◌}
+use Rattle.clean_layers.proofs.Filling.{fill_start, fill_points, fill_ends, fill_up, fill_room, fill_next, fill_dropped, fill_kept, fill_all}
 use Rattle.clean_layers.proofs.unchecked.copy_layer.Goals as goal
 
 pub loop-j-init : goal.loop-j-init

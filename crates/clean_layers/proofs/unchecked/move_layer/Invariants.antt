@@ -1,8 +1,7 @@
 -- `unchecked::move_layer` meets its contract.
 use lib.ListN.{take}
-use native.Mathlib.Omega.{arith}
-use Prim.Native.Nat.{◌-◌, ◌<◌, ◌^◌}
-use Rattle.clean_layers.proofs.Filling.{Filling, fill_points, fill_ends, here_start, here_room, here_up, here_next, here_dropped, here_kept, here_all}
+use Prim.Native.Nat.{◌-◌}
+use Rattle.clean_layers.proofs.Filling.{Filling}
 use Rattle.clean_layers.proofs.unchecked.move_layer.Given as goal
 
 abbrev pub invariant-loop-j : goal.invariant-loop-j
