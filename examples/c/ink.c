@@ -3,8 +3,8 @@
  *
  * Reads a layer file, and prints its charge in whole nanolitres for layers of a thickness.
  *
- *   rt staticlib wadroles
- *   cc -std=c99 -Iinclude examples/c/ink.c target/staticlib/libwadroles.a -o ink
+ *   (cd crates/wadroles && rt lib)
+ *   cc -std=c99 -Iinclude examples/c/ink.c crates/wadroles/out/libwadroles.a -o ink
  *   ./ink p.layers 1000
  *
  * The arguments are the file and the thickness in micrometres. A refusal prints its number and its

@@ -5,8 +5,8 @@
  * that fills from outside in takes them. The layer has three rings within each other and a fourth
  * contour beside them.
  *
- *   rt staticlib wadroles
- *   cc -std=c99 -Iinclude examples/c/nesting.c target/staticlib/libwadroles.a -o nesting
+ *   (cd crates/wadroles && rt lib)
+ *   cc -std=c99 -Iinclude examples/c/nesting.c crates/wadroles/out/libwadroles.a -o nesting
  *   ./nesting
  *
  * The argument, if there is one, is the number of entries that the tables have. A refusal prints

@@ -5,8 +5,8 @@
  * prints a line for each. The layer is that of part P at height 5, as wadroles_cut and
  * wadroles_read_layer give it.
  *
- *   rt staticlib wadroles
- *   cc -std=c99 -Iinclude examples/c/preview.c target/staticlib/libwadroles.a -o preview
+ *   (cd crates/wadroles && rt lib)
+ *   cc -std=c99 -Iinclude examples/c/preview.c crates/wadroles/out/libwadroles.a -o preview
  *   ./preview 100 -20
  *
  * The arguments are x and y of the plate's origin (without them, 0). A refusal prints its number

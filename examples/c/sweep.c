@@ -5,8 +5,8 @@
  * heights of that file, reads each layer back, and compares it with what the sweep gives. Prints a
  * line for each layer: height, contours, points, and the sum of the contours' doubled areas.
  *
- *   rt staticlib wadroles
- *   cc -std=c99 -Iinclude examples/c/sweep.c target/staticlib/libwadroles.a -o sweep
+ *   (cd crates/wadroles && rt lib)
+ *   cc -std=c99 -Iinclude examples/c/sweep.c crates/wadroles/out/libwadroles.a -o sweep
  *   ./sweep examples/p.part p.layers
  *
  * The first argument is the part file (without it, examples/p.part), the second where the layer
