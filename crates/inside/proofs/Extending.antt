@@ -9,7 +9,7 @@ use lib.ListN.{length}
 use lib.IntN.{ℤ}
 use lib.Signed.{◌≤ℤ◌, lt_z, mag, ≤ℤ_refl}
 use mir.Syntax.{w32}
-use mir.Val.{SFits, to_z, of_z}
+use mir.Val.{SFits}
 use Rattle.laws.specs.Booleans.{split_lt}
 use Rattle.laws.specs.Machine.{same, fit, lt_true, lt_false}
 use Rattle.polygons.specs.Flat.{Point, point, nth_point, points_in}
@@ -68,21 +68,17 @@ module _ (l r d u : ℤ) {e : ContourExtent} {q : Point}
 
 -- ---- the loop
 
--- the extent that four locals stand for
-abbrev held_extent : ℕ → ℕ → ℕ → ℕ → ContourExtent
-held_extent left right low high = extent (to_z w32 left) (to_z w32 right) (to_z w32 low) (to_z w32 high)
-
-pub record Extended (row : List ℤ) (left right low high k : ℕ) : Type 0 where
+pub record Extended (row : List ℤ) (left right low high : ℤ) (k : ℕ) : Type 0 where
   pub run : PointRun row
   pub upto : k ≤ length row / 2
-  pub spans : SpansTo (points_in row) k (held_extent left right low high)
+  pub spans : SpansTo (points_in row) k (extent left right low high)
 
 -- a point is in its own extent
 alone : (x y : ℤ) → InExtent (extent x x y y) (point x y)
 alone x y = record { from_left = ≤ℤ_refl x; to_right = ≤ℤ_refl x; from_low = ≤ℤ_refl y; to_high = ≤ℤ_refl y }
 
 pub extended_start : {row : List ℤ} → PointRun row → 0 < length row
-    → Extended row (of_z w32 (x_of row 0)) (of_z w32 (x_of row 0)) (of_z w32 (y_of row 0)) (of_z w32 (y_of row 0)) 1
+    → Extended row (number_back (x_of row 0)) (number_back (x_of row 0)) (number_back (y_of row 0)) (number_back (y_of row 0)) 1
 extended_start {row} run h =
     record {
       run = run;
@@ -90,14 +86,14 @@ extended_start {row} run h =
       spans = λ i l. let first : 0 ≡ i = omega arith in subst (InExtent _) (point_loaded run 0 ∙ ap (nth_point (points_in row)) first) (alone _ _);
     }
 
-module _ {row : List ℤ} {left right low high k : ℕ} (s : Extended row left right low high k) where
+module _ {row : List ℤ} {left right low high : ℤ} {k : ℕ} (s : Extended row left right low high k) where
   -- a turn: what `lesser_of` and `greater_of` gave of the extent and the point at hand
   pub extended_again : (l r d u : ℤ) → (mag l < 2 ^ 31) × (mag r < 2 ^ 31) × (mag d < 2 ^ 31) × (mag u < 2 ^ 31)
-      → (l ≤ℤ to_z w32 left) × (l ≤ℤ number_back (x_of row k)) → (to_z w32 right ≤ℤ r) × (number_back (x_of row k) ≤ℤ r)
-      → (d ≤ℤ to_z w32 low) × (d ≤ℤ number_back (y_of row k)) → (to_z w32 high ≤ℤ u) × (number_back (y_of row k) ≤ℤ u)
-      → k < length row / 2 → Extended row (of_z w32 l) (of_z w32 r) (of_z w32 d) (of_z w32 u) (k + 1)
+      → (l ≤ℤ left) × (l ≤ℤ number_back (x_of row k)) → (right ≤ℤ r) × (number_back (x_of row k) ≤ℤ r)
+      → (d ≤ℤ low) × (d ≤ℤ number_back (y_of row k)) → (high ≤ℤ u) × (number_back (y_of row k) ≤ℤ u)
+      → k < length row / 2 → Extended row (number_back l) (number_back r) (number_back d) (number_back u) (k + 1)
   extended_again l r d u ok to-left to_right to_low to_high h =
-      let held : held_extent (of_z w32 l) (of_z w32 r) (of_z w32 d) (of_z w32 u) ≡ extent l r d u =
+      let held : extent (number_back l) (number_back r) (number_back d) (number_back u) ≡ extent l r d u =
       λ t. extent (same w32 l ok.0 t) (same w32 r ok.1 t) (same w32 d ok.2 t) (same w32 u ok.3 t) in
       record {
         run = s.run;
@@ -106,7 +102,7 @@ module _ {row : List ℤ} {left right low high k : ℕ} (s : Extended row left r
             (spans_more l r d u to-left to_right to_low to_high (points_in row) s.spans (point_loaded s.run k));
       }
 
-  pub extended_end : length row / 2 ≤ k → Spans (points_in row) (held_extent left right low high)
+  pub extended_end : length row / 2 ≤ k → Spans (points_in row) (extent left right low high)
   extended_end h =
       let all : k ≡ length (points_in row) = omega (arith, s.upto, row_count row s.run.even) in
-      subst (λ (m : ℕ). SpansTo (points_in row) m (held_extent left right low high)) all s.spans
+      subst (λ (m : ℕ). SpansTo (points_in row) m (extent left right low high)) all s.spans

@@ -8,8 +8,6 @@ use native.Mathlib.Numerals.{add-one}
 use lib.Dec.{eqb}
 use lib.ListN.{length}
 use lib.IntN.{ℤ}
-use mir.Syntax.{w32}
-use mir.Val.{of_z}
 use Rattle.laws.specs.Count.{count}
 use Rattle.laws.specs.CountLaws.{tally, count_bound, count_start}
 use Rattle.polygons.specs.Flat.{Point, point, nth_point, PointNear, points_in}
@@ -17,15 +15,15 @@ use Rattle.contours.specs.Areas.{next_point, x_of, y_of}
 use Rattle.contours.specs.AreaLaws.{next_on, next_round}
 use Rattle.contours.specs.Runs.{PointRun}
 use Rattle.inside.specs.Inside.{counts_for, edge_counts, is_odd, lies_in}
-use Rattle.inside.specs.PointLaws.{row_count, row_point_lem, row_near, run_near, held_point, read_back, back_same, back_near}
+use Rattle.inside.specs.PointLaws.{row_count, row_point_lem, row_near, run_near, number_back, read_back, back_same, back_near}
 
 -- (ax, ay) is the point at hand
-pub record Counted (row : List ℤ) (p : Point) (last ax ay n k : ℕ) : Type 0 where
+pub record Counted (row : List ℤ) (p : Point) (last : ℕ) (ax ay : ℤ) (n k : ℕ) : Type 0 where
   pub run : PointRun row
   pub near : PointNear p
   pub some : last + 1 ≡ length (points_in row)
   pub upto : k ≤ last
-  pub at : held_point ax ay ≡ nth_point (points_in row) k
+  pub at : point ax ay ≡ nth_point (points_in row) k
   pub count_is : n ≡ count k (edge_counts p (points_in row))
 
 pub tally_few : (b : Bool) {m : ℕ} → m ≡ tally b → m ≤ 1
@@ -41,30 +39,30 @@ module _ {row : List ℤ} (run : PointRun row) (i : ℕ) where
   near_loaded = back_near (point (x_of row i) (y_of row i)) (row_near run i)
 
 pub counted_start : {row : List ℤ} {last : ℕ} (p : Point) → PointRun row → PointNear p → last + 1 ≡ length row / 2
-    → Counted row (read_back p) last (of_z w32 (x_of row 0)) (of_z w32 (y_of row 0)) 0 0
+    → Counted row (read_back p) last (number_back (x_of row 0)) (number_back (y_of row 0)) 0 0
 counted_start {row} p run near e =
     let some = e ∙ sym (row_count row run.even) in
     record { run = run; near = back_near p near; some = some; upto = omega arith; at = point_loaded run 0; count_is = count_start _ }
 
-module _ {row : List ℤ} {p : Point} {last ax ay n k : ℕ} (s : Counted row p last ax ay n k) where
+module _ {row : List ℤ} {p : Point} {last n k : ℕ} {ax ay : ℤ} (s : Counted row p last ax ay n k) where
   abbrev c : List Point
   c = points_in row
 
   -- the point at hand is in range
-  pub at_near : PointNear (held_point ax ay)
+  pub at_near : PointNear (point ax ay)
   at_near = subst PointNear (sym s.at) (run_near s.run k)
 
   pub counted_few : n ≤ k
   counted_few = omega (arith, s.count_is, count_bound k (edge_counts p c))
 
   -- what the edge from the point at hand to the next one adds
-  added : {q : Point} {b : Bool} {m : ℕ} → b ≡ counts_for p (held_point ax ay) q → m ≡ tally b → q ≡ nth_point c (next_point (length c) k)
+  added : {q : Point} {b : Bool} {m : ℕ} → b ≡ counts_for p (point ax ay) q → m ≡ tally b → q ≡ nth_point c (next_point (length c) k)
       → n + m ≡ count (suc k) (edge_counts p c)
   unfolding count
   added told is e = omega (arith, s.count_is, is ∙ ap tally (told ∙ (λ t. counts_for p (s.at t) (e t))))
 
   -- a turn: the next point
-  pub counted_again : {u v m : ℕ} {b : Bool} → held_point u v ≡ nth_point c (k + 1) → b ≡ counts_for p (held_point ax ay) (held_point u v) → m ≡ tally b → k < last
+  pub counted_again : {u v : ℤ} {m : ℕ} {b : Bool} → point u v ≡ nth_point c (k + 1) → b ≡ counts_for p (point ax ay) (point u v) → m ≡ tally b → k < last
       → Counted row p last u v (n + m) (k + 1)
   counted_again e told is l =
       let next = sym (next_on (length c) k (omega (arith, s.some))) in
@@ -72,7 +70,7 @@ module _ {row : List ℤ} {p : Point} {last ax ay n k : ℕ} (s : Counted row p 
       record { run = s.run; near = s.near; some = s.some; upto = omega arith; at = e; count_is = total }
 
   -- the end: back to the first
-  pub counted_round : {q : Point} {m : ℕ} {b : Bool} → q ≡ nth_point c 0 → b ≡ counts_for p (held_point ax ay) q → m ≡ tally b → last ≤ k
+  pub counted_round : {q : Point} {m : ℕ} {b : Bool} → q ≡ nth_point c 0 → b ≡ counts_for p (point ax ay) q → m ≡ tally b → last ≤ k
       → eqb ((n + m) % 2) 1 ≡ lies_in p c
   unfolding lies_in is_odd
   counted_round e told is l =

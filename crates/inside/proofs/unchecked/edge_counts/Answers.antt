@@ -1,5 +1,4 @@
 -- `unchecked::edge_counts` meets its contract.
-use borrow.Author.Rules.{rules}
 use Rattle.polygons.specs.Flat.{point}
 use Rattle.inside.proofs.Edges.{EdgeNear, level_told, up_told, down_told}
 use Rattle.inside.proofs.unchecked.edge_counts.Goals as goal

@@ -1,8 +1,6 @@
 -- `unchecked::extent_of` meets its contract.
 use Prim.Native.Nat.{◌-◌}
-use native.Mathlib.Omega.{arith}
-use borrow.Author.Rules.{rules}
-use Rattle.inside.proofs.Extending.{Extended, extended_start, extended_again, extended_end}
+use Rattle.inside.proofs.Extending.{Extended}
 use Rattle.inside.proofs.unchecked.extent_of.Given as goal
 
 abbrev pub invariant-loop-k : goal.invariant-loop-k

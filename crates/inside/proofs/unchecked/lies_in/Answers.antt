@@ -1,11 +1,11 @@
 -- `unchecked::lies_in` meets its contract.
-use Prim.Native.Nat.{◌+◌, ◌-◌}
+use Prim.Native.Nat.{◌+◌}
 use mathlib.Core.Path.{◌∙◌}
 use native.Mathlib.Omega.{arith}
 use borrow.Author.Rules.{rules}
 use Rattle.polygons.specs.Flat.{point}
-use Rattle.inside.specs.PointLaws.{held_point, back_lies}
-use Rattle.inside.proofs.Rounds.{Counted, tally_few, point_loaded, near_loaded, counted_start, at_near, counted_few, counted_again, counted_round}
+use Rattle.inside.specs.PointLaws.{back_lies}
+use Rattle.inside.proofs.Rounds.{tally_few, point_loaded, near_loaded, counted_start, at_near, counted_few, counted_again, counted_round}
 use Rattle.inside.proofs.unchecked.lies_in.Goals as goal
 
 pub overflow_sub-last : goal.overflow_sub-last
@@ -43,12 +43,12 @@ pub edge_counts-requires-2 : goal.edge_counts-requires-2
 edge_counts-requires-2 c = let s = c.loop-k.invariant in search (rules, s.near, at_near s, near_loaded s.run 0)
 
 pub overflow_add-n-2 : goal.overflow_add-n-2
-overflow_add-n-2 c =
-    omega (arith, counted_few c.loop-k.invariant, tally_few c.edge_counts-2.result c.one_if-n-2.ensures.value)
+overflow_add-n-2 c = omega (arith, counted_few c.loop-k.invariant, tally_few c.edge_counts-2.result c.one_if-n-2.ensures.value)
 
 pub returns : goal.returns
 returns c =
-    let s = c.loop-k.invariant in record {
+    let s = c.loop-k.invariant in
+    record {
       value = counted_round s (point_loaded s.run 0) c.edge_counts-2.ensures.value c.one_if-n-2.ensures.value c.loop-k-test.false
           ∙ back_lies _ c.requires.2 _;
     }

@@ -1,6 +1,5 @@
 -- `unchecked::lies_within` meets its contract.
 use mathlib.Core.Path.{◌∙◌}
-use borrow.Author.Rules.{rules}
 use Rattle.inside.specs.PointLaws.{back_lies}
 use Rattle.inside.proofs.Bounds.{not_within}
 use Rattle.inside.proofs.unchecked.lies_within.Goals as goal
