@@ -1,7 +1,6 @@
 -- `nesting` meets its contract.
 use mathlib.Core.Path.{ap}
 use borrow.Author.Tests.{not-true, not-false}
-use borrow.Author.Rules.{rules}
 use Rattle.mesh.specs.Refusals.{tell_verdict}
 use Rattle.nesting.proofs.Answers.{layer_refused, tables_short, tables_there, layer_nested}
 use Rattle.nesting.proofs.nesting.Goals as goal

@@ -1,6 +1,5 @@
 -- `unchecked::is_closer` meets its contract: any contour is closer than none; else the area of q is found and compared.
 use mathlib.Core.Path.{◌∙◌, ap}
-use borrow.Author.Rules.{rules}
 use Rattle.contours.specs.Contours.{contour_of}
 use Rattle.nesting.proofs.Meetings.{fetched_run, fetched_size, parent_there, closer_none, closer_than}
 use Rattle.nesting.proofs.unchecked.is_closer.Goals as goal
@@ -16,4 +15,8 @@ absolute_area-requires c =
 pub returns : goal.returns
 returns c =
     let asked = c.requires in
-    let is = c.contour-c.ensures.value ∙ ap (contour_of _ _) c.wide.ensures.value in record { value = closer_than _ _ _ c.if-q-eq-NO_PARENT.false (fetched_size asked.0 (parent_there asked.1 c.if-q-eq-NO_PARENT.false) is c.absolute_area.ensures.value) }
+    let is = c.contour-c.ensures.value ∙ ap (contour_of _ _) c.wide.ensures.value in
+    record {
+      value = closer_than _ _ _ c.if-q-eq-NO_PARENT.false
+          (fetched_size asked.0 (parent_there asked.1 c.if-q-eq-NO_PARENT.false) is c.absolute_area.ensures.value);
+    }

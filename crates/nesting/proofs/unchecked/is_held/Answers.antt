@@ -1,5 +1,4 @@
 -- `unchecked::is_held` meets its contract: a contour is not held by itself, by another as its first point lies in it.
-use borrow.Author.Rules.{rules}
 use Rattle.nesting.proofs.Meetings.{by_itself, by_another}
 use Rattle.nesting.proofs.unchecked.is_held.Goals as goal
 

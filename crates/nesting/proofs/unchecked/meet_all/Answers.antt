@@ -1,11 +1,6 @@
 -- `unchecked::meet_all` meets its contract: one contour after another has what contour j adds (`MeetsTo`); its first point is read where the one before ends.
-use Prim.Native.Nat.{◌-◌}
 use native.Mathlib.Omega.{arith}
-use lib.ListN.{length}
-use borrow.Author.Rules.{rules}
-use Rattle.polygons.specs.Flat.{flat}
-use Rattle.nesting.specs.Nesting.{nest_tables}
-use Rattle.nesting.proofs.Holding.{MeetsTo, meets_start, start_within, held_asked, meet_asked, meets_again, meets_lengths, meets_end}
+use Rattle.nesting.proofs.Holding.{meets_start, start_within, held_asked, meet_asked, meets_again, meets_lengths, meets_end}
 use Rattle.nesting.proofs.unchecked.meet_all.Goals as goal
 
 pub loop-i-init : goal.loop-i-init
@@ -33,12 +28,10 @@ pub is_held-inside-requires : goal.is_held-inside-requires
 is_held-inside-requires c = held_asked c.loop-i.invariant c.loop-i-test.true
 
 pub meet_one-requires : goal.meet_one-requires
-meet_one-requires c =
-    meet_asked c.loop-i.invariant c.loop-i-test.true c.is_held-inside.ensures.value
+meet_one-requires c = meet_asked c.loop-i.invariant c.loop-i-test.true c.is_held-inside.ensures.value
 
 pub loop-i-preserved : goal.loop-i-preserved
-loop-i-preserved c =
-    meets_again c.loop-i.invariant c.loop-i-test.true c.meet_one.ensures.left c.wide-start.ensures.value
+loop-i-preserved c = meets_again c.loop-i.invariant c.loop-i-test.true c.meet_one.ensures.left c.wide-start.ensures.value
 
 pub shape_of-depths : goal.shape_of-depths
 shape_of-depths c = (meets_lengths c.loop-i.invariant).0

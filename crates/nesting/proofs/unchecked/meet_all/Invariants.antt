@@ -1,11 +1,9 @@
 -- `unchecked::meet_all` meets its contract: one contour after another has what contour j adds (`MeetsTo`); its first point is read where the one before ends.
 use Prim.Native.Nat.{◌-◌}
-use native.Mathlib.Omega.{arith}
 use lib.ListN.{length}
-use borrow.Author.Rules.{rules}
 use Rattle.polygons.specs.Flat.{flat}
 use Rattle.nesting.specs.Nesting.{nest_tables}
-use Rattle.nesting.proofs.Holding.{MeetsTo, meets_start, start_within, held_asked, meet_asked, meets_again, meets_lengths, meets_end}
+use Rattle.nesting.proofs.Holding.{MeetsTo}
 use Rattle.nesting.proofs.unchecked.meet_all.Given as goal
 
 abbrev pub invariant-loop-i : goal.invariant-loop-i

@@ -1,7 +1,6 @@
 -- `unchecked::meet_one` meets its contract: where contour j does not hold contour i all stays; else the depth is one more, and the parent is j if it is closer.
 use native.Mathlib.Omega.{arith}
 use borrow.Author.Tests.{not-true, not-false}
-use borrow.Author.Rules.{rules}
 use Rattle.nesting.proofs.Meetings.{deeper_fits, number_fits, met_not, met_kept, met_parent}
 use Rattle.nesting.proofs.unchecked.meet_one.Goals as goal
 
@@ -12,8 +11,7 @@ pub overflow_add-depths : goal.overflow_add-depths
 overflow_add-depths c = omega (arith, deeper_fits c.requires)
 
 pub overflow_cast-parents : goal.overflow_cast-parents
-overflow_cast-parents c =
-    omega (arith, number_fits c.requires)
+overflow_cast-parents c = omega (arith, number_fits c.requires)
 
 pub returns-then-is_closer : goal.returns-then-is_closer
 returns-then-is_closer c = record { left = met_parent c.requires (not-false _ c.if-not-inside.false-raw) c.is_closer.ensures.value c.if-is_closer.true }

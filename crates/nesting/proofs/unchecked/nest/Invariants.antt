@@ -1,10 +1,8 @@
 -- `unchecked::nest` meets its contract: after the first j contours the tables have depth and parent among these (`NestsTo`); emptied, among none.
 use Prim.Native.Nat.{◌-◌}
-use mathlib.Core.Path.{◌∙◌}
-use native.Mathlib.Omega.{arith}
 use Rattle.polygons.specs.Flat.{flat}
 use Rattle.nesting.specs.Nesting.{nest_tables}
-use Rattle.nesting.proofs.Filling.{NestsTo, nests_start, nests_entries, nests_again, nests_lengths, nests_end}
+use Rattle.nesting.proofs.Filling.{NestsTo}
 use Rattle.nesting.proofs.unchecked.nest.Given as goal
 
 abbrev pub invariant-loop-j : goal.invariant-loop-j
