@@ -48,7 +48,8 @@ broken_of : (u : ℕ) (d : Decoded (List Layer)) {q : ℕ} → Broken q ≡ char
 broken_of u (holds ls) e = let z : ◌≡◌ {A = ℕ} 0 1 = cc in absurd (omega arith)
 broken_of u (broken p) e = cc
 
-charge_of_lem : (u : ℕ) (d : Decoded (List Layer)) {n : ℕ} → FileCharge n ≡ charge_of u d → (ls : List Layer) × (d ≡ holds ls) × (n ≡ job_charge u ls)
+charge_of_lem : (u : ℕ) (d : Decoded (List Layer)) {n : ℕ} → FileCharge n ≡ charge_of u d
+    → (ls : List Layer) × (d ≡ holds ls) × (n ≡ job_charge u ls)
 charge_of_lem u (holds ls) e = (ls, refl, cc)
 charge_of_lem u (broken p) e = let z : ◌≡◌ {A = ℕ} 0 1 = cc in absurd (omega arith)
 

@@ -49,7 +49,9 @@ module _ (t : ℕ) (file : List ℕ) where
 
     module _ {i c : ℕ} (f : charges_at t n file start ≡ End i c) where
       passed : (ls : List Layer) × ParsedAt layers file start ls i × (job_charge t ls ≡ c)
-      passed = from_good charges_kinds (job_charge t) layers file start (sequence_tails layer_format height_of (layer_tails Full) n lowest) (took e).inside c i f
+      passed =
+          from_good charges_kinds (job_charge t) layers file start (sequence_tails layer_format height_of (layer_tails Full) n lowest)
+          (took e).inside c i f
 
       pub left_over_lem : i < length file → Broken i ≡ charge_of t (layers_of file)
       left_over_lem h = off_broken (final_over layers file start passed.0 i passed.1 h)

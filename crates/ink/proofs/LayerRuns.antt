@@ -40,7 +40,8 @@ module _ (t : ℕ) where
       pub thin : t ≤ most_thickness
       pub small : charge + left * most_charge ≤ most_layers * most_charge
 
-    pub run_start : {at count : ℕ} → at ≤ length file → count ≤ most_layers → t ≤ most_thickness → ChargeRun (charges_at t count file at) lowest 0 at count
+    pub run_start : {at count : ℕ} → at ≤ length file → count ≤ most_layers → t ≤ most_thickness
+        → ChargeRun (charges_at t count file at) lowest 0 at count
     run_start {at} {count} h k n =
         record {
           run =

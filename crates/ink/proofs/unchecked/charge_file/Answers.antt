@@ -1,7 +1,5 @@
 -- `unchecked::charge_file` meets its contract.
 use mathlib.Core.Path.{◌≡◌, sym, ◌∙◌}
-use mathlib.Core.List.{List}
-use Prim.Native.Nat.{ℕ}
 use native.Mathlib.Omega.{arith}
 use borrow.Author.Rules.{rules}
 use Rattle.file_formats.specs.LayerFile.{most_layers}
@@ -18,32 +16,28 @@ pub returns-in_default : goal.returns-in_default
 returns-in_default c = record { value = no_count c.args.thickness _ (sym c.read_number-n.ensures.value ∙ c.in_default.is) }
 
 -- the layer count, and where the layers start
-module _ (c : In-Value) where
-  abbrev file : List ℕ
-  file = c.args.file.now
-
-  abbrev number : ℕ
-  number = c.in-Value.count
-
-  abbrev start : ℕ
-  start = c.in-Value.start
-
-  count : number_at most_layers file 0 ≡ Value number start
-  count = sym c.read_number-n.ensures.value ∙ c.in-Value.is
+count : (c : In-Value) → number_at most_layers c.args.file.now 0 ≡ Value c.in-Value.count c.in-Value.start
+count c = sym c.read_number-n.ensures.value ∙ c.in-Value.is
 
 pub charge_layers-c-requires : goal.charge_layers-c-requires
 charge_layers-c-requires c = let n = took (count c) in (n.inside, n.low, c.requires)
 
 -- what the layers are charged
 charges : (c : After-charge_layers-c) {s : ChargeExtent} → c.charge_layers-c.result ≡ s
-    → charges_at c.args.thickness (number c.before) (file c.before) (start c.before) ≡ s
+    → charges_at c.args.thickness c.in-Value.count c.args.file.now c.in-Value.start ≡ s
 charges c e = sym c.charge_layers-c.ensures.value ∙ e
 
 pub returns-then-e-file : goal.returns-then-e-file
-returns-then-e-file c = record { value = left_over_lem _ _ (count (goal.at.returns-then-e-file c).In-Value) (charges (goal.at.returns-then-e-file c).After-charge_layers-c c.in-End.is) (omega (arith, c.if-e-file.true)) }
+returns-then-e-file c =
+    let at = goal.at.returns-then-e-file c in
+    record { value = left_over_lem _ _ (count at.In-Value) (charges at.After-charge_layers-c c.in-End.is) (omega (arith, c.if-e-file.true)) }
 
 pub returns-in-Refused : goal.returns-in-Refused
-returns-in-Refused c = record { value = layers_refused _ _ (count (goal.at.returns-in-Refused c).In-Value) (charges (goal.at.returns-in-Refused c).After-charge_layers-c c.in-Refused.is) }
+returns-in-Refused c =
+    let at = goal.at.returns-in-Refused c in
+    record { value = layers_refused _ _ (count at.In-Value) (charges at.After-charge_layers-c c.in-Refused.is) }
 
 pub returns-else-e-file : goal.returns-else-e-file
-returns-else-e-file c = record { value = all_charged _ _ (count (goal.at.returns-else-e-file c).In-Value) (charges (goal.at.returns-else-e-file c).After-charge_layers-c c.in-End.is) (omega (arith, c.if-e-file.false)) }
+returns-else-e-file c =
+    let at = goal.at.returns-else-e-file c in
+    record { value = all_charged _ _ (count at.In-Value) (charges at.After-charge_layers-c c.in-End.is) (omega (arith, c.if-e-file.false)) }

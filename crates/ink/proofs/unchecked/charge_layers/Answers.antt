@@ -21,33 +21,28 @@ pub check_layer-l-requires : goal.check_layer-l-requires
 check_layer-l-requires c = c.loop-left.invariant.run.inside
 
 pub layer_charge-charge-requires : goal.layer_charge-charge-requires
-layer_charge-charge-requires c =
-    omega (arith, c.loop-left.invariant.thin)
+layer_charge-charge-requires c = omega (arith, c.loop-left.invariant.thin)
 
 -- the layer that was read
-told : (c : In-End)
-    →
-    layer_told_at Full (to_z w64 c.loop-left.new) c.args.file.now c.loop-left.i
+told : (c : In-End) → layer_told_at Full (to_z w64 c.loop-left.last-bits) c.args.file.now c.loop-left.i
     ≡ End c.in-End.next c.in-End.z c.in-End.area
 told c = sym c.check_layer-l.ensures.value ∙ c.in-End.is
 
 -- and what it is charged
-charged : (c : After-layer_charge-charge)
-    →
-    c.layer_charge-charge.result ≡ layer_charge c.args.thickness c.in-End.area
+charged : (c : After-layer_charge-charge) → c.layer_charge-charge.result ≡ layer_charge c.args.thickness c.in-End.area
 charged c = c.layer_charge-charge.ensures.value ∙ ap (layer_charge _) (same w64 c.in-End.area (omega arith))
 
 pub overflow_add-charge : goal.overflow_add-charge
 overflow_add-charge c =
-    omega (arith, sum_small c.loop-left.invariant (omega (arith, c.loop-left-test.true)) (told (goal.at.overflow_add-charge c).In-End) (charged c))
+    omega (arith, sum_small c.loop-left.invariant c.loop-left-test.true (told (goal.at.overflow_add-charge c).In-End) (charged c))
 
 pub returns-in-Refused : goal.returns-in-Refused
-returns-in-Refused c = record { value = run_stops c.loop-left.invariant (omega (arith, c.loop-left-test.true)) (sym c.check_layer-l.ensures.value ∙ c.in-Refused.is) }
+returns-in-Refused c = record { value = run_stops c.loop-left.invariant c.loop-left-test.true (sym c.check_layer-l.ensures.value ∙ c.in-Refused.is) }
 
 pub loop-left-preserved : goal.loop-left-preserved
 loop-left-preserved c =
-    run_passes c.loop-left.invariant (omega (arith, c.loop-left-test.true)) (told (goal.at.loop-left-preserved c).In-End) (charged c)
+    run_passes c.loop-left.invariant c.loop-left-test.true (told (goal.at.loop-left-preserved c).In-End) (charged c)
     (same w64 c.in-End.z (omega arith))
 
 pub returns : goal.returns
-returns c = record { value = run_ends c.loop-left.invariant (omega (arith, c.loop-left-test.false)) }
+returns c = record { value = run_ends c.loop-left.invariant c.loop-left-test.false }
