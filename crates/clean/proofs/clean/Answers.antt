@@ -3,7 +3,6 @@ use mathlib.Core.Path.{ap}
 use native.Mathlib.Omega.{arith}
 use Rattle.mesh.specs.Refusals.{tell_verdict}
 use Rattle.clean.proofs.Answers.{layer_refused, points_short, ends_short, tables_there, layer_cleaned}
-use borrow.Author.Rules.{rules}
 use Rattle.clean.proofs.clean.Goals as goal
 
 pub returns-in-Refused : goal.returns-in-Refused
