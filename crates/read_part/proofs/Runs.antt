@@ -8,7 +8,7 @@ use lib.Seq.{sets}
 use lib.IntN.{ℤ}
 use Rattle.laws.specs.Tables.{overwrite}
 use Rattle.laws.specs.TableLaws.{overwrite_none, overwrite_more}
-use Rattle.file_formats.specs.Formats.{Parse, parsed, refused, Format, mapped, alike, stay, parse_all}
+use Rattle.file_formats.specs.Formats.{Parse, parsed, refused, Format, alike, stay, parse_all}
 use Rattle.file_formats.specs.FormatLaws.{not_refused}
 use Rattle.file_formats.specs.Numbers.{largest_word, number, unzigzag, signed}
 use Rattle.file_formats.specs.NumberLaws.{signed_parsed, signed_refused}

@@ -17,7 +17,7 @@ use Rattle.file_formats.specs.RoundTripLaws.{part_read_back, part_written_lem}
 use Rattle.file_formats.specs.WholeFileLaws.{decode_inside, held_or_is, form_first, form_next, fine_holds, thirteen_exactly}
 use Rattle.read_part.specs.declared.ReadPartAnswer.{ReadPartAnswer}
 use Rattle.read_part.specs.declared.ReadPartAnswer.TheVariants.{Counts, Refused}
-use Rattle.read_part.specs.Parts.{part, PartSizes, part_sizes_of, read_part_room_for, no_part_room, part_in, part_tests, part_counts, fills_part, part_reading}
+use Rattle.read_part.specs.Parts.{part, PartSizes, part_sizes_of, read_part_room_for, no_part_room, part_in, part_tests, part_counts, fills_part}
 use Rattle.read_part.specs.Parts.{tell_read_part, ReadsPart}
 
 -- ---- 9

@@ -2,7 +2,6 @@
 use mathlib.Core.Path.{refl}
 use Rattle.read_part.specs.Layouts.{Laid}
 use Rattle.read_part.proofs.Answers.{found_whole, found_broken, reads_broken, reads_short, coords_fit, corners_fit, heights_fit, reads_filled}
-use borrow.Author.Rules.{rules}
 use Rattle.read_part.proofs.read_part.Goals as goal
 use Rattle.read_part.proofs.read_part.Goals.{After-read_part_room_for}
 

@@ -1,10 +1,7 @@
 -- `unchecked::check_run` meets its contract. The invariant: what is left at i goes as far as the whole run does.
 use mathlib.Core.Path.{sym, ◌∙◌}
-use borrow.Author.Rules.{rules}
-use Rattle.file_formats.specs.Positions.{extent_at}
-use Rattle.file_formats.specs.PartFile.{plain_run}
 use Rattle.file_formats.specs.SequenceLaws.{check_end}
-use Rattle.read_part.proofs.Runs.{RunCheck, run_check_start, run_check_refused, run_check_passed}
+use Rattle.read_part.proofs.Runs.{run_check_start, run_check_refused, run_check_passed}
 use Rattle.read_part.proofs.unchecked.check_run.Goals as goal
 
 pub loop-left-init : goal.loop-left-init

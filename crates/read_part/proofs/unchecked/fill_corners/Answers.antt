@@ -2,12 +2,8 @@
 use mathlib.Core.Path.{sym, ◌∙◌}
 use Prim.Native.Nat.{◌<◌}
 use native.Mathlib.Omega.{arith}
-use borrow.Author.Rules.{rules}
-use Rattle.file_formats.specs.Numbers.{largest_word, number}
-use Rattle.file_formats.specs.PartFile.{plain_run}
 use Rattle.file_formats.specs.PositionLaws.{took}
-use Rattle.read_part.specs.Layouts.{values_of}
-use Rattle.read_part.proofs.Runs.{RunFilling, fill_room, fill_end, plain_start, plain_there, plain_next}
+use Rattle.read_part.proofs.Runs.{fill_room, fill_end, plain_start, plain_there, plain_next}
 use Rattle.read_part.proofs.unchecked.fill_corners.Goals as goal
 use Rattle.read_part.proofs.unchecked.fill_corners.Goals.{In-loop-unread}
 

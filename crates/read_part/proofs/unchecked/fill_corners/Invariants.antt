@@ -1,13 +1,8 @@
 -- `unchecked::fill_corners` meets its contract. The invariant: the corners that are left stand at i and go to c.
-use mathlib.Core.Path.{sym, ◌∙◌}
-use Prim.Native.Nat.{◌<◌}
-use native.Mathlib.Omega.{arith}
-use borrow.Author.Rules.{rules}
 use Rattle.file_formats.specs.Numbers.{largest_word, number}
 use Rattle.file_formats.specs.PartFile.{plain_run}
-use Rattle.file_formats.specs.PositionLaws.{took}
 use Rattle.read_part.specs.Layouts.{values_of}
-use Rattle.read_part.proofs.Runs.{RunFilling, fill_room, fill_end, plain_start, plain_there, plain_next}
+use Rattle.read_part.proofs.Runs.{RunFilling}
 use Rattle.read_part.proofs.unchecked.fill_corners.Given as goal
 
 abbrev pub invariant-loop-unread : goal.invariant-loop-unread

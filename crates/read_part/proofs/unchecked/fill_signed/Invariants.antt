@@ -1,14 +1,8 @@
 -- `unchecked::fill_signed` meets its contract. The invariant: the numbers that are left stand at i and go to k.
-use mathlib.Core.Path.{sym, ◌∙◌}
-use native.Mathlib.Omega.{arith}
-use borrow.Author.Rules.{rules}
-use mir.Syntax.{w32}
-use Rattle.laws.specs.Machine.{same}
 use Rattle.file_formats.specs.Numbers.{largest_word, signed}
 use Rattle.file_formats.specs.PartFile.{signed_run}
-use Rattle.file_formats.specs.PositionLaws.{took}
 use Rattle.read_part.specs.Layouts.{values_of}
-use Rattle.read_part.proofs.Runs.{RunFilling, fill_room, fill_end, signed_start, signed_there, signed_next}
+use Rattle.read_part.proofs.Runs.{RunFilling}
 use Rattle.read_part.proofs.unchecked.fill_signed.Given as goal
 
 abbrev pub invariant-loop-left : goal.invariant-loop-left

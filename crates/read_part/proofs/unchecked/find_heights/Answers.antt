@@ -3,7 +3,6 @@ use mathlib.Core.Path.{sym, ◌∙◌}
 use Rattle.file_formats.specs.PositionLaws.{took}
 use Rattle.read_part.specs.Layouts.{Finds}
 use Rattle.read_part.proofs.Finding.{no_height_count, heights_broken, left_over_lem, laid}
-use borrow.Author.Rules.{rules}
 use Rattle.read_part.proofs.unchecked.find_heights.Goals as goal
 
 pub returns-in_default : goal.returns-in_default

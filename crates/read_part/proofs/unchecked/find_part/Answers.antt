@@ -4,7 +4,6 @@ use native.Mathlib.Omega.{arith}
 use Rattle.file_formats.specs.PositionLaws.{took}
 use Rattle.read_part.specs.Layouts.{Finds}
 use Rattle.read_part.proofs.Finding.{no_vertex_count, no_triangle_count, counts_stand}
-use borrow.Author.Rules.{rules}
 use Rattle.read_part.proofs.unchecked.find_part.Goals as goal
 
 pub returns-in_default : goal.returns-in_default

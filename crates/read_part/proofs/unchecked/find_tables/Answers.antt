@@ -2,7 +2,6 @@
 use mathlib.Core.Path.{sym, ◌∙◌}
 use Rattle.read_part.specs.Layouts.{Finds}
 use Rattle.read_part.proofs.Finding.{coords_broken, coords_run, corners_broken, tabled}
-use borrow.Author.Rules.{rules}
 use Rattle.read_part.proofs.unchecked.find_tables.Goals as goal
 
 pub check_run-f-requires : goal.check_run-f-requires

@@ -1,6 +1,5 @@
 -- `unchecked::signed_word` meets its contract.
 use Rattle.read_part.proofs.Words.{narrow_ok, narrow}
-use borrow.Author.Rules.{rules}
 use Rattle.read_part.proofs.unchecked.signed_word.Goals as goal
 
 pub overflow_cast-result : goal.overflow_cast-result
