@@ -34,6 +34,11 @@ module _ {l : List ℕ} {at : ℕ} {line m : List ℕ} {p : ℕ} where
   pub words_put : WordsLeft l at line m p [] → PutsText l at line p m
   words_put k = all_put k.left
 
+-- and the next one too
+pub words_2 : {l : List ℕ} {at : ℕ} {line m : List ℕ} {p : ℕ} {v w : List ℕ} {ws : List (List ℕ)} {q r : ℕ} {n o : List ℕ}
+    → WordsLeft l at line m p (v ∷ w ∷ ws) → PutsText m p v q n → PutsText n q w r o → WordsLeft l at line o r ws
+words_2 k a b = word_put (word_put k a) b
+
 -- ---- each line: as long as its words
 
 refused_short : (r : Told) → r.number < 2 ^ 64 → r.place < 2 ^ 64 → length (refused_line r) ≤ most_refused

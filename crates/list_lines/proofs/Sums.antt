@@ -5,11 +5,12 @@ use mathlib.Core.List.{List}
 use native.Mathlib.Omega.{arith}
 use native.Mathlib.Numerals.{add-one}
 use native.Mathlib.Nat.{mul-le-mul_right, le_trans}
-use lib.IntN.{ℤ, nat_abs, ◌+ℤ◌}
-use lib.Signed.{mag}
+use lib.IntN.{ℤ, pos, nat_abs, ◌+ℤ◌}
 use mir.Syntax.{w64}
 use mir.Val.{SFits, to_z, of_z}
-use Rattle.laws.specs.Machine.{Rd, got, add_ok, add}
+use mir.ValLaws.{to_z-of_z}
+use Rattle.laws.specs.Integers.{abs_add}
+use Rattle.laws.specs.Machine.{ok}
 use Rattle.mesh.specs.OperationLaws.{apart}
 use Rattle.mesh.specs.declared.Refusal.{Refusal}
 use Rattle.contours.specs.declared.AreaAnswer.{AreaAnswer}
@@ -42,11 +43,11 @@ area_most points r h =
     (mul-le-mul_right largest_cross h)
 
 -- i contours are summed
-pub record AreasSummed (points : List ℤ) (ends : List ℕ) (j sum i : ℕ) : Type 0 where
+pub record AreasSummed (points : List ℤ) (ends : List ℕ) (j : ℕ) (sum : ℤ) (i : ℕ) : Type 0 where
   pub upto : i ≤ j
-  pub is : to_z w64 sum ≡ areas_in points ends i
+  pub is : sum ≡ areas_in points ends i
 
-pub summed_start : {points : List ℤ} {ends : List ℕ} {j : ℕ} → AreasSummed points ends j 0 0
+pub summed_start : {points : List ℤ} {ends : List ℕ} {j : ℕ} → AreasSummed points ends j (pos 0) 0
 unfolding areas_in sum_of
 summed_start = record { upto = omega arith; is = refl }
 
@@ -60,19 +61,23 @@ module _ {points : List ℤ} {ends : List ℕ} {j : ℕ} (s : Summable points en
       (λ k l. area_most (contour_of points ends k) (s.each k (omega arith)) (s.short k (omega arith))))
       (mul-le-mul_right (held_entries * largest_cross) m)
 
-  module _ {sum i : ℕ} (w : AreasSummed points ends j sum i) (h : i < j) (a : ℤ) (fits : mag a < 2 ^ 63) (e : a ≡ area_of (contour_of points ends i)) where
-    abbrev before : Rd w64 (areas_in points ends i) (held_entries * (held_entries * largest_cross))
-    before = record { n = sum; is = w.is; le = sum_most i w.upto }
+  module _ {sum : ℤ} {i : ℕ} (w : AreasSummed points ends j sum i) (h : i < j) {a : ℤ} (e : a ≡ area_of (contour_of points ends i)) where
+    pub sum_fits : SFits w64 (sum +ℤ a)
+    sum_fits =
+        let this = area_most (contour_of points ends i) (s.each i h) (s.short i h) in
+        let x = areas_in points ends i in
+        let y = area_of (contour_of points ends i) in
+        let both : nat_abs (x +ℤ y) ≤ held_entries * (held_entries * largest_cross) + held_entries * largest_cross =
+        omega (arith, abs_add x y, sum_most i w.upto, this) in
+        ok (λ k. w.is k +ℤ e k) both tt
 
-    abbrev this : Rd w64 (area_of (contour_of points ends i)) (held_entries * largest_cross)
-    this = got fits e (area_most (contour_of points ends i) (s.each i h) (s.short i h))
-
-    pub sum_fits : SFits w64 (to_z w64 sum +ℤ to_z w64 (of_z w64 a))
-    sum_fits = add_ok before this tt
-
-    pub summed_next : AreasSummed points ends j (of_z w64 (to_z w64 sum +ℤ to_z w64 (of_z w64 a))) (i + 1)
+    pub summed_next : AreasSummed points ends j (to_z w64 (of_z w64 (sum +ℤ a))) (i + 1)
     unfolding areas_in sum_of
-    summed_next = record { upto = omega arith; is = (add before this tt).is ∙ ap (areas_in points ends) (sym (add-one i)) }
+    summed_next =
+        record {
+          upto = omega arith;
+          is = to_z-of_z w64 (sum +ℤ a) sum_fits ∙ (λ k. w.is k +ℤ e k) ∙ ap (areas_in points ends) (sym (add-one i));
+        }
 
-  pub summed_end : {sum i : ℕ} → AreasSummed points ends j sum i → j ≤ i → to_z w64 sum ≡ areas_in points ends j
+  pub summed_end : {sum : ℤ} {i : ℕ} → AreasSummed points ends j sum i → j ≤ i → sum ≡ areas_in points ends j
   summed_end {sum} {i} w h = w.is ∙ ap (areas_in points ends) (let e : i ≡ j = omega (arith, w.upto) in e)

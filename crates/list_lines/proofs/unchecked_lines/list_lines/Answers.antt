@@ -13,22 +13,13 @@ use Rattle.list_lines.proofs.Layers.{LinesPut, lines_start, next_line_room, line
 use Rattle.list_lines.proofs.Layers.{SameLengths, lengths_start, still_workable, lengths_next}
 use borrow.Author.Rules.{rules}
 use Rattle.list_lines.proofs.unchecked_lines.list_lines.Goals as goal
-use Rattle.list_lines.proofs.unchecked_lines.list_lines.Goals.{After-taken_height-h, In-loop-k}
+use Rattle.list_lines.proofs.unchecked_lines.list_lines.Goals.{In-loop-k}
 
 -- a height is left
 height-left : (c : In-loop-k)
     →
     c.loop-k.k < length (heights_taken c.args.coords.now c.args.heights.now)
 height-left c = omega (arith, c.loop-k-test.true, c.taken_count-n.ensures.value)
-
--- the height at hand, as the call gets it
-height : (c : After-taken_height-h)
-    →
-    to_z w32 (of_z w32 c.taken_height-h.result)
-    ≡ get_or (heights_taken c.args.coords.now c.args.heights.now) c.loop-k.k (pos 0)
-height c =
-    let taken = c.taken_height-h in
-    height_is c.requires.fact_1 c.base_z-low.ensures.value c.base_z-low.type_inv _ (height-left c.before) taken.ensures taken.type_inv
 
 pub loop-k-init : goal.loop-k-init
 loop-k-init c =
@@ -49,10 +40,11 @@ list_layer-p-requires c =
 pub loop-k-preserved : goal.loop-k-preserved
 loop-k-preserved c =
     let inv = c.loop-k.invariant in
-    let kept = c.list_layer-p.auto.1.1.1.1 in (
-      lines_next inv.0 (height-left (goal.at.loop-k-preserved c).In-loop-k) (height (goal.at.loop-k-preserved c).After-taken_height-h) c.list_layer-p.ensures.outcome,
-      lengths_next inv.1 kept.0 kept.1.0 kept.1.1.0 kept.1.1.1.0,
-    )
+    let kept = c.list_layer-p.auto in
+    let left = height-left (goal.at.loop-k-preserved c).In-loop-k in
+    let taken = c.taken_height-h in
+    let height = height_is c.requires.fact_1 c.base_z-low.ensures.value c.base_z-low.type_inv c.loop-k.k left taken.ensures.value taken.type_inv in
+    (lines_next inv.0 left height c.list_layer-p.ensures.outcome, lengths_next inv.1 kept.names kept.points kept.ends kept.marks)
 
 pub shape_of-names : goal.shape_of-names
 shape_of-names c = ap (λ (l : Lengths). l.names) c.loop-k.invariant.1.are
