@@ -1,13 +1,9 @@
 -- Number and place say which refusal it is.
 use Rattle.std.specs.Prelude.{ℕ, ◌≡◌, refl, List, [], ◌∷◌, get_or}
-use Rattle.std.proofs.Common.{ap}
-use Rattle.mesh.specs.Operation.{gives, refuses}
-use Rattle.mesh.specs.OperationLaws.{Recovers}
-use Rattle.mesh.specs.Refusals.{Told, told_of, tell_verdict}
+use Rattle.mesh.specs.Refusals.{Told, told_of}
 use Rattle.mesh.specs.declared.Refusal.{Refusal}
 use Rattle.mesh.specs.declared.Refusal.TheVariants.{Size, Range, Vertex, Triangle, Open, Pairing, Order, Room, Passed, Ring, Height, File}
 use Rattle.mesh.specs.declared.Refusal.TheVariants.{Output, Layer, Used, Origin, Unclean, Thickness}
-use Rattle.mesh.specs.declared.Verdict.TheVariants.{Fine, Refused}
 
 -- the case of each number from 0 on, and Size where a number has none
 kinds : List (ℕ → Refusal)
@@ -37,9 +33,3 @@ refusal_once (Used p) = refl
 refusal_once (Origin p) = refl
 refusal_once (Unclean p) = refl
 refusal_once (Thickness p) = refl
-
-pub verdict_recovers : Recovers tell_verdict
-verdict_recovers = record {
-  back = elim [ gives _ ↦ Fine | refuses r ↦ Refused (refusal_of r) ];
-  once = elim [ Fine ↦ refl | Refused r ↦ ap Refused (refusal_once r) ];
-}
