@@ -1,7 +1,6 @@
 -- `unchecked::relink` meets its contract.
 use Prim.Native.Nat.{ℕ, ◌-◌, ◌<◌, ◌≤◌}
 use mathlib.Core.Path.{◌≡◌, sym, ap, ◌∙◌}
-use mathlib.Core.Logic.{⊎_elim}
 use native.Mathlib.Omega.{arith}
 use borrow.Author.Rules.{rules}
 use lib.ListN.{length}
@@ -14,7 +13,7 @@ use Rattle.section.specs.Section.{under}
 use Rattle.sweep.specs.Sweep.{relinked}
 use Rattle.sweep.proofs.Moves.{held, back, relink_write, relink_skip}
 use Rattle.sweep.proofs.unchecked.relink.Goals as goal
-use Rattle.sweep.proofs.unchecked.relink.Goals.{Start}
+use Rattle.sweep.proofs.unchecked.relink.Goals.{Start, then-touched, else-touched}
 
 -- the entries that it writes, at height z
 abbrev entries : Start → ℤ → ℕ → ℕ
@@ -73,12 +72,14 @@ loop-c-preserved c =
     let ring = c.args.ring.now in
     let room : l.c < length c.args.ring.now = omega (arith, c.loop-c-test.true, c.requires.fact_3) in (
       omega (arith, c.loop-c-test.true),
-      ⊎_elim
-          (λ x. x.2 ∙ relink_write passed corners pairing c.args.w ring l.ring l.c c.wide-d.result c.touched.result
-          l.invariant.1 room c.wide-d.ensures.value c.touched.ensures.value x.0.taken x.1.result x.1.ensures)
-          (λ x. x.1 ∙ relink_skip passed corners pairing c.args.w ring l.ring l.c c.wide-d.result c.touched.result
-          l.invariant.1 room c.wide-d.ensures.value c.touched.ensures.value x.0.left)
-          c.if-touched.branch,
+      elim c.if-touched.branch [
+        | then-touched x ↦
+            x.ring-is ∙ relink_write passed corners pairing c.args.w ring l.ring l.c c.wide-d.result c.touched.result
+            l.invariant.1 room c.wide-d.ensures.value c.touched.ensures.value x.if-touched.true x.entry_of-e.result x.entry_of-e.ensures.value
+        | else-touched x ↦
+            x.ring-is ∙ relink_skip passed corners pairing c.args.w ring l.ring l.c c.wide-d.result c.touched.result
+            l.invariant.1 room c.wide-d.ensures.value c.touched.ensures.value x.if-touched.false
+      ],
     )
 
 pub shape_of-ring : goal.shape_of-ring
@@ -87,4 +88,7 @@ shape_of-ring c =
 
 pub returns : goal.returns
 returns c =
-    let e : c.loop-c.c ≡ length c.args.corners.now = omega (arith, c.loop-c-test.false, c.loop-c.invariant.0) in record { left = c.loop-c.invariant.1 ∙ (λ i. refill (e i) (entries (goal.at.returns c).Start (back c.ranges.h i)) c.args.ring.now) }
+    let e : c.loop-c.c ≡ length c.args.corners.now = omega (arith, c.loop-c-test.false, c.loop-c.invariant.0) in
+    record {
+      left = c.loop-c.invariant.1 ∙ (λ i. refill (e i) (entries (goal.at.returns c).Start (back c.ranges.h i)) c.args.ring.now);
+    }
