@@ -11,8 +11,8 @@ use borrow.Author.Rules.{rules}
 use Rattle.sweep_layer.proofs.layer.Goals as goal
 use Rattle.sweep_layer.proofs.layer.Goals.{After-rise_test-v, Start}
 
-abbrev sweepOf : Start → Sweep
-sweepOf start =
+abbrev sweep_of : Start → Sweep
+sweep_of start =
     sweep (ordered start.args.coords.now start.args.corners.now start.args.pairing.now start.args.order.now)
     start.args.ring.now start.args.state.passed
 
@@ -21,23 +21,30 @@ lent_of start = lent start.args.names.now start.args.points.now start.args.ends.
 
 -- what the tests find, at the height that was handed in
 found : (c : After-rise_test-v)
-    →
-    tell_verdict c.rise_test-v.result ≡ verdict (rise_tests (sweepOf c.before.before.before.before.before.before.before.before) c.args.h (lengths_of (lent_of c.before.before.before.before.before.before.before.before)))
+    → tell_verdict c.rise_test-v.result
+    ≡ verdict (rise_tests
+    (sweep (ordered c.args.coords.now c.args.corners.now c.args.pairing.now c.args.order.now) c.args.ring.now c.args.state.passed)
+    c.args.h (lengths_of (lent c.args.names.now c.args.points.now c.args.ends.now c.args.marks.now)))
 found c =
-    held_tests (sweepOf c.before.before.before.before.before.before.before.before) c.ranges.h (lengths_of (lent_of c.before.before.before.before.before.before.before.before)) c.rise_test-v.ensures.told
+    let t : CutTables = lent c.args.names.now c.args.points.now c.args.ends.now c.args.marks.now in
+    held_tests (sweep (ordered c.args.coords.now c.args.corners.now c.args.pairing.now c.args.order.now) c.args.ring.now c.args.state.passed)
+    c.ranges.h (lengths_of t) c.rise_test-v.ensures.told
 
 pub returns-in-Refused : goal.returns-in-Refused
-returns-in-Refused c = record { outcome = rises_refused (sweepOf (goal.at.returns-in-Refused c).Start) c.args.h (lent_of (goal.at.returns-in-Refused c).Start) (found (goal.at.returns-in-Refused c).After-rise_test-v) (ap tell_verdict c.in-Refused.is) }
+returns-in-Refused c =
+    let at = goal.at.returns-in-Refused c in
+    record { outcome = rises_refused (sweep_of at.Start) c.args.h (lent_of at.Start) (found at.After-rise_test-v) (ap tell_verdict c.in-Refused.is) }
 
 pub raise-requires : goal.raise-requires
 raise-requires c =
-    let p = liftable (sweepOf (goal.at.raise-requires c).Start) c.args.h (lent_of (goal.at.raise-requires c).Start) (found (goal.at.raise-requires c).After-rise_test-v) (ap tell_verdict c.in_default.is) in record {
-      fact_1 = held_tested (sweepOf (goal.at.raise-requires c).Start) c.ranges.h p.0;
-      fact_2 = p.1;
-    }
+    let at = goal.at.raise-requires c in
+    let p = liftable (sweep_of at.Start) c.args.h (lent_of at.Start) (found at.After-rise_test-v) (ap tell_verdict c.in_default.is) in
+    record { fact_1 = held_tested (sweep_of at.Start) c.ranges.h p.0; fact_2 = p.1 }
 
 pub returns : goal.returns
-returns c = record {
-  outcome = rises_lifted (sweepOf (goal.at.returns c).Start) c.args.h (lent_of (goal.at.returns c).Start) (found (goal.at.returns c).After-rise_test-v) (ap tell_verdict c.in_default.is)
-      (at_height (sweepOf (goal.at.returns c).Start) c.ranges.h c.raise.ensures.outcome);
-}
+returns c =
+    let at = goal.at.returns c in
+    record {
+      outcome = rises_lifted (sweep_of at.Start) c.args.h (lent_of at.Start) (found at.After-rise_test-v) (ap tell_verdict c.in_default.is)
+          (at_height (sweep_of at.Start) c.ranges.h c.raise.ensures.outcome);
+    }

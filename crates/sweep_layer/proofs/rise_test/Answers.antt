@@ -15,29 +15,29 @@ use borrow.Author.Rules.{rules}
 use Rattle.sweep_layer.proofs.rise_test.Goals as goal
 use Rattle.sweep_layer.proofs.rise_test.Goals.{Start}
 
-abbrev sweepOf : Start → Sweep
-sweepOf start =
+abbrev sweep_of : Start → Sweep
+sweep_of start =
     sweep (ordered start.args.coords.now start.args.corners.now start.args.pairing.now start.args.order.now)
     start.args.ring.now start.args.n
 
-abbrev roomOf : Start → Lengths
-roomOf start = lengths start.args.names start.args.points start.args.ends start.args.marks
+abbrev room_of : Start → Lengths
+room_of start = lengths start.args.names start.args.points start.args.ends start.args.marks
 
 pub returns-in-Refused : goal.returns-in-Refused
 returns-in-Refused c =
-    let s = sweepOf (goal.at.returns-in-Refused c).Start in record {
-      told = join_stop (cut_tests s.ordered.paired (roomOf (goal.at.returns-in-Refused c).Start)) (sweep_tests s c.args.h) c.tables_test-a.ensures.told
+    let s = sweep_of (goal.at.returns-in-Refused c).Start in record {
+      told = join_stop (cut_tests s.ordered.paired (room_of (goal.at.returns-in-Refused c).Start)) (sweep_tests s c.args.h) c.tables_test-a.ensures.told
           (ap tell_verdict c.in-Refused.is);
     }
 
 pub sweep_test-requires : goal.sweep_test-requires
 sweep_test-requires c =
-    right_tested (sweepOf (goal.at.sweep_test-requires c).Start).ordered.paired (roomOf (goal.at.sweep_test-requires c).Start) c.tables_test-a.ensures.told (ap tell_verdict c.in_default.is)
+    right_tested (sweep_of (goal.at.sweep_test-requires c).Start).ordered.paired (room_of (goal.at.sweep_test-requires c).Start) c.tables_test-a.ensures.told (ap tell_verdict c.in_default.is)
 
 pub returns : goal.returns
 returns c =
-    let s = sweepOf (goal.at.returns c).Start in record {
-      told = join_next (cut_tests s.ordered.paired (roomOf (goal.at.returns c).Start)) (sweep_tests s c.args.h) c.tables_test-a.ensures.told
+    let s = sweep_of (goal.at.returns c).Start in record {
+      told = join_next (cut_tests s.ordered.paired (room_of (goal.at.returns c).Start)) (sweep_tests s c.args.h) c.tables_test-a.ensures.told
           (ap tell_verdict c.in_default.is)
           (c.sweep_test.ensures.told ∙ ap (λ (z : ℤ). verdict (sweep_tests s z)) (to_z-of_z w32 c.args.h c.ranges.h));
     }

@@ -6,7 +6,6 @@ use lib.ListN.{length, get_or, set}
 use Rattle.laws.specs.Tables.{refill}
 use Rattle.laws.specs.TableLaws.{refill_none, refill_more, length_refill}
 use Rattle.sweep_layer.proofs.unchecked.copy_front.Goals as goal
-use Rattle.sweep_layer.proofs.unchecked.copy_front.Goals.{Start}
 
 pub loop-i-init : goal.loop-i-init
 loop-i-init c = (omega arith, sym (refill_none _ _))
@@ -27,8 +26,7 @@ bounds-to-i c =
       c.requires.1,
       c.loop-i-test.true,
       ap length c.loop-i.invariant.1,
-      length_refill c.loop-i.i
-          (λ c. get_or c.args.from.now c 0) c.args.to.now (omega (arith, c.loop-i.invariant.0, c.requires.1)),
+      length_refill c.loop-i.i (λ k. get_or c.args.from.now k 0) c.args.to.now (omega (arith, c.loop-i.invariant.0, c.requires.1)),
     )
 
 pub overflow_add-i : goal.overflow_add-i
@@ -38,13 +36,11 @@ pub loop-i-smaller : goal.loop-i-smaller
 loop-i-smaller c = omega (arith, c.loop-i-test.true)
 
 pub loop-i-preserved : goal.loop-i-preserved
-loop-i-preserved c =
-    let s = (goal.at.loop-i-preserved c).Start
-    in (
-      omega (arith, c.loop-i-test.true),
-      (λ k. set (c.loop-i.invariant.1 k) c.loop-i.i (get_or s.args.from.now c.loop-i.i 0)) ∙ refill_more c.loop-i.i
-          (λ c. get_or s.args.from.now c 0) s.args.to.now (omega (arith, c.loop-i-test.true, s.pre.1)),
-    )
+loop-i-preserved c = (
+  omega (arith, c.loop-i-test.true),
+  (λ k. set (c.loop-i.invariant.1 k) c.loop-i.i (get_or c.args.from.now c.loop-i.i 0))
+      ∙ refill_more c.loop-i.i (λ k. get_or c.args.from.now k 0) c.args.to.now (omega (arith, c.loop-i-test.true, c.requires.1)),
+)
 
 pub shape_of-to : goal.shape_of-to
 shape_of-to c =
@@ -52,4 +48,5 @@ shape_of-to c =
 
 pub returns : goal.returns
 returns c =
-    let e : c.loop-i.i ≡ c.args.n = omega (arith, c.loop-i-test.false, c.loop-i.invariant.0) in record { left = c.loop-i.invariant.1 ∙ ap (λ (k : ℕ). refill k (λ c. get_or c.args.from.now c 0) c.args.to.now) e }
+    let e : c.loop-i.i ≡ c.args.n = omega (arith, c.loop-i-test.false, c.loop-i.invariant.0) in
+    record { left = c.loop-i.invariant.1 ∙ ap (λ (n : ℕ). refill n (λ k. get_or c.args.from.now k 0) c.args.to.now) e }

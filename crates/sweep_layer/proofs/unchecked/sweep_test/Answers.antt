@@ -18,8 +18,8 @@ use borrow.Author.Rules.{rules}
 use Rattle.sweep_layer.proofs.unchecked.sweep_test.Goals as goal
 use Rattle.sweep_layer.proofs.unchecked.sweep_test.Goals.{In_default, Start}
 
-abbrev sweepOf : Start → Sweep
-sweepOf start =
+abbrev sweep_of : Start → Sweep
+sweep_of start =
     sweep (ordered start.args.coords.now start.args.corners.now start.args.pairing.now start.args.order.now)
     start.args.ring.now start.args.n
 
@@ -27,14 +27,14 @@ abbrev first : Start → List (Condition Told)
 first start = state_tests start.args.coords.now start.args.order.now start.args.n
 
 abbrev second : Start → List (Condition Told)
-second start = wrong_ring (sweepOf start) ∷ not_above start.args.coords.now start.args.order.now start.args.n start.args.h ∷ []
+second start = wrong_ring (sweep_of start) ∷ not_above start.args.coords.now start.args.order.now start.args.n start.args.h ∷ []
 
 -- what 8 and 10 establish
 placed : (c : In_default)
     →
-    Placed (sweepOf c.before.before.before.before.before.before.before).ordered c.args.n
+    Placed (sweep_of c.before.before.before.before.before.before.before).ordered c.args.n
 placed c =
-    placed_of (sweepOf c.before.before.before.before.before.before.before).ordered c.args.n c.requires c.state_test-a.ensures.told (ap tell_verdict c.in_default.is)
+    placed_of (sweep_of c.before.before.before.before.before.before.before).ordered c.args.n c.requires c.state_test-a.ensures.told (ap tell_verdict c.in_default.is)
 
 pub returns-in-Refused : goal.returns-in-Refused
 returns-in-Refused c = record { told = join_stop (first (goal.at.returns-in-Refused c).Start) (second (goal.at.returns-in-Refused c).Start) c.state_test-a.ensures.told (ap tell_verdict c.in-Refused.is) }
@@ -57,6 +57,6 @@ pub returns : goal.returns
 returns c = record {
   told = join_next (first (goal.at.returns c).Start) (second (goal.at.returns c).Start) c.state_test-a.ensures.told (ap tell_verdict c.in_default.is)
       (verdict_next _ _ c.one_sweep_test-b.ensures.told (ap tell_verdict c.in_default-b.is)
-      (c.one_sweep_test.ensures.told ∙ ap (λ (z : ℤ). test (sweep_condition Height (sweepOf (goal.at.returns c).Start) z)) (to_z-of_z w32 c.args.h c.ranges.h)
+      (c.one_sweep_test.ensures.told ∙ ap (λ (z : ℤ). test (sweep_condition Height (sweep_of (goal.at.returns c).Start) z)) (to_z-of_z w32 c.args.h c.ranges.h)
       ∙ verdict_one _));
 }
