@@ -1,6 +1,5 @@
 -- `unchecked::copy_contour` meets its contract.
 use Rattle.clean_contour.proofs.Contours.{contour_dropped, contour_stands}
-use borrow.Author.Rules.{rules}
 use Rattle.clean_contour.proofs.unchecked.copy_contour.Goals as goal
 
 pub returns-then-last-from : goal.returns-then-last-from

@@ -1,10 +1,8 @@
 -- `unchecked::copy_run` meets its contract. The loop's invariant: the points before i are in the table, and x and y are those of the last of them.
-use Prim.Native.Nat.{◌-◌}
 use mathlib.Core.Path.{refl}
 use native.Mathlib.Omega.{arith}
-use borrow.Author.Tests.{not-true, not-false}
-use Rattle.clean_contour.proofs.Comparing.{point_of, held_is}
-use Rattle.clean_contour.proofs.Copying.{RunCopying, copy_start, copy_skip, copy_next, copy_end, run_stands}
+use Rattle.clean_contour.proofs.Comparing.{held_is}
+use Rattle.clean_contour.proofs.Copying.{copy_start, copy_skip, copy_next, copy_end, run_stands}
 use Rattle.clean_contour.proofs.unchecked.copy_run.Goals as goal
 
 pub loop-i-init : goal.loop-i-init
@@ -16,12 +14,12 @@ same_point-requires c = tt
 pub loop-i-preserved-then-not-same_point : goal.loop-i-preserved-then-not-same_point
 loop-i-preserved-then-not-same_point c =
     copy_next c.loop-i.invariant c.loop-i-test.true (held_is c.u-1.given c.v-1.given) c.same_point.ensures.value
-    (not-true _ c.if-not-same_point.true-raw) c.write_point-then-not-same_point.ensures.outcome
+    c.if-not-same_point.true c.write_point-then-not-same_point.ensures.outcome
 
 pub loop-i-preserved : goal.loop-i-preserved
 loop-i-preserved c =
     copy_skip c.loop-i.invariant c.loop-i-test.true (held_is c.u-1.given c.v-1.given) c.same_point.ensures.value
-    (not-false _ c.if-not-same_point.false-raw)
+    c.if-not-same_point.false
 
 pub shape_of-table : goal.shape_of-table
 shape_of-table c = omega (arith, c.loop-i.invariant.size)

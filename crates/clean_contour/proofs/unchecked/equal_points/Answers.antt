@@ -1,6 +1,5 @@
 -- `unchecked::equal_points` meets its contract.
 use Rattle.clean_contour.proofs.Comparing.{held_is, same_held}
-use borrow.Author.Rules.{rules}
 use Rattle.clean_contour.proofs.unchecked.equal_points.Goals as goal
 
 pub returns : goal.returns

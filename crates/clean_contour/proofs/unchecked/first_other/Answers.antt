@@ -1,8 +1,5 @@
 -- `unchecked::first_other` meets its contract. The loop's invariant: every point before i is one of the two.
-use Prim.Native.Nat.{◌-◌}
-use native.Mathlib.Omega.{arith}
-use borrow.Author.Tests.{not-true, not-false}
-use Rattle.clean_contour.proofs.Scanning.{Seeking, seek_start, seek_end, seek_hit, seek_miss}
+use Rattle.clean_contour.proofs.Scanning.{seek_start, seek_end, seek_hit, seek_miss}
 use Rattle.clean_contour.proofs.unchecked.first_other.Goals as goal
 
 pub loop-i-init : goal.loop-i-init
@@ -11,13 +8,13 @@ loop-i-init c = seek_start c.requires.fact_2.0
 pub returns-then-not-is_either : goal.returns-then-not-is_either
 returns-then-not-is_either c = record {
   found = seek_hit c.requires.fact_1 c.loop-i.invariant c.loop-i-test.true
-      c.is_either.ensures.value (not-true _ c.if-not-is_either.true-raw);
+      c.is_either.ensures.value c.if-not-is_either.true;
 }
 
 pub loop-i-preserved : goal.loop-i-preserved
 loop-i-preserved c =
     seek_miss c.requires.fact_1 c.loop-i.invariant c.loop-i-test.true
-    c.is_either.ensures.value (not-false _ c.if-not-is_either.false-raw)
+    c.is_either.ensures.value c.if-not-is_either.false
 
 pub returns : goal.returns
 returns c = record { found = seek_end c.requires.fact_1 c.loop-i.invariant c.loop-i-test.false }

@@ -1,8 +1,6 @@
 -- `unchecked::first_other` meets its contract. The loop's invariant: every point before i is one of the two.
 use Prim.Native.Nat.{◌-◌}
-use native.Mathlib.Omega.{arith}
-use borrow.Author.Tests.{not-true, not-false}
-use Rattle.clean_contour.proofs.Scanning.{Seeking, seek_start, seek_end, seek_hit, seek_miss}
+use Rattle.clean_contour.proofs.Scanning.{Seeking}
 use Rattle.clean_contour.proofs.unchecked.first_other.Given as goal
 
 abbrev pub invariant-loop-i : goal.invariant-loop-i

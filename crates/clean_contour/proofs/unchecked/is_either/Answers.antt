@@ -1,5 +1,4 @@
 -- `unchecked::is_either` meets its contract.
-use borrow.Author.Rules.{rules}
 use Rattle.clean_contour.proofs.Comparing.{either_first, either_second}
 use Rattle.clean_contour.proofs.unchecked.is_either.Goals as goal
 

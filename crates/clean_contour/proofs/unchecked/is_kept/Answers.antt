@@ -1,6 +1,5 @@
 -- `unchecked::is_kept` meets its contract.
 use native.Mathlib.Omega.{arith}
-use borrow.Author.Rules.{rules}
 use Rattle.clean_contour.proofs.Scanning.{kept_none, kept_one, kept_more}
 use Rattle.clean_contour.proofs.unchecked.is_kept.Goals as goal
 

@@ -1,10 +1,8 @@
 -- `unchecked::move_run` meets its contract. The invariant is that of `copy_run`, where what is read has not been written yet.
-use Prim.Native.Nat.{◌-◌}
 use mathlib.Core.Path.{refl, ◌∙◌}
 use native.Mathlib.Omega.{arith}
-use borrow.Author.Tests.{not-true, not-false}
-use Rattle.clean_contour.proofs.Comparing.{point_of, held_is}
-use Rattle.clean_contour.proofs.Copying.{RunCopying, copy_start, copy_read, copy_skip, copy_next, copy_end, run_stands, moved_part}
+use Rattle.clean_contour.proofs.Comparing.{held_is}
+use Rattle.clean_contour.proofs.Copying.{copy_start, copy_read, copy_skip, copy_next, copy_end, run_stands, moved_part}
 use Rattle.clean_contour.proofs.unchecked.move_run.Goals as goal
 
 pub loop-i-init : goal.loop-i-init
@@ -17,13 +15,13 @@ pub loop-i-preserved-then-not-same_point : goal.loop-i-preserved-then-not-same_p
 loop-i-preserved-then-not-same_point c =
     let s = c.loop-i.invariant in
     copy_next s c.loop-i-test.true (held_is c.u-1.given c.v-1.given ∙ copy_read s refl) c.same_point.ensures.value
-    (not-true _ c.if-not-same_point.true-raw) c.write_point-then-not-same_point.ensures.outcome
+    c.if-not-same_point.true c.write_point-then-not-same_point.ensures.outcome
 
 pub loop-i-preserved : goal.loop-i-preserved
 loop-i-preserved c =
     let s = c.loop-i.invariant in
     copy_skip s c.loop-i-test.true (held_is c.u-1.given c.v-1.given ∙ copy_read s refl) c.same_point.ensures.value
-    (not-false _ c.if-not-same_point.false-raw)
+    c.if-not-same_point.false
 
 pub shape_of-points : goal.shape_of-points
 shape_of-points c = omega (arith, c.loop-i.invariant.size)

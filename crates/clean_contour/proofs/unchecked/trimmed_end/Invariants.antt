@@ -1,7 +1,5 @@
 -- `unchecked::trimmed_end` meets its contract. The loop's invariant: every point from r on equals the first.
-use native.Mathlib.Omega.{arith}
-use borrow.Author.Tests.{not-true, not-false}
-use Rattle.clean_contour.proofs.Scanning.{Ending, ending, ending_none, ending_stop, ending_next}
+use Rattle.clean_contour.proofs.Scanning.{Ending}
 use Rattle.clean_contour.proofs.unchecked.trimmed_end.Given as goal
 
 abbrev pub invariant-loop-r : goal.invariant-loop-r
