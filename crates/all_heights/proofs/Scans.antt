@@ -47,10 +47,10 @@ module _ (a b : ℤ) (fa : SFits w32 a) (fb : SFits w32 b) where
 
 -- ---- the pass over the vertices: low and high hold the lowest and the highest z of the first v
 
-pub record Spanned (coords : List ℤ) (low high v : ℕ) : Type 0 where
+pub record Spanned (coords : List ℤ) (low high : ℤ) (v : ℕ) : Type 0 where
   pub upto : v ≤ vertex_count coords
-  pub low_is : to_z w32 low ≡ lowest_to coords v
-  pub high_is : to_z w32 high ≡ highest_to coords v
+  pub low_is : low ≡ lowest_to coords v
+  pub high_is : high ≡ highest_to coords v
 
 module _ (coords : List ℤ) where
   -- with no vertex the tables have no z
@@ -61,14 +61,14 @@ module _ (coords : List ℤ) where
   unfolding lowest_to highest_to
   span_none e = (absent e ∙ ap (lowest_to coords) (sym e), absent e ∙ ap (highest_to coords) (sym e))
 
-  pub span_start : Word (z_of coords 0) → Spanned coords (of_z w32 (z_of coords 0)) (of_z w32 (z_of coords 0)) 0
+  pub span_start : Word (z_of coords 0) → Spanned coords (held (z_of coords 0)) (held (z_of coords 0)) 0
   unfolding lowest_to highest_to
   span_start f = record { upto = omega arith; low_is = same w32 (z_of coords 0) f; high_is = same w32 (z_of coords 0) f }
 
   -- l and h are what the calls of `lower` and `higher` gave
-  pub span_more : {low high v : ℕ} → Spanned coords low high v → (l h : ℤ) → Word (z_of coords v) → Word l → Word h
-      → l ≡ lower (to_z w32 low) (held (z_of coords v))
-      → h ≡ higher (to_z w32 high) (held (z_of coords v)) → v < vertex_count coords → Spanned coords (of_z w32 l) (of_z w32 h) (v + 1)
+  pub span_more : {low high : ℤ} {v : ℕ} → Spanned coords low high v → (l h : ℤ) → Word (z_of coords v) → Word l → Word h
+      → l ≡ lower low (held (z_of coords v))
+      → h ≡ higher high (held (z_of coords v)) → v < vertex_count coords → Spanned coords (held l) (held h) (v + 1)
   unfolding lowest_to highest_to
   span_more {v = v} s l h f fl fh el eh m =
       let z : held (z_of coords v) ≡ z_of coords v = same w32 (z_of coords v) f in
@@ -78,7 +78,7 @@ module _ (coords : List ℤ) where
         high_is = same w32 h fh ∙ eh ∙ (λ i. higher (s.high_is i) (z i)) ∙ ap (highest_to coords) (sym (add-one v));
       }
 
-  pub span_end : {low high v : ℕ} → Spanned coords low high v → vertex_count coords ≤ v → (to_z w32 low ≡ lowest_z coords) × (to_z w32 high ≡ highest_z coords)
+  pub span_end : {low high : ℤ} {v : ℕ} → Spanned coords low high v → vertex_count coords ≤ v → (low ≡ lowest_z coords) × (high ≡ highest_z coords)
   span_end {v = v} s h =
       let e : v ≡ vertex_count coords = omega (arith, s.upto) in
       (s.low_is ∙ ap (lowest_to coords) e, s.high_is ∙ ap (highest_to coords) e)

@@ -4,7 +4,6 @@ use mir.Syntax.{w32}
 use Rattle.laws.specs.Machine.{same}
 use mathlib.Core.Path.{◌∙◌}
 use Rattle.all_heights.specs.TakingLaws.{base_given, base_default}
-use borrow.Author.Rules.{rules}
 use Rattle.all_heights.proofs.base_z.Goals as goal
 
 pub returns-then-heights-gt0 : goal.returns-then-heights-gt0

@@ -1,7 +1,6 @@
 -- `default_count` meets its contract.
 use mathlib.Core.Path.{sym}
 use native.Mathlib.Omega.{arith}
-use borrow.Author.Rules.{rules}
 use Rattle.laws.specs.Machine.{cast_ok, sub_ok}
 use Rattle.all_heights.specs.HeightLaws.{count_none}
 use Rattle.all_heights.proofs.Counting.{word_held, SpanFound, low_held, high_held, rise_ok, rise_small, count_is}

@@ -2,7 +2,6 @@
 use Prim.Native.Nat.{ℕ}
 use mathlib.Core.Path.{ap}
 use lib.Dec.{leb}
-use borrow.Author.Rules.{rules}
 use Rattle.file_formats.specs.LayerFile.{most_layers}
 use Rattle.all_heights.proofs.few_heights.Goals as goal
 

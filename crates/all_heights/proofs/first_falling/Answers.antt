@@ -1,9 +1,7 @@
 -- `first_falling` meets its contract. The invariant: nothing that fits was passed.
-use Prim.Native.Nat.{◌-◌}
 use mathlib.Core.Path.{sym, ◌∙◌}
 use native.Mathlib.Omega.{arith}
-use lib.ListN.{length}
-use Rattle.laws.specs.LeastLaws.{Scanned, scan_start, scan_hit, scan_miss, scan_end}
+use Rattle.laws.specs.LeastLaws.{scan_start, scan_hit, scan_miss, scan_end}
 use Rattle.all_heights.specs.Heights.{not_above_last}
 use Rattle.all_heights.proofs.first_falling.Goals as goal
 

@@ -1,5 +1,4 @@
 -- `heights_test` meets its contract.
-use borrow.Author.Rules.{rules}
 use Rattle.mesh.specs.OperationLaws.{test_refused, test_fine}
 use Rattle.all_heights.proofs.heights_test.Goals as goal
 

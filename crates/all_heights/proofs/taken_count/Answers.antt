@@ -1,6 +1,5 @@
 -- `taken_count` meets its contract.
 use native.Mathlib.Omega.{arith}
-use borrow.Author.Rules.{rules}
 use Rattle.all_heights.proofs.Counting.{count_given, count_default}
 use Rattle.all_heights.proofs.taken_count.Goals as goal
 

@@ -1,8 +1,6 @@
--- `z_span` meets its contract. The invariant: low and high are those of the vertices passed.
-use Prim.Native.Nat.{◌-◌}
+-- `z_span` meets its contract.
 use native.Mathlib.Omega.{arith}
-use borrow.Author.Rules.{rules}
-use Rattle.all_heights.proofs.Scans.{Spanned, span_none, span_start, span_more, span_end}
+use Rattle.all_heights.proofs.Scans.{span_none, span_start, span_more, span_end}
 use Rattle.all_heights.proofs.z_span.Goals as goal
 
 pub returns-then-n-eq0 : goal.returns-then-n-eq0

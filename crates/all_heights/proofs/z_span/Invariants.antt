@@ -1,8 +1,6 @@
--- `z_span` meets its contract. The invariant: low and high are those of the vertices passed.
+-- The invariant: low and high are those of the vertices passed.
 use Prim.Native.Nat.{◌-◌}
-use native.Mathlib.Omega.{arith}
-use borrow.Author.Rules.{rules}
-use Rattle.all_heights.proofs.Scans.{Spanned, span_none, span_start, span_more, span_end}
+use Rattle.all_heights.proofs.Scans.{Spanned}
 use Rattle.all_heights.proofs.z_span.Given as goal
 
 abbrev pub invariant-loop-v : goal.invariant-loop-v

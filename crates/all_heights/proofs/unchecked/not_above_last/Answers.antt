@@ -1,5 +1,4 @@
 -- `unchecked::not_above_last` meets its contract.
-use borrow.Author.Rules.{rules}
 use Rattle.all_heights.proofs.Scans.{no_forerunner, forerunner}
 use Rattle.all_heights.proofs.unchecked.not_above_last.Goals as goal
 
