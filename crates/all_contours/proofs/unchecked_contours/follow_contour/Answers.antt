@@ -1,13 +1,10 @@
 -- `unchecked_contours::follow_contour` meets its contract.
-use Prim.Native.Nat.{◌-◌}
 use mathlib.Core.Path.{◌∙◌}
 use native.Mathlib.Omega.{arith}
-use lib.ListN.{length, length-set}
+use lib.ListN.{length-set}
 use mir.Syntax.{w32}
-use mir.Val.{to_z}
 use mir.ValLaws.{to_z-of_z}
-use Rattle.mesh.specs.Meshes.{paired}
-use Rattle.all_contours.proofs.ContourWalking.{ContourWalking, walking_start, roundable_held, names_length, marks_length, c_crosses, c_small, c_inside}
+use Rattle.all_contours.proofs.ContourWalking.{walking_start, roundable_held, names_length, marks_length, c_crosses, c_small, c_inside}
 use Rattle.all_contours.proofs.ContourWalking.{k_inside, walking_next, walking_end}
 use Rattle.all_contours.proofs.unchecked_contours.follow_contour.Goals as goal
 
