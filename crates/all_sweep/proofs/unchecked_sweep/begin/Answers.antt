@@ -3,7 +3,6 @@ use mir.Syntax.{w32}
 use mir.ValLaws.{to_z-of_z}
 use Rattle.all_active.specs.LevelLaws.{climbing_held}
 use Rattle.all_sweep.specs.StepLaws.{begun_sweep, begun_spent, crossings_held}
-use borrow.Author.Rules.{rules}
 use Rattle.all_sweep.proofs.unchecked_sweep.begin.Goals as goal
 
 pub deal_lists-requires : goal.deal_lists-requires
@@ -21,7 +20,7 @@ returns c =
     let heads = c.args.heads.now in
     let rooms = c.requires.fact_3 in
     let dealt = c.deal_lists.ensures.lists in
-    let size = c.deal_lists.auto.1.1.1.1.1.1.0 in record {
+    let size = c.deal_lists.auto.heads in record {
       lists = begun_sweep c.requires.fact_1 heights e heads rooms.1 rooms.2 dealt size;
       spent = begun_spent c.requires.fact_1 heights e heads rooms.1 rooms.2 dealt size;
       total = crossings_held e heights c.deal_lists.ensures.total;

@@ -10,64 +10,57 @@ use Rattle.all_sweep.specs.Sweeps.{corner_lists}
 use Rattle.all_sweep.specs.SweepLaws.{AtHeight, advancing, outlinable}
 use Rattle.all_sweep.specs.PassLaws.{held, held_word}
 use Rattle.all_sweep.specs.StepLaws.{height_held, points_asked, points_climb, level_tables, level_brought, level_holds, level_works, level_sweeps}
-use borrow.Author.Rules.{rules}
 use Rattle.all_sweep.proofs.unchecked_sweep.next_layer.Goals as goal
-use Rattle.all_sweep.proofs.unchecked_sweep.next_layer.Goals.{After-slice_known-3-1, After-slice_known-4-1, After-taken_height-h, Start}
-
-abbrev start_of : After-taken_height-h → Start
-start_of at = at.before.before.before.before.before.before.before.before
+use Rattle.all_sweep.proofs.unchecked_sweep.next_layer.Goals.{After-taken_height-h}
 
 -- the sweep at the height that was read
-level : (at : After-taken_height-h)
-    → let args = (start_of at).args in
+level : (c : After-taken_height-h)
+    → let args = c.args in
     AtHeight (paired args.coords.now args.corners.now args.pairing.now) (taken_heights args.low args.heights.now args.count) args.k
-    (corner_lists args.ring.now args.heads.now args.marks.now args.active) (held at.taken_height-h.result)
-level at =
-    let start = start_of at in
+    (corner_lists args.ring.now args.heads.now args.marks.now args.active) (held c.taken_height-h.result)
+level c =
     record {
-      right = start.pre.0;
-      climbs = start.pre.1.1.0;
-      sweeps = start.pre.1.1.1.0;
-      less = start.pre.1.1.1.1;
-      is = height_held (to_z-of_z w32 start.args.low start.fits.low) start.args.heights.now start.args.k at.taken_height-h.type_inv
-          at.taken_height-h.ensures.value;
-      fits = held_word at.taken_height-h.result at.taken_height-h.type_inv;
+      right = c.requires.fact_1;
+      climbs = c.requires.fact_3;
+      sweeps = c.requires.fact_4;
+      less = c.requires.fact_5;
+      is = height_held (to_z-of_z w32 c.args.low c.ranges.low) c.args.heights.now c.args.k c.taken_height-h.type_inv c.taken_height-h.ensures.value;
+      fits = held_word c.taken_height-h.result c.taken_height-h.type_inv;
     }
 
 pub taken_height-h-requires : goal.taken_height-h-requires
-taken_height-h-requires c =
-    (climbing_held (to_z-of_z w32 c.args.low c.ranges.low) c.requires.fact_3).each c.args.k c.requires.fact_5
+taken_height-h-requires c = (climbing_held (to_z-of_z w32 c.args.low c.ranges.low) c.requires.fact_3).each c.args.k c.requires.fact_5
 
 pub advance-a-requires : goal.advance-a-requires
 advance-a-requires c = advancing (level (goal.at.advance-a-requires c).After-taken_height-h) c.wide-b.ensures.value
 
 pub outline_crossings-f-requires : goal.outline_crossings-f-requires
 outline_crossings-f-requires c =
-    outlinable (level (goal.at.outline_crossings-f-requires c).After-slice_known-4-1) c.advance-a.ensures.outcome (start_of (goal.at.outline_crossings-f-requires c).After-slice_known-4-1).requires.1.0 refl
+    outlinable (level (goal.at.outline_crossings-f-requires c).After-taken_height-h) c.advance-a.ensures.outcome c.requires.fact_2 refl
 
 pub put_points-requires : goal.put_points-requires
 put_points-requires c =
-    let start = start_of (goal.at.put_points-requires c).After-slice_known-3-1 in
+    let here = level (goal.at.put_points-requires c).After-taken_height-h in
     let contours = c.outline_crossings-f.ensures.outcome in record {
-      fact_1 = points_asked (level (goal.at.put_points-requires c).After-slice_known-3-1) start.args.points.now start.pre.1.0 contours;
-      fact_2 = points_climb (level (goal.at.put_points-requires c).After-slice_known-3-1) start.args.points.now start.pre.1.0 contours;
+      fact_1 = points_asked here c.args.points.now c.requires.fact_2 contours;
+      fact_2 = points_climb here c.args.points.now c.requires.fact_2 contours;
     }
 
 pub bring_into-contours-requires : goal.bring_into-contours-requires
 bring_into-contours-requires c =
-    let start = start_of (goal.at.bring_into-contours-requires c).After-slice_known-3-1 in
-    level_tables (level (goal.at.bring_into-contours-requires c).After-slice_known-3-1) start.args.points.now start.pre.1.0 c.outline_crossings-f.ensures.outcome c.put_points.ensures.left
+    let here = level (goal.at.bring_into-contours-requires c).After-taken_height-h in
+    level_tables here c.args.points.now c.requires.fact_2 c.outline_crossings-f.ensures.outcome c.put_points.ensures.left
 
 pub returns : goal.returns
 returns c =
-    let v = level (goal.at.returns c).After-slice_known-3-1 in
-    let start = start_of (goal.at.returns c).After-slice_known-3-1 in
-    let points = start.args.points.now in
-    let long = start.pre.1.0 in
+    let here = level (goal.at.returns c).After-taken_height-h in
+    let points = c.args.points.now in
+    let long = c.requires.fact_2 in
+    let contours = c.outline_crossings-f.ensures in
     let written = c.put_points.ensures.left in
     let list = c.advance-a.ensures.outcome in
-    let left = level_brought v points long c.outline_crossings-f.ensures.outcome written start.args.profile c.bring_into-contours.ensures.outcome in record {
-      layer = level_holds v points long c.outline_crossings-f.ensures.outcome written list c.outline_crossings-f.ensures.marked left;
-      work = level_works v points long c.outline_crossings-f.ensures.outcome written list c.outline_crossings-f.ensures.marked left;
-      lists = level_sweeps v points long c.outline_crossings-f.ensures.outcome written list c.outline_crossings-f.ensures.marked left;
+    let left = level_brought here points long contours.outcome written c.args.profile c.bring_into-contours.ensures.outcome in record {
+      layer = level_holds here points long contours.outcome written list contours.marked left;
+      work = level_works here points long contours.outcome written list contours.marked left;
+      lists = level_sweeps here points long contours.outcome written list contours.marked left;
     }
