@@ -4,7 +4,6 @@ use mir.Syntax.{w64}
 use Rattle.laws.specs.Machine.{fit, cast, cast_ok}
 use Rattle.file_formats.specs.Numbers.{zigzag}
 use Rattle.all_output.proofs.Bounding.{height_measured}
-use borrow.Author.Rules.{rules}
 use Rattle.all_output.proofs.unchecked.height_length.Goals as goal
 
 pub overflow_cast-h : goal.overflow_cast-h

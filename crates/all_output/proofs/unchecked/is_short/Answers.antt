@@ -7,7 +7,6 @@ use Rattle.all_sweep.specs.SweepLaws.{climbing}
 use Rattle.all_sweep.specs.PassLaws.{works_none, works_begun, works_more}
 use Rattle.all_sweep.specs.StepLaws.{right_ranged, tested_held, tested_more, sweeping_held}
 use Rattle.all_output.proofs.Putting.{room_bound, room_short, not_short}
-use borrow.Author.Rules.{rules}
 use Rattle.all_output.proofs.unchecked.is_short.Goals as goal
 
 pub returns-then-bound-room : goal.returns-then-bound-room

@@ -8,7 +8,6 @@ use Rattle.all_sweep.specs.PassLaws.{works_begun, works_more}
 use Rattle.all_sweep.specs.StepLaws.{right_ranged, tested_held, tested_more}
 use Rattle.all_output.proofs.Bounding.{file_bound}
 use Rattle.all_output.proofs.Putting.{puts_short, puts_whole}
-use borrow.Author.Rules.{rules}
 use Rattle.all_output.proofs.unchecked.put_layers.Goals as goal
 
 pub begin-crossings-requires : goal.begin-crossings-requires
@@ -61,7 +60,7 @@ shape_of-ring c =
 
 pub shape_of-heads : goal.shape_of-heads
 shape_of-heads c =
-    c.is_short-short.auto.1.1.1.1.1.1.1.1.1.1.1.1.0 ∙ c.begin-crossings.auto.1.1.1.1.1.1.1.0
+    c.is_short-short.auto.heads ∙ c.begin-crossings.auto.heads
 
 pub returns : goal.returns
 returns c = record {
