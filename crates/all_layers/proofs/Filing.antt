@@ -30,8 +30,8 @@ use Rattle.all_heights.specs.Taking.{base_z, Takable}
 use Rattle.all_heights.specs.TakingLaws.{takable}
 use Rattle.all_sweep.specs.declared.AllLayersAnswer.{AllLayersAnswer}
 use Rattle.all_sweep.specs.declared.AllLayersAnswer.TheVariants.{Refused}
-use Rattle.all_sweep.specs.AllLayers.{cut_file, swept_file, climbed, WorkTables, work, work_room_for, work_room, work_after, layers_tests, used_at, short_output, filing}
-use Rattle.all_sweep.specs.AllLayers.{Files}
+use Rattle.all_sweep.specs.AllLayers.{cut_file, swept_file, climbed, WorkTables, work, work_room_for, work_room, work_after}
+use Rattle.all_sweep.specs.AllLayers.{layers_tests, used_at, short_output, filing, Files}
 use Rattle.all_sweep.specs.Works.{Works, Zeroed, taken_heights, PutsFile}
 use Rattle.all_sweep.specs.Sweeps.{LayersTested}
 use Rattle.all_sweep.specs.CutLayerLaws.{spent_zeros}

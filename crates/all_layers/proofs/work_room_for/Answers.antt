@@ -1,5 +1,4 @@
 -- `work_room_for` meets its contract.
-use borrow.Author.Rules.{rules}
 use Rattle.all_layers.proofs.Filing.{room_short, room_long}
 use Rattle.all_layers.proofs.work_room_for.Goals as goal
 

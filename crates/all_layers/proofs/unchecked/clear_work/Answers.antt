@@ -1,7 +1,6 @@
 -- `unchecked::clear_work` meets its contract.
 use native.Mathlib.Omega.{arith}
 use Rattle.all_layers.proofs.Filing.{work_zeroed}
-use borrow.Author.Rules.{rules}
 use Rattle.all_layers.proofs.unchecked.clear_work.Goals as goal
 
 pub fill-requires : goal.fill-requires

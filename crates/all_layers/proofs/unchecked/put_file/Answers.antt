@@ -2,7 +2,6 @@
 use mir.Syntax.{w32}
 use mir.ValLaws.{to_z-of_z}
 use Rattle.all_sweep.specs.StepLaws.{tested_held}
-use borrow.Author.Rules.{rules}
 use Rattle.all_layers.proofs.unchecked.put_file.Goals as goal
 
 pub put_layers-requires : goal.put_layers-requires
