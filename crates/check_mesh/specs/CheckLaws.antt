@@ -26,7 +26,7 @@ use Rattle.check_mesh.specs.declared.CheckAnswer.TheVariants.{Accepted, Refused}
 use Rattle.check_mesh.specs.Check.{CheckTables, check_room_for, check_tests, checking, tell_check, Checks}
 use Rattle.check_pairing.specs.Partners.{partner_of, pairing_of}
 use Rattle.check_pairing.specs.EdgeUse.{EvenEdges, SingleEdges, open_by_edges}
-use Rattle.check_pairing.specs.PartnerLaws.{closed_exactly, pairing_right, open_single, pairing_only}
+use Rattle.check_pairing.proofs.PartnerLaws.{closed_exactly, pairing_right, open_single, pairing_only}
 
 -- a table that starts with the order is right
 pub order_right : (coords : List ℤ) (table : List ℕ) → vertex_count coords ≤ length table

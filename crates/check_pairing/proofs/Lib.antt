@@ -1,4 +1,5 @@
 -- Lemmas that belong to no one function.
+pub mod PartnerLaws
 pub mod Counts
 pub mod Edges
 pub mod Threads

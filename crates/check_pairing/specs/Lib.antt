@@ -1,5 +1,4 @@
 -- Refusal 6, and the pairing.
 pub mod Partners
 pub mod EdgeUse
-pub mod PartnerLaws
 pub mod Joining

@@ -17,7 +17,7 @@ use Rattle.mesh.specs.OperationLaws.{verdict_stop, verdict_next, join_stop, join
 use Rattle.mesh.specs.Refusals.{Told, refusal, numbered}
 use Rattle.mesh.specs.Tests.{pairs}
 use Rattle.check_pairing.specs.Partners.{partner_of, pairing_of}
-use Rattle.check_pairing.specs.PartnerLaws.{pairing_right}
+use Rattle.check_pairing.proofs.PartnerLaws.{pairing_right}
 use Rattle.check_mesh.specs.declared.CheckAnswer.{CheckAnswer}
 use Rattle.check_mesh.specs.Check.{CheckTables, check_tests, edge_tests, checking, tell_check, Checks}
 use Rattle.section.specs.Section.{Right}
