@@ -1,14 +1,14 @@
 -- The layer of a ring table: what tracing and its points leave.
 use Prim.Native.Nat.{ℕ, ◌*◌, ◌<◌, ◌≤◌}
 use mathlib.Core.Path.{◌≡◌, refl, sym, ap, ◌∙◌, subst}
-use mathlib.Core.List.{List, [], ◌∷◌}
+use mathlib.Core.List.{List}
 use native.Mathlib.Omega.{arith}
-use lib.ListN.{length, get_or, take, replicate}
-use lib.IntN.{ℤ, pos}
+use lib.ListN.{length, get_or, take}
+use lib.IntN.{ℤ}
 use Rattle.laws.specs.Tables.{overwrite}
 use Rattle.laws.specs.TableLaws.{length_overwrite, overwrite_at, overwrite_front}
 use Rattle.mesh.specs.Meshes.{Mesh}
-use Rattle.mesh.specs.Operation.{gives, fine, verdict, after}
+use Rattle.mesh.specs.Operation.{gives, fine, after}
 use Rattle.mesh.specs.OperationLaws.{does_give}
 use Rattle.section.specs.Contours.{Traced, contours, names_of, ends_of}
 use Rattle.section.specs.Links.{has_link, link_of, trace_links}
@@ -21,7 +21,7 @@ use Rattle.cut_trace.specs.Walks.{Traceable}
 use Rattle.cut_trace.specs.declared.TraceAnswer.{TraceAnswer}
 use Rattle.cut_trace.specs.declared.TraceAnswer.TheVariants.{Contours, Stuck}
 use Rattle.cut.specs.declared.CutAnswer.TheVariants.{Layer}
-use Rattle.cut.specs.Cut.{CutTables, lent, lengths_of, used, contours_of, tables_after_cut}
+use Rattle.cut.specs.Cut.{CutTables, lent, lengths_of, contours_of, tables_after_cut}
 use Rattle.cut.specs.Outlines.{Long, Outlined, Traces}
 use Rattle.cut.specs.OutlineLaws.{used_fine}
 

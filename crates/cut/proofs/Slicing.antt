@@ -1,5 +1,4 @@
 -- Cut put together: what the tests of the tables establish, and its answer and tables at each return.
-use Prim.Native.Nat.{ℕ}
 use mathlib.Core.Path.{◌≡◌, refl, sym, ◌∙◌}
 use mathlib.Core.Bool.{false}
 use mathlib.Core.List.{List, [], ◌∷◌}
@@ -40,7 +39,9 @@ module _ (m : PairedMesh) (h : ℤ) (t : CutTables) {f : Finding Told} (e : f �
 
   -- a test refuses
   pub cuts_refused : {r : Refusal} → f ≡ refuses (told_of r) → Cuts m h t (Refused r) t
-  cuts_refused {r} g = does_refuse (join_stop (cut_tests m (lengths_of t)) last e g) g refl (layer_kept m.mesh h (contours_of (section m h)) t (told_of r) other)
+  cuts_refused {r} g =
+      does_refuse (join_stop (cut_tests m (lengths_of t)) last e g) g refl
+      (layer_kept m.mesh h (contours_of (section m h)) t (told_of r) other)
     where
       other : numbered (16 ∷ []) (told_of r) ≡ false
       other =

@@ -1,16 +1,15 @@
 -- What Cut promises: it refuses exactly if a listed condition holds, at the least place; and what it
 -- gives is the layer: closed contours of every crossing once (RESULT-1), solid on the left (RESULT-2),
 -- with points in coordinate range and at most half a unit from the exact crossing (RESULT-3).
-use Rattle.std.specs.Prelude.{ℕ, ◌*◌, ◌<◌, ◌≤◌, ◌≡◌, refl, List, ◌↔◌, length, get_or, replicate, ℤ, pos, nat_abs, ◌-ℤ◌, ◌*ℤ◌}
-use Rattle.std.proofs.Common.{sym, ap, ◌∙◌, subst, arith, to_z, of_z, SFits}
+use Rattle.std.specs.Prelude.{ℕ, ◌*◌, ◌<◌, ◌≤◌, ◌≡◌, refl, List, ◌↔◌, length, get_or, ℤ, pos, nat_abs, ◌-ℤ◌, ◌*ℤ◌}
+use Rattle.std.proofs.Common.{ap, ◌∙◌, subst, arith, to_z, of_z, SFits}
 use Rattle.std.proofs.Math.Decide.{dec_lt}
 use Rattle.std.proofs.lemmas.Bool.{not-false}
 use Rattle.std.specs.Int.{w32}
 use Rattle.std.proofs.lemmas.Int.{to_z-of_z}
-use Rattle.laws.specs.Tables.{overwrite}
 use Rattle.mesh.specs.Corners.{largest, triangle_count, triangle_of}
 use Rattle.mesh.specs.Meshes.{PairedMesh}
-use Rattle.mesh.specs.Operation.{gives, refuses, fine, verdict, after}
+use Rattle.mesh.specs.Operation.{gives, refuses, fine}
 use Rattle.mesh.specs.OperationLaws.{First, None, more, fine_none, Recovers, given_verdict, refused_exactly, given_exactly, left_given, only_outcome}
 use Rattle.mesh.specs.Refusals.{Told}
 use Rattle.mesh.specs.RefusalLaws.{refusal_of, refusal_once}
@@ -18,7 +17,7 @@ use Rattle.section.specs.Section.{VertexSet, below, Crossing, Linked, Right}
 use Rattle.section.specs.SectionLaws.{rising_unique}
 use Rattle.section.specs.RightLaws.{right_of}
 use Rattle.section.specs.RingLaws.{pigeonhole}
-use Rattle.section.specs.Contours.{names_of, ends_of}
+use Rattle.section.specs.Contours.{names_of}
 use Rattle.section.specs.Layers as layers
 use Rattle.section.specs.OrbitLaws.{at_member}
 use Rattle.section.specs.LayerLaws.{trace_layer}
@@ -26,7 +25,7 @@ use Rattle.cut_points.specs.Points.{exact_over, exact_under, point_at, points_of
 use Rattle.cut_points.specs.PointLaws.{point_near, points_in_lem}
 use Rattle.cut.specs.declared.CutAnswer.{CutAnswer}
 use Rattle.cut.specs.declared.CutAnswer.TheVariants.{Layer, Refused}
-use Rattle.cut.specs.Cut.{CutTables, lent, section, contours_of, counts_of, tables_after_cut, cutting, tell_cut, Cuts}
+use Rattle.cut.specs.Cut.{CutTables, section, contours_of, counts_of, tables_after_cut, cutting, tell_cut, Cuts}
 use Rattle.cut.specs.Solid.{SolidLeft}
 use Rattle.cut.specs.SolidLaws.{solid_left, crossing_climbs}
 
@@ -52,7 +51,8 @@ one_each passed corners pairing rs linked l = by (dec_lt (triangle_count corners
 -- ---- Cut
 
 -- a height as the code holds it
-pub at_height : {m : PairedMesh} {h : ℤ} {t t' : CutTables} {result : CutAnswer} → SFits w32 h → Cuts m (to_z w32 (of_z w32 h)) t result t' → Cuts m h t result t'
+pub at_height : {m : PairedMesh} {h : ℤ} {t t' : CutTables} {result : CutAnswer}
+    → SFits w32 h → Cuts m (to_z w32 (of_z w32 h)) t result t' → Cuts m h t result t'
 at_height {m} {h} {t} {t'} {result} f = subst (λ (z : ℤ). Cuts m z t result t') (to_z-of_z w32 h f)
 
 pub cut_recovers : Recovers tell_cut

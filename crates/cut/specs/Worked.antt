@@ -31,8 +31,8 @@ t = lent (replicate 12 7) (replicate 24 (pos 7)) (replicate 12 7) (replicate 12 
 
 -- P at height 5: one contour of three points
 accepted : answer_of (cutting (p, pos 5, t)) ≡ gives (1, 3)
-unfolding verdict ◌then◌ test some least sizes_fit cut_room_for out_of_range names_none names_twice reverse paired_at met_at trace trace_to trace_at flatten walk member
-    rising rising_in successor below
+unfolding verdict ◌then◌ test some least sizes_fit cut_room_for out_of_range names_none names_twice reverse paired_at met_at trace trace_to
+    trace_at flatten walk member rising rising_in successor below
 accepted = refl
 
 -- one vertex passed: ring 0, 6, 3 (WORKED-5); two: ring 0, 6, 4, 9 (WORKED-6)

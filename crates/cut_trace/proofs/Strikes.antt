@@ -34,7 +34,9 @@ strike_kept [] links x h e = e
 strike_kept (c ∷ cs) links x h e = strike_kept cs (set links c no_corner) x (omega (arith, length-set links c no_corner)) (by (eqb x c) refl)
   where
     by : (b : Bool) → eqb x c ≡ b → get_or (set links c no_corner) x 0 ≡ no_corner
-    by true q = ap (λ (j : ℕ). get_or (set links c no_corner) j 0) (eqb-true x c q) ∙ get_or-set_same links c no_corner 0 (let z = eqb-true x c q in omega arith)
+    by true q =
+        ap (λ (j : ℕ). get_or (set links c no_corner) j 0) (eqb-true x c q)
+        ∙ get_or-set_same links c no_corner 0 (let z = eqb-true x c q in omega arith)
     by false q = get_or-set_other links c x no_corner 0 (λ z. clash (eq-eqb x c z) q) ∙ e
 
 pub strike_same : (cs links : List ℕ) (x : ℕ) → x < length links → member x cs ≡ true → get_or (strike links cs) x 0 ≡ no_corner

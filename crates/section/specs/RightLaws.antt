@@ -1,5 +1,5 @@
 -- What a mesh and a pairing are that no test refuses.
-use Rattle.std.specs.Prelude.{ℕ, ◌≡◌, true, length}
+use Rattle.std.specs.Prelude.{◌≡◌, true, length}
 use Rattle.std.proofs.lemmas.Bool.{not-false}
 use Rattle.mesh.specs.Corners.{vertex_count}
 use Rattle.mesh.specs.Meshes.{PairedMesh}

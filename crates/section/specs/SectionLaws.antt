@@ -153,7 +153,8 @@ module _ (passed : VertexSet) (corners : List ℕ) where
 
 module _ (passed : VertexSet) (corners pairing : List ℕ) (linked : Linked corners pairing) where
   -- a corner's pair has the reverse edge
-  pub turned : (c : ℕ) → c < length corners → (start_of corners (pair_of pairing c) ≡ end_of corners c) × (end_of corners (pair_of pairing c) ≡ start_of corners c)
+  pub turned : (c : ℕ) → c < length corners
+      → (start_of corners (pair_of pairing c) ≡ end_of corners c) × (end_of corners (pair_of pairing c) ≡ start_of corners c)
   turned c l = reverse_parts corners c (pair_of pairing c) (linked.each c l).turned
 
   -- the pair of a crossing falls

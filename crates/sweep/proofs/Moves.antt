@@ -68,7 +68,8 @@ module _ (passed : VertexSet) (corners pairing : List ℕ) (w : ℕ) (ring₀ ri
   flag : touches corners (triangle_of (pair_of pairing c)) w ≡ b
   flag = ap (λ (k : ℕ). touches corners (k / 3) w) (sym ed) ∙ sym eb
 
-  pub relink_write : b ≡ true → (e : ℕ) → e ≡ ring_entry passed corners pairing c → set ring c e ≡ refill (c + 1) (relinked passed corners pairing w ring₀) ring₀
+  pub relink_write : b ≡ true → (e : ℕ) → e ≡ ring_entry passed corners pairing c
+      → set ring c e ≡ refill (c + 1) (relinked passed corners pairing w ring₀) ring₀
   relink_write t e ee =
       let x : relinked passed corners pairing w ring₀ c ≡ e = unfold relinked
       in (ap (λ (y : Bool). cond y (ring_entry passed corners pairing c) (get_or ring₀ c 0)) (flag ∙ t) ∙ sym ee) in

@@ -352,7 +352,8 @@ module _ (m : OrderedMesh) (ranked : (i : ℕ) → i < vertex_count m.paired.mes
       by (may_rise m.paired.mesh.coords m.order h n)
       (risen_past k (suc n) (step_ring (sweep m ring n)) (omega (arith, step_length (sweep m ring n) l)) c p)
     where
-      by : (b : Bool) → get_or (risen_on k n ring) c 0 ≡ get_or (step_ring (sweep m ring n)) c 0 → get_or (cond b (risen_on k n ring) ring) c 0 ≡ get_or ring c 0
+      by : (b : Bool) → get_or (risen_on k n ring) c 0 ≡ get_or (step_ring (sweep m ring n)) c 0
+          → get_or (cond b (risen_on k n ring) ring) c 0 ≡ get_or ring c 0
       by true e = e ∙ step_past (sweep m ring n) l c p
       by false e = refl
 

@@ -2,7 +2,6 @@
 use mathlib.Core.Path.{ap, ◌∙◌}
 use mathlib.Core.Bool.{Bool, not}
 use mathlib.Core.List.{◌∷◌}
-use borrow.Author.Rules.{rules}
 use Rattle.mesh.specs.Meshes.{paired}
 use Rattle.mesh.specs.Operation.{whole, verdict}
 use Rattle.mesh.specs.Refusals.{refusal}

@@ -3,7 +3,6 @@ use mathlib.Core.Path.{ap}
 use Rattle.mesh.specs.Meshes.{mesh}
 use Rattle.mesh.specs.Refusals.{tell_verdict}
 use Rattle.sweep.proofs.Operating.{starts_refused, start_long, starts_fresh}
-use borrow.Author.Rules.{rules}
 use Rattle.sweep.proofs.start.Goals as goal
 
 pub returns-in-Refused : goal.returns-in-Refused

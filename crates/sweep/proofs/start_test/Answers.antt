@@ -3,7 +3,6 @@ use mathlib.Core.Path.{ap, ◌∙◌}
 use borrow.Author.Tests.{lt-ltb, le-ltb}
 use Rattle.mesh.specs.OperationLaws.{verdict_stop, verdict_next, verdict_one, whole_refused, whole_fine}
 use Rattle.mesh.specs.Refusals.{refusal, tell_verdict}
-use borrow.Author.Rules.{rules}
 use Rattle.sweep.proofs.start_test.Goals as goal
 
 pub returns-in-Refused : goal.returns-in-Refused

@@ -1,5 +1,4 @@
 -- `step` meets its contract.
-use Prim.Native.Nat.{◌+◌, ◌*◌, ◌<◌}
 use mathlib.Core.Path.{◌≡◌, refl, ap}
 use native.Mathlib.Omega.{arith}
 use lib.ListN.{length}
@@ -9,10 +8,9 @@ use Rattle.mesh.specs.Corners.{vertex_count}
 use Rattle.mesh.specs.Meshes.{ordered}
 use Rattle.mesh.specs.Order.{Ranked}
 use Rattle.mesh.specs.Refusals.{tell_verdict}
-use Rattle.sweep.specs.Sweep.{Sweep, sweep, mesh_of}
+use Rattle.sweep.specs.Sweep.{Sweep, sweep}
 use Rattle.sweep.specs.Places.{StepTested}
 use Rattle.sweep.proofs.Operating.{steps_refused, step_passed, steps_top, next_ranked, steps_taken}
-use borrow.Author.Rules.{rules}
 use Rattle.sweep.proofs.step.Goals as goal
 use Rattle.sweep.proofs.step.Goals.{In_default, After-wide-w}
 

@@ -10,7 +10,6 @@ use Rattle.mesh.specs.Refusals.{Told, tell_verdict}
 use Rattle.mesh_tables.specs.MeshTests.{opening_tests}
 use Rattle.mesh_tables.specs.OpeningLaws.{opening_bare}
 use Rattle.sweep.specs.Operations.{short_ring, linked_tests, state_tests}
-use borrow.Author.Rules.{rules}
 use Rattle.sweep.proofs.step_test.Goals as goal
 use Rattle.sweep.proofs.step_test.Goals.{Start}
 
@@ -30,19 +29,27 @@ bare : (start : Start) → verdict (opening_tests (mesh_of start) true true) ≡
 bare start = opening_bare (mesh_of start)
 
 pub returns-in-Refused : goal.returns-in-Refused
-returns-in-Refused c = record { told = join_stop (first (goal.at.returns-in-Refused c).Start) (second (goal.at.returns-in-Refused c).Start ++ third (goal.at.returns-in-Refused c).Start) (c.opening_test-a.ensures.told ∙ bare (goal.at.returns-in-Refused c).Start) (ap tell_verdict c.in-Refused.is) }
+returns-in-Refused c =
+    let start = (goal.at.returns-in-Refused c).Start in
+    record {
+      told = join_stop (first start) (second start ++ third start) (c.opening_test-a.ensures.told ∙ bare start) (ap tell_verdict c.in-Refused.is);
+    }
 
 pub returns-in-Refused-b : goal.returns-in-Refused-b
-returns-in-Refused-b c = record {
-  told = join_next (first (goal.at.returns-in-Refused-b c).Start) (second (goal.at.returns-in-Refused-b c).Start ++ third (goal.at.returns-in-Refused-b c).Start) (c.opening_test-a.ensures.told ∙ bare (goal.at.returns-in-Refused-b c).Start)
-      (ap tell_verdict c.in_default.is)
-      (join_stop (second (goal.at.returns-in-Refused-b c).Start) (third (goal.at.returns-in-Refused-b c).Start) c.state_test-b.ensures.told (ap tell_verdict c.in-Refused-b.is));
-}
+returns-in-Refused-b c =
+    let start = (goal.at.returns-in-Refused-b c).Start in
+    record {
+      told = join_next (first start) (second start ++ third start) (c.opening_test-a.ensures.told ∙ bare start)
+          (ap tell_verdict c.in_default.is)
+          (join_stop (second start) (third start) c.state_test-b.ensures.told (ap tell_verdict c.in-Refused-b.is));
+    }
 
 pub returns : goal.returns
-returns c = record {
-  told = join_next (first (goal.at.returns c).Start) (second (goal.at.returns c).Start ++ third (goal.at.returns c).Start) (c.opening_test-a.ensures.told ∙ bare (goal.at.returns c).Start)
-      (ap tell_verdict c.in_default.is)
-      (join_next (second (goal.at.returns c).Start) (third (goal.at.returns c).Start) c.state_test-b.ensures.told (ap tell_verdict c.in_default-b.is)
-      (c.one_sweep_test.ensures.told ∙ verdict_one _));
-}
+returns c =
+    let start = (goal.at.returns c).Start in
+    record {
+      told = join_next (first start) (second start ++ third start) (c.opening_test-a.ensures.told ∙ bare start)
+          (ap tell_verdict c.in_default.is)
+          (join_next (second start) (third start) c.state_test-b.ensures.told (ap tell_verdict c.in_default-b.is)
+          (c.one_sweep_test.ensures.told ∙ verdict_one _));
+    }

@@ -7,7 +7,6 @@ use Rattle.cut.specs.Cut.{CutTables, lent, lengths_of}
 use Rattle.sweep.specs.Sweep.{Sweep, sweep}
 use Rattle.sweep.specs.Operations.{rise_tests}
 use Rattle.sweep_layer.proofs.Lifting.{held_tests, held_tested, at_height, liftable, rises_refused, rises_lifted}
-use borrow.Author.Rules.{rules}
 use Rattle.sweep_layer.proofs.layer.Goals as goal
 use Rattle.sweep_layer.proofs.layer.Goals.{After-rise_test-v, Start}
 

@@ -11,7 +11,6 @@ use Rattle.cut.specs.Cut.{Lengths, lengths, cut_tests}
 use Rattle.sweep.specs.Sweep.{Sweep, sweep}
 use Rattle.sweep.specs.Operations.{sweep_tests}
 use Rattle.sweep_layer.proofs.Lifting.{right_tested}
-use borrow.Author.Rules.{rules}
 use Rattle.sweep_layer.proofs.rise_test.Goals as goal
 use Rattle.sweep_layer.proofs.rise_test.Goals.{Start}
 
@@ -25,19 +24,24 @@ room_of start = lengths start.args.names start.args.points start.args.ends start
 
 pub returns-in-Refused : goal.returns-in-Refused
 returns-in-Refused c =
-    let s = sweep_of (goal.at.returns-in-Refused c).Start in record {
-      told = join_stop (cut_tests s.ordered.paired (room_of (goal.at.returns-in-Refused c).Start)) (sweep_tests s c.args.h) c.tables_test-a.ensures.told
+    let start = (goal.at.returns-in-Refused c).Start in
+    let s = sweep_of start in
+    record {
+      told = join_stop (cut_tests s.ordered.paired (room_of start)) (sweep_tests s c.args.h) c.tables_test-a.ensures.told
           (ap tell_verdict c.in-Refused.is);
     }
 
 pub sweep_test-requires : goal.sweep_test-requires
 sweep_test-requires c =
-    right_tested (sweep_of (goal.at.sweep_test-requires c).Start).ordered.paired (room_of (goal.at.sweep_test-requires c).Start) c.tables_test-a.ensures.told (ap tell_verdict c.in_default.is)
+    let start = (goal.at.sweep_test-requires c).Start in
+    right_tested (sweep_of start).ordered.paired (room_of start) c.tables_test-a.ensures.told (ap tell_verdict c.in_default.is)
 
 pub returns : goal.returns
 returns c =
-    let s = sweep_of (goal.at.returns c).Start in record {
-      told = join_next (cut_tests s.ordered.paired (room_of (goal.at.returns c).Start)) (sweep_tests s c.args.h) c.tables_test-a.ensures.told
+    let start = (goal.at.returns c).Start in
+    let s = sweep_of start in
+    record {
+      told = join_next (cut_tests s.ordered.paired (room_of start)) (sweep_tests s c.args.h) c.tables_test-a.ensures.told
           (ap tell_verdict c.in_default.is)
           (c.sweep_test.ensures.told ∙ ap (λ (z : ℤ). verdict (sweep_tests s z)) (to_z-of_z w32 c.args.h c.ranges.h));
     }

@@ -1,7 +1,7 @@
 -- `unchecked::clear_points` meets its contract.
 use mathlib.Core.Path.{◌≡◌, sym, ap, ◌∙◌}
 use mathlib.Core.List.{List}
-use Prim.Native.Nat.{ℕ, ◌-◌, ◌≤◌}
+use Prim.Native.Nat.{ℕ}
 use native.Mathlib.Omega.{arith}
 use lib.ListN.{length, set}
 use lib.IntN.{ℤ, pos}
@@ -31,4 +31,9 @@ shape_of-t c = let v = c.loop-i.invariant in ap length v.2 ∙ length_refill _ _
 pub returns : goal.returns
 returns c =
     let v = c.loop-i.invariant in
-    let e : c.loop-i.i ≡ c.args.n = omega arith in record { left = v.2 ∙ ap (λ (k : ℕ). refill k (λ i. pos 0) c.args.t.now) e ∙ ap (λ (l : List ℤ). overwrite l c.args.t.now) (tabulate_const _ _) }
+    let e : c.loop-i.i ≡ c.args.n = omega arith in
+    record {
+      left = v.2
+          ∙ ap (λ (k : ℕ). refill k (λ i. pos 0) c.args.t.now) e
+          ∙ ap (λ (l : List ℤ). overwrite l c.args.t.now) (tabulate_const _ _);
+    }

@@ -1,12 +1,9 @@
 -- `unchecked::clear_points` meets its contract.
-use mathlib.Core.Path.{◌≡◌, sym, ap, ◌∙◌}
-use mathlib.Core.List.{List}
-use Prim.Native.Nat.{ℕ, ◌-◌, ◌≤◌}
-use native.Mathlib.Omega.{arith}
-use lib.ListN.{length, set}
-use lib.IntN.{ℤ, pos}
-use Rattle.laws.specs.Tables.{overwrite, refill}
-use Rattle.laws.specs.TableLaws.{refill_none, refill_more, length_refill, tabulate_const}
+use mathlib.Core.Path.{◌≡◌}
+use Prim.Native.Nat.{◌-◌, ◌≤◌}
+use lib.ListN.{length}
+use lib.IntN.{pos}
+use Rattle.laws.specs.Tables.{refill}
 use Rattle.cut.proofs.unchecked.clear_points.Given as goal
 
 abbrev pub invariant-loop-i : goal.invariant-loop-i

@@ -1,8 +1,7 @@
 -- `unchecked_rings::leap` meets its contract.
-use Prim.Native.Nat.{◌+◌, ◌-◌}
+use Prim.Native.Nat.{◌+◌}
 use native.Mathlib.Omega.{arith}
 use borrow.Author.Tests.{not-false}
-use Rattle.cut_trace.specs.Walks.{Sought}
 use Rattle.cut_trace.proofs.Seeking.{sought_none, sought_more}
 use Rattle.cut_trace.proofs.unchecked_rings.leap.Goals as goal
 

@@ -1,9 +1,6 @@
 -- `unchecked_rings::leap` meets its contract.
-use Prim.Native.Nat.{◌+◌, ◌-◌}
-use native.Mathlib.Omega.{arith}
-use borrow.Author.Tests.{not-false}
+use Prim.Native.Nat.{◌-◌}
 use Rattle.cut_trace.specs.Walks.{Sought}
-use Rattle.cut_trace.proofs.Seeking.{sought_none, sought_more}
 use Rattle.cut_trace.proofs.unchecked_rings.leap.Given as goal
 
 abbrev pub invariant-loop-d : goal.invariant-loop-d

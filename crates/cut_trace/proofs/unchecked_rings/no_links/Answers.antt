@@ -4,7 +4,6 @@ use native.Mathlib.Omega.{arith}
 use lib.ListN.{get_or}
 use borrow.Author.Tests.{eqb-true}
 use Rattle.cut_trace.proofs.Seeking.{four_none}
-use borrow.Author.Rules.{rules}
 use Rattle.cut_trace.proofs.unchecked_rings.no_links.Goals as goal
 use Rattle.cut_trace.proofs.unchecked_rings.no_links.Goals.{After-shared_slice_known-1}
 
@@ -15,26 +14,29 @@ small c i = (c.shared_slice_known-1.given i).fits
 pub overflow_add-a : goal.overflow_add-a
 overflow_add-a c =
     let at = c.args.c in
-    omega (arith, c.wide.ensures.value, c.wide-2.ensures.value, small (goal.at.overflow_add-a c).After-shared_slice_known-1 at, small (goal.at.overflow_add-a c).After-shared_slice_known-1 (at + 1))
+    let fits = small (goal.at.overflow_add-a c).After-shared_slice_known-1 in
+    omega (arith, c.wide.ensures.value, c.wide-2.ensures.value, fits at, fits (at + 1))
 
 pub overflow_add-b : goal.overflow_add-b
 overflow_add-b c =
     let at = c.args.c in
-    omega (arith, c.wide-3.ensures.value, c.wide-4.ensures.value, small (goal.at.overflow_add-b c).After-shared_slice_known-1 (at + 2), small (goal.at.overflow_add-b c).After-shared_slice_known-1 (at + 3))
+    let fits = small (goal.at.overflow_add-b c).After-shared_slice_known-1 in
+    omega (arith, c.wide-3.ensures.value, c.wide-4.ensures.value, fits (at + 2), fits (at + 3))
 
 pub overflow_add-result : goal.overflow_add-result
 overflow_add-result c =
     let at = c.args.c in
+    let fits = small (goal.at.overflow_add-result c).After-shared_slice_known-1 in
     omega (
       arith,
       c.wide.ensures.value,
       c.wide-2.ensures.value,
       c.wide-3.ensures.value,
       c.wide-4.ensures.value,
-      small (goal.at.overflow_add-result c).After-shared_slice_known-1 at,
-      small (goal.at.overflow_add-result c).After-shared_slice_known-1 (at + 1),
-      small (goal.at.overflow_add-result c).After-shared_slice_known-1 (at + 2),
-      small (goal.at.overflow_add-result c).After-shared_slice_known-1 (at + 3),
+      fits at,
+      fits (at + 1),
+      fits (at + 2),
+      fits (at + 3),
     )
 
 pub returns : goal.returns

@@ -1,7 +1,6 @@
 -- `unchecked_rings::seek` meets its contract.
-use Prim.Native.Nat.{◌+◌, ◌-◌}
+use Prim.Native.Nat.{◌+◌}
 use native.Mathlib.Omega.{arith}
-use Rattle.cut_trace.specs.Walks.{Sought}
 use Rattle.cut_trace.proofs.Seeking.{sought_more, one_none}
 use Rattle.cut_trace.proofs.unchecked_rings.seek.Goals as goal
 

@@ -1,12 +1,10 @@
 -- `unchecked_rings::walk` meets its contract.
-use Prim.Native.Nat.{◌-◌}
 use mathlib.Core.Path.{ap, ◌∙◌}
 use native.Mathlib.Omega.{arith}
-use borrow.Author.Rules.{rules}
-use lib.ListN.{length, length-set}
+use lib.ListN.{length-set}
 use Rattle.section.specs.Section.{no_corner}
 use Rattle.cut_trace.specs.declared.WalkAnswer.TheVariants.{Closed}
-use Rattle.cut_trace.proofs.RingWalking.{RingWalking, walking_start, names_length, links_length, c_inside, c_small, k_inside, d_inside, d_small}
+use Rattle.cut_trace.proofs.RingWalking.{walking_start, names_length, links_length, c_inside, c_small, k_inside, d_inside, d_small}
 use Rattle.cut_trace.proofs.RingWalking.{walking_next, walking_end, never_met}
 use Rattle.cut_trace.proofs.unchecked_rings.walk.Goals as goal
 

@@ -1,13 +1,7 @@
 -- `unchecked_rings::walk` meets its contract.
 use Prim.Native.Nat.{◌-◌}
-use mathlib.Core.Path.{ap, ◌∙◌}
-use native.Mathlib.Omega.{arith}
-use borrow.Author.Rules.{rules}
-use lib.ListN.{length, length-set}
-use Rattle.section.specs.Section.{no_corner}
-use Rattle.cut_trace.specs.declared.WalkAnswer.TheVariants.{Closed}
-use Rattle.cut_trace.proofs.RingWalking.{RingWalking, walking_start, names_length, links_length, c_inside, c_small, k_inside, d_inside, d_small}
-use Rattle.cut_trace.proofs.RingWalking.{walking_next, walking_end, never_met}
+use lib.ListN.{length}
+use Rattle.cut_trace.proofs.RingWalking.{RingWalking}
 use Rattle.cut_trace.proofs.unchecked_rings.walk.Given as goal
 
 abbrev pub invariant-loop-start : goal.invariant-loop-start

@@ -2,7 +2,6 @@
 use mathlib.Core.Path.{ap, sym, ◌∙◌}
 use Rattle.section.specs.Section.{VertexSet, ring_entry}
 use Rattle.section.proofs.Turns.{passed_held, entry_none}
-use borrow.Author.Rules.{rules}
 use Rattle.section.proofs.unchecked_crossings.entry_of.Goals as goal
 
 pub link_of-requires : goal.link_of-requires

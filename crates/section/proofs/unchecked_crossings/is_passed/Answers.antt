@@ -1,6 +1,5 @@
 -- `unchecked_crossings::is_passed` meets its contract.
 use Rattle.section.proofs.Turns.{passed_low, passed_high_lem, passed_level}
-use borrow.Author.Rules.{rules}
 use Rattle.section.proofs.unchecked_crossings.is_passed.Goals as goal
 
 pub returns-then-z-h : goal.returns-then-z-h

@@ -4,7 +4,6 @@ use mathlib.Core.Path.{ap, ◌∙◌}
 use mathlib.Core.Bool.{Bool, not, ◌&&◌}
 use Rattle.section.specs.Section.{VertexSet, under}
 use Rattle.section.proofs.Turns.{held, passed_held, leads_no, leads_as}
-use borrow.Author.Rules.{rules}
 use Rattle.section.proofs.unchecked_crossings.leads_up.Goals as goal
 
 -- u is passed and v is not

@@ -1,15 +1,8 @@
 -- `unchecked_crossings::link` meets its contract.
-use Prim.Native.Nat.{ℕ, ◌-◌, ◌≤◌}
-use mathlib.Core.Path.{◌≡◌, sym, ◌∙◌}
-use native.Mathlib.Omega.{arith}
-use lib.ListN.{length}
-use lib.IntN.{ℤ}
-use mir.Syntax.{w32}
-use mir.Val.{to_z}
+use Prim.Native.Nat.{◌-◌, ◌≤◌}
+use mathlib.Core.Path.{◌≡◌}
 use Rattle.laws.specs.Tables.{refill}
-use Rattle.laws.specs.TableLaws.{refill_none}
 use Rattle.section.specs.Section.{under, ring_entry}
-use Rattle.section.proofs.Turns.{held, back, still_long, link_more}
 use Rattle.section.proofs.unchecked_crossings.link.Given as goal
 
 abbrev pub invariant-loop-c : goal.invariant-loop-c

@@ -1,11 +1,9 @@
 -- `unchecked_crossings::link_at` meets its contract.
-use Prim.Native.Nat.{ℕ, ◌%◌, ◌-◌, ◌≤◌}
+use Prim.Native.Nat.{ℕ}
 use mathlib.Core.Path.{◌≡◌, sym, ◌∙◌}
 use native.Mathlib.Omega.{arith}
 use lib.ListN.{length}
 use lib.IntN.{ℤ}
-use mir.Syntax.{w32}
-use mir.Val.{to_z}
 use Rattle.laws.specs.Tables.{refill}
 use Rattle.laws.specs.TableLaws.{refill_none}
 use Rattle.section.specs.Section.{under, ring_entry}
@@ -52,4 +50,7 @@ shape_of-ring c =
 
 pub returns : goal.returns
 returns c =
-    let end : c.loop-c.c ≡ length c.args.corners.now = omega (arith, c.loop-c-test.false, c.loop-c.invariant.0) in record { left = c.loop-c.invariant.2 ∙ (λ i. refill (end i) (entry (goal.at.returns c).Start (back c.ranges.h i)) c.args.ring.now) }
+    let end : c.loop-c.c ≡ length c.args.corners.now = omega (arith, c.loop-c-test.false, c.loop-c.invariant.0) in
+    record {
+      left = c.loop-c.invariant.2 ∙ (λ i. refill (end i) (entry (goal.at.returns c).Start (back c.ranges.h i)) c.args.ring.now);
+    }

@@ -4,7 +4,6 @@ use native.Mathlib.Omega.{arith}
 use Rattle.mesh.specs.Corners.{triangle_of}
 use Rattle.section.specs.Section.{VertexSet, under, rising_in, Crossing}
 use Rattle.section.proofs.Turns.{held, passed_held, crosses_held, pair_inside, pair_falling, entry_fits, entry_rises}
-use borrow.Author.Rules.{rules}
 use Rattle.section.proofs.unchecked_crossings.link_of.Goals as goal
 use Rattle.section.proofs.unchecked_crossings.link_of.Goals.{Start}
 

@@ -6,7 +6,6 @@ use lib.IntN.{ℤ}
 use Rattle.section.specs.Section.{under, ring_entry}
 use Rattle.section.specs.Triangles.{set_three}
 use Rattle.section.proofs.Turns.{held, back, TrianglePassed, between_1, between_2, between_3, three_level, three_are}
-use borrow.Author.Rules.{rules}
 use Rattle.section.proofs.unchecked_crossings.link_triangle.Goals as goal
 use Rattle.section.proofs.unchecked_crossings.link_triangle.Goals.{After-starts_passed-r, Start}
 

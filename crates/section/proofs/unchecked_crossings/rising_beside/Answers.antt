@@ -2,7 +2,6 @@
 use mathlib.Core.Path.{◌∙◌}
 use Rattle.section.specs.Section.{under}
 use Rattle.section.proofs.Turns.{passed_held, vertex_at, previous_corner_inside, ThirdSeen, second_rises, first_rises}
-use borrow.Author.Rules.{rules}
 use Rattle.section.proofs.unchecked_crossings.rising_beside.Goals as goal
 use Rattle.section.proofs.unchecked_crossings.rising_beside.Goals.{After-is_passed}
 

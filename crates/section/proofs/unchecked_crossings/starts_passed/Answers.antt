@@ -1,7 +1,6 @@
 -- `unchecked_crossings::starts_passed` meets its contract.
 use mathlib.Core.Path.{◌∙◌}
 use Rattle.section.proofs.Turns.{passed_held, vertex_at}
-use borrow.Author.Rules.{rules}
 use Rattle.section.proofs.unchecked_crossings.starts_passed.Goals as goal
 
 pub is_passed-requires : goal.is_passed-requires

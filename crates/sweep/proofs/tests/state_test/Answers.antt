@@ -2,7 +2,6 @@
 use mathlib.Core.Path.{ap, ◌∙◌}
 use Rattle.mesh.specs.OperationLaws.{verdict_stop, verdict_next, verdict_one}
 use Rattle.mesh.specs.Refusals.{tell_verdict}
-use borrow.Author.Rules.{rules}
 use Rattle.sweep.proofs.tests.state_test.Goals as goal
 
 pub returns-in-Refused : goal.returns-in-Refused

@@ -1,13 +1,11 @@
 -- `unchecked::first_wrong` meets its contract.
-use Prim.Native.Nat.{ℕ, ◌-◌}
+use Prim.Native.Nat.{ℕ}
 use mathlib.Core.Path.{sym, ap, ◌∙◌}
 use native.Mathlib.Omega.{arith}
 use lib.ListN.{length}
 use lib.IntN.{ℤ}
-use mir.Syntax.{w32}
-use mir.Val.{to_z}
 use Rattle.laws.specs.Least.{least}
-use Rattle.laws.specs.LeastLaws.{Scanned, scan_start, scan_hit, scan_miss, scan_end}
+use Rattle.laws.specs.LeastLaws.{scan_start, scan_hit, scan_miss, scan_end}
 use Rattle.section.specs.Section.{under}
 use Rattle.sweep.specs.Places.{wrong_for}
 use Rattle.sweep.proofs.Moves.{back}

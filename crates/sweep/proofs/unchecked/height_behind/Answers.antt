@@ -6,7 +6,6 @@ use mir.Syntax.{w32}
 use Rattle.laws.specs.Machine.{same}
 use lib.ListN.{length}
 use Rattle.sweep.proofs.Moves.{behind_none, behind_last}
-use borrow.Author.Rules.{rules}
 use Rattle.sweep.proofs.unchecked.height_behind.Goals as goal
 use Rattle.sweep.proofs.unchecked.height_behind.Goals.{After-wide-w}
 

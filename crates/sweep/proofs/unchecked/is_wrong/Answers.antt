@@ -7,7 +7,6 @@ use lib.IntN.{ℤ}
 use Rattle.section.specs.Section.{VertexSet, under}
 use Rattle.sweep.specs.Places.{wrong_for}
 use Rattle.sweep.proofs.Moves.{back, wrong_missing, wrong_as}
-use borrow.Author.Rules.{rules}
 use Rattle.sweep.proofs.unchecked.is_wrong.Goals as goal
 
 pub returns-then-ring-c : goal.returns-then-ring-c

@@ -2,7 +2,6 @@
 use Prim.Native.Nat.{◌-◌}
 use native.Mathlib.Omega.{arith}
 use Rattle.sweep.proofs.Moves.{number_none, number_last}
-use borrow.Author.Rules.{rules}
 use Rattle.sweep.proofs.unchecked.number_behind.Goals as goal
 
 pub returns-then-n-eq0 : goal.returns-then-n-eq0

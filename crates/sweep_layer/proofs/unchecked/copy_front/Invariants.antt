@@ -1,10 +1,8 @@
 -- `unchecked::copy_front` meets its contract.
-use Prim.Native.Nat.{ℕ, ◌-◌, ◌≤◌}
-use mathlib.Core.Path.{◌≡◌, sym, ap, ◌∙◌}
-use native.Mathlib.Omega.{arith}
-use lib.ListN.{length, get_or, set}
+use Prim.Native.Nat.{◌-◌, ◌≤◌}
+use mathlib.Core.Path.{◌≡◌}
+use lib.ListN.{get_or}
 use Rattle.laws.specs.Tables.{refill}
-use Rattle.laws.specs.TableLaws.{refill_none, refill_more, length_refill}
 use Rattle.sweep_layer.proofs.unchecked.copy_front.Given as goal
 
 abbrev pub invariant-loop-i : goal.invariant-loop-i

@@ -7,7 +7,6 @@ use Rattle.cut.specs.OutlineLaws.{long_links}
 use Rattle.sweep.specs.Sweep.{Sweep, sweep}
 use Rattle.sweep.specs.Places.{RiseTested}
 use Rattle.sweep_layer.proofs.Lifting.{held_tested, at_height, raise_outlined, never_refused, lifts}
-use borrow.Author.Rules.{rules}
 use Rattle.sweep_layer.proofs.unchecked.raise.Goals as goal
 use Rattle.sweep_layer.proofs.unchecked.raise.Goals.{In-Refused, Start}
 

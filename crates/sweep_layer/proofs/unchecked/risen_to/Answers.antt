@@ -1,16 +1,14 @@
 -- `unchecked::risen_to` meets its contract.
-use Prim.Native.Nat.{ℕ, ◌+◌, ◌-◌, ◌*◌, ◌≤◌, ◌<◌}
+use Prim.Native.Nat.{ℕ, ◌+◌, ◌*◌, ◌≤◌, ◌<◌}
 use mathlib.Core.Path.{ap, ◌∙◌}
 use native.Mathlib.Omega.{arith}
-use borrow.Author.Rules.{rules}
 use lib.ListN.{length}
 use lib.IntN.{ℤ}
 use mir.Syntax.{w32}
-use mir.Val.{to_z}
 use mir.ValLaws.{to_z-of_z}
 use Rattle.mesh.specs.Corners.{vertex_count}
 use Rattle.sweep.specs.Sweep.{risen_to}
-use Rattle.sweep_layer.proofs.Rising.{RiseGoesOn, rising_start, rising_stop, rising_more, may_not, may, may_end}
+use Rattle.sweep_layer.proofs.Rising.{rising_start, rising_stop, rising_more, may_not, may, may_end}
 use Rattle.sweep_layer.proofs.unchecked.risen_to.Goals as goal
 use Rattle.sweep_layer.proofs.unchecked.risen_to.Goals.{After-wide-w, Start}
 
@@ -18,9 +16,7 @@ use Rattle.sweep_layer.proofs.unchecked.risen_to.Goals.{After-wide-w, Start}
 abbrev count : Start → ℤ → ℕ
 count start z = risen_to start.args.coords.now start.args.order.now z (vertex_count start.args.coords.now) start.args.n
 
-inside : (c : After-wide-w)
-    →
-    3 * c.wide-w.result + 2 < length c.args.coords.now
+inside : (c : After-wide-w) → 3 * c.wide-w.result + 2 < length c.args.coords.now
 inside c =
     let l : c.loop-p.p < vertex_count c.args.coords.now = omega (arith, c.loop-p-test.true) in
     omega (arith, c.wide-w.ensures.value, (c.requires.fact_2 c.loop-p.p l).vertex)
@@ -53,7 +49,8 @@ bounds-coords-j c = inside c
 
 pub returns-then-coords-j : goal.returns-then-coords-j
 returns-then-coords-j c =
-    let l : c.loop-p.p < vertex_count c.args.coords.now = omega (arith, c.loop-p-test.true) in record {
+    let l : c.loop-p.p < vertex_count c.args.coords.now = omega (arith, c.loop-p-test.true) in
+    record {
       value = rising_stop _ _ _ _ _ c.loop-p.invariant
           (may_not c.args.coords.now _ _ c.loop-p.p c.wide-w.result c.t15-1.given c.wide-w.ensures.value l c.if-coords-j.true)
           ∙ ap (count (goal.at.returns-then-coords-j c).Start) (to_z-of_z w32 c.args.h c.ranges.h);
@@ -73,4 +70,8 @@ loop-p-preserved c =
 
 pub returns : goal.returns
 returns c =
-    let l : vertex_count c.args.coords.now ≤ c.loop-p.p = omega (arith, c.loop-p-test.false) in record { value = rising_stop _ _ _ _ _ c.loop-p.invariant (may_end _ _ _ c.loop-p.p l) ∙ ap (count (goal.at.returns c).Start) (to_z-of_z w32 c.args.h c.ranges.h) }
+    let l : vertex_count c.args.coords.now ≤ c.loop-p.p = omega (arith, c.loop-p-test.false) in
+    record {
+      value = rising_stop _ _ _ _ _ c.loop-p.invariant (may_end _ _ _ c.loop-p.p l)
+          ∙ ap (count (goal.at.returns c).Start) (to_z-of_z w32 c.args.h c.ranges.h);
+    }

@@ -14,7 +14,6 @@ use Rattle.sweep.specs.Operations.{wrong_ring, not_above, state_tests}
 use Rattle.sweep.specs.SweepTests.{sweep_condition}
 use Rattle.sweep.specs.Places.{Placed}
 use Rattle.sweep_layer.proofs.Lifting.{placed_of}
-use borrow.Author.Rules.{rules}
 use Rattle.sweep_layer.proofs.unchecked.sweep_test.Goals as goal
 use Rattle.sweep_layer.proofs.unchecked.sweep_test.Goals.{In_default, Start}
 
@@ -31,22 +30,28 @@ second start = wrong_ring (sweep_of start) ∷ not_above start.args.coords.now s
 
 -- what 8 and 10 establish
 placed : (c : In_default)
-    →
-    Placed (sweep_of c.before.before.before.before.before.before.before).ordered c.args.n
+    → Placed (ordered c.args.coords.now c.args.corners.now c.args.pairing.now c.args.order.now) c.args.n
 placed c =
-    placed_of (sweep_of c.before.before.before.before.before.before.before).ordered c.args.n c.requires c.state_test-a.ensures.told (ap tell_verdict c.in_default.is)
+    placed_of (ordered c.args.coords.now c.args.corners.now c.args.pairing.now c.args.order.now) c.args.n c.requires
+    c.state_test-a.ensures.told (ap tell_verdict c.in_default.is)
 
 pub returns-in-Refused : goal.returns-in-Refused
-returns-in-Refused c = record { told = join_stop (first (goal.at.returns-in-Refused c).Start) (second (goal.at.returns-in-Refused c).Start) c.state_test-a.ensures.told (ap tell_verdict c.in-Refused.is) }
+returns-in-Refused c =
+    let start = (goal.at.returns-in-Refused c).Start in
+    record {
+      told = join_stop (first start) (second start) c.state_test-a.ensures.told (ap tell_verdict c.in-Refused.is);
+    }
 
 pub one_sweep_test-b-requires : goal.one_sweep_test-b-requires
 one_sweep_test-b-requires c = placed c
 
 pub returns-in-Refused-b : goal.returns-in-Refused-b
-returns-in-Refused-b c = record {
-  told = join_next (first (goal.at.returns-in-Refused-b c).Start) (second (goal.at.returns-in-Refused-b c).Start) c.state_test-a.ensures.told (ap tell_verdict c.in_default.is)
-      (verdict_stop _ _ c.one_sweep_test-b.ensures.told (ap tell_verdict c.in-Refused-b.is));
-}
+returns-in-Refused-b c =
+    let start = (goal.at.returns-in-Refused-b c).Start in
+    record {
+      told = join_next (first start) (second start) c.state_test-a.ensures.told (ap tell_verdict c.in_default.is)
+          (verdict_stop _ _ c.one_sweep_test-b.ensures.told (ap tell_verdict c.in-Refused-b.is));
+    }
 
 pub one_sweep_test-requires : goal.one_sweep_test-requires
 one_sweep_test-requires c =
@@ -54,9 +59,11 @@ one_sweep_test-requires c =
     (p.few, p.ranked)
 
 pub returns : goal.returns
-returns c = record {
-  told = join_next (first (goal.at.returns c).Start) (second (goal.at.returns c).Start) c.state_test-a.ensures.told (ap tell_verdict c.in_default.is)
-      (verdict_next _ _ c.one_sweep_test-b.ensures.told (ap tell_verdict c.in_default-b.is)
-      (c.one_sweep_test.ensures.told ∙ ap (λ (z : ℤ). test (sweep_condition Height (sweep_of (goal.at.returns c).Start) z)) (to_z-of_z w32 c.args.h c.ranges.h)
-      ∙ verdict_one _));
-}
+returns c =
+    let start = (goal.at.returns c).Start in
+    record {
+      told = join_next (first start) (second start) c.state_test-a.ensures.told (ap tell_verdict c.in_default.is)
+          (verdict_next _ _ c.one_sweep_test-b.ensures.told (ap tell_verdict c.in_default-b.is)
+          (c.one_sweep_test.ensures.told ∙ ap (λ (z : ℤ). test (sweep_condition Height (sweep_of start) z)) (to_z-of_z w32 c.args.h c.ranges.h)
+          ∙ verdict_one _));
+    }
