@@ -67,7 +67,8 @@ module _ {points : List ℤ} {from end a b i : ℕ} (w : HasPoints points end) (
 module _ (points : List ℤ) (from end : ℕ) (w : HasPoints points end) where
   pub kept_none : from ≡ end → false ≡ kept (contour_part points from end)
   unfolding variety
-  kept_none e = sym (kept_is (contour_part points from end) ∙ ap (λ (c : List Point). leb fewest_different (variety c)) (part_none points from end (omega arith)))
+  kept_none e = sym (kept_is (contour_part points from end)
+      ∙ ap (λ (c : List Point). leb fewest_different (variety c)) (part_none points from end (omega arith)))
 
   module _ (l : from < end) where
     abbrev contour : List Point

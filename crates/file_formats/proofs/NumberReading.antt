@@ -59,7 +59,8 @@ module _ (file : List ℕ) (at top : ℕ) where
     one : get_or file at 0 < 128 → get_or file at 0 ≤ top → number_at top file at ≡ Value (get_or file at 0) (at + 1)
     unfolding number_at parse_number
     one g k =
-        simp (drop-cons file at 0 h, lt-ltb (get_or file at 0) 128 g, le-leb (get_or file at 0) top k, length-drop) (ap (Value (get_or file at 0)) (omega arith))
+        simp (drop-cons file at 0 h, lt-ltb (get_or file at 0) 128 g, le-leb (get_or file at 0) top k, length-drop)
+        (ap (Value (get_or file at 0)) (omega arith))
 
     one_over : get_or file at 0 < 128 → top < get_or file at 0 → number_at top file at ≡ Bad
     unfolding number_at parse_number

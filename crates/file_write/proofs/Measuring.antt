@@ -72,7 +72,8 @@ module _ {row : List ℤ} {x y : ℤ} {total k : ℕ} (m : PointsMeasured row x 
 
 -- ---- a contour: its count and its points
 
-pub contour_measured : (row : List ℤ) {n p : ℕ} → n ≡ length (encode_number (length row / 2)) → (p ≡ length (point_bytes (points_in row))) × (p ≤ 5 * length row)
+pub contour_measured : (row : List ℤ) {n p : ℕ} → n ≡ length (encode_number (length row / 2))
+    → (p ≡ length (point_bytes (points_in row))) × (p ≤ 5 * length row)
     → (n + p ≡ length (contour_bytes (points_in row))) × (n + p ≤ 1 + 6 * length row)
 contour_measured row {n} {p} e h =
     (omega (arith, e, h.0, simp length-append at (ap length (row_bytes row).joined)), omega (arith, e, h.1, number_few (length row / 2)))
@@ -83,7 +84,8 @@ contour_measured row {n} {p} e h =
 pub record ContoursMeasured (points : List ℤ) (ends : List ℕ) (j total from i : ℕ) : Type 0 where
   pub place : EndsPlace points ends j from i
   pub few : total ≤ i + 12 * from
-  pub same : total + length (flat_map contour_bytes (contours_after points ends j from i)) ≡ length (flat_map contour_bytes (contours_in points 0 (take j ends)))
+  pub same : total + length (flat_map contour_bytes (contours_after points ends j from i))
+      ≡ length (flat_map contour_bytes (contours_in points 0 (take j ends)))
 
 pub measure_contours_start : {points : List ℤ} {ends : List ℕ} {j : ℕ} → LayerTables points ends j → ContoursMeasured points ends j 0 0 0
 measure_contours_start t = record { place = place_start t; few = omega arith; same = omega arith }

@@ -113,7 +113,8 @@ module _ {points : List ℤ} {ends : List ℕ} {j from i : ℕ} (w : EndsPlace p
     place_next = record { there = w.there; inside = omega arith; within = rises.1; rise = rises.2 }
 
     -- the next contour is the part that the code takes
-    pub next_contour : contours_after points ends j from i ≡ points_in (take (2 * e - 2 * from) (drop (2 * from) points)) ∷ contours_after points ends j e (i + 1)
+    pub next_contour : contours_after points ends j from i
+        ≡ points_in (take (2 * e - 2 * from) (drop (2 * from) points)) ∷ contours_after points ends j e (i + 1)
     unfolding contours_in
     next_contour =
         let n : 2 * (e - from) ≡ 2 * e - 2 * from = omega arith in

@@ -69,7 +69,8 @@ module _ (file : List ℕ) {f : FindPartAnswer} (s : Finds file f) where
 abbrev pub counted_sizes : Layout → PartSizes
 counted_sizes l = part_sizes l.coords.count l.corners.count l.heights.count
 
-module _ {file : List ℕ} {l : Layout} (k : Laid file l) (t : PartSizes) {fits : Bool} (r : fits ≡ read_part_room_for (counted_sizes l) t) (e : fits ≡ true) where
+module _ {file : List ℕ} {l : Layout} (k : Laid file l) (t : PartSizes) {fits : Bool}
+    (r : fits ≡ read_part_room_for (counted_sizes l) t) (e : fits ≡ true) where
   room : (l.coords.count ≤ t.coords) × (l.corners.count ≤ t.corners) × (l.heights.count ≤ t.heights)
   room = room_parts (counted_sizes l) t (sym r ∙ e)
 
@@ -109,5 +110,6 @@ module _ {file : List ℕ} {t : Part} where
     reads_filled e a b c =
         let is : part_at file l ≡ part_in file = sym (held_part file k.is) in
         does_give refl (fine_verdict file (part_sizes_of t) k.is (same_room k (part_sizes_of t) r ∙ e))
-        ((λ i. gives ((sym (same_sizes k) i).coords / 3, (sym (same_sizes k) i).corners / 3, (sym (same_sizes k) i).heights)) ∙ (λ i. gives (part_counts (is i))))
+        ((λ i. gives ((sym (same_sizes k) i).coords / 3, (sym (same_sizes k) i).corners / 3, (sym (same_sizes k) i).heights))
+            ∙ (λ i. gives (part_counts (is i))))
         ((λ i. part (a i) (b i) (c i)) ∙ fills_fine (part_at file l) t ∙ (λ i. fills_part (is i) t fine))

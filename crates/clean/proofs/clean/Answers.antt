@@ -9,10 +9,14 @@ pub returns-in-Refused : goal.returns-in-Refused
 returns-in-Refused c = record { outcome = layer_refused c.layer_test-v.ensures.told (ap tell_verdict c.in-Refused.is) }
 
 pub returns-then-cleanpoints-points : goal.returns-then-cleanpoints-points
-returns-then-cleanpoints-points c = record { outcome = points_short c.layer_test-v.ensures.told (ap tell_verdict c.in_default.is) (omega (arith, c.if-cleanpoints-points.true)) }
+returns-then-cleanpoints-points c = record {
+  outcome = points_short c.layer_test-v.ensures.told (ap tell_verdict c.in_default.is) (omega (arith, c.if-cleanpoints-points.true));
+}
 
 pub returns-then-cleanends-ends : goal.returns-then-cleanends-ends
-returns-then-cleanends-ends c = record { outcome = ends_short c.layer_test-v.ensures.told (ap tell_verdict c.in_default.is) (omega (arith, c.if-cleanends-ends.true)) }
+returns-then-cleanends-ends c = record {
+  outcome = ends_short c.layer_test-v.ensures.told (ap tell_verdict c.in_default.is) (omega (arith, c.if-cleanends-ends.true));
+}
 
 pub copy_layer-counts-requires : goal.copy_layer-counts-requires
 copy_layer-counts-requires c =

@@ -12,4 +12,6 @@ trimmed_end-requires c = record {
 }
 
 pub returns : goal.returns
-returns c = record { found = end_kept _ _ _ c.requires.fact_1 c.requires.fact_2 c.is_kept.ensures.value c.if-not-is_kept.false c.trimmed_end.ensures.found }
+returns c = record {
+  found = end_kept _ _ _ c.requires.fact_1 c.requires.fact_2 c.is_kept.ensures.value c.if-not-is_kept.false c.trimmed_end.ensures.found;
+}

@@ -7,7 +7,9 @@ pub returns-then-from-end : goal.returns-then-from-end
 returns-then-from-end c = record { value = kept_none _ _ _ c.requires.fact_1 c.if-from-end.true }
 
 pub returns-then-second-end : goal.returns-then-second-end
-returns-then-second-end c = record { value = kept_one _ _ _ c.requires.fact_1 (omega (arith, c.if-from-end.false)) c.first_other-second.ensures.found c.if-second-end.true }
+returns-then-second-end c = record {
+  value = kept_one _ _ _ c.requires.fact_1 (omega (arith, c.if-from-end.false)) c.first_other-second.ensures.found c.if-second-end.true;
+}
 
 pub returns : goal.returns
 returns c = record {

@@ -5,7 +5,9 @@ use Rattle.clean_contour.proofs.Copying.{RunCopying}
 use Rattle.clean_contour.proofs.unchecked.move_run.Given as goal
 
 abbrev pub invariant-loop-i : goal.invariant-loop-i
-invariant-loop-i l = RunCopying l.initial.points l.initial.points l.end (point l.initial.x l.initial.y) l.initial.to l.initial.i l.points (point l.x l.y) l.to l.i
+invariant-loop-i l =
+    RunCopying l.initial.points l.initial.points l.end (point l.initial.x l.initial.y) l.initial.to l.initial.i
+    l.points (point l.x l.y) l.to l.i
 
 abbrev pub decreases-loop-i : goal.decreases-loop-i
 decreases-loop-i l = l.end - l.i

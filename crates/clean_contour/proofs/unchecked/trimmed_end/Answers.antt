@@ -6,7 +6,9 @@ pub loop-r-init : goal.loop-r-init
 loop-r-init c = ending c.requires.fact_2
 
 pub returns-then-not-equal_points : goal.returns-then-not-equal_points
-returns-then-not-equal_points c = record { found = ending_stop c.requires.fact_1 c.loop-r.invariant c.loop-r-test.true c.equal_points.ensures.value c.if-not-equal_points.true }
+returns-then-not-equal_points c = record {
+  found = ending_stop c.requires.fact_1 c.loop-r.invariant c.loop-r-test.true c.equal_points.ensures.value c.if-not-equal_points.true;
+}
 
 pub loop-r-preserved : goal.loop-r-preserved
 loop-r-preserved c =

@@ -17,7 +17,7 @@ copy_contour-next-requires c =
 pub overflow_cast-cleanends : goal.overflow_cast-cleanends
 overflow_cast-cleanends c =
     let loop = c.loop-j in
-    let small : c.wide-end.result < 2 ^ 32 = omega (arith, c.wide-end.ensures.value, c.shared_slice_known-in-loop-j-1.given loop.j) in
+    let small : c.wide-end.result < 2 ^ 32 = omega (arith, c.wide-end.ensures.value, c.type_inv.ends loop.j) in
     omega (arith, fill_next loop.invariant c.loop-j-test.true c.wide-end.ensures.value c.copy_contour-next.ensures.outcome, small)
 
 pub bounds-cleanends-kept : goal.bounds-cleanends-kept

@@ -24,7 +24,7 @@ pub overflow_cast-ends : goal.overflow_cast-ends
 overflow_cast-ends c =
     let loop = c.loop-j in
     let there = c.requires.there in
-    let small : c.wide-end.result < 2 ^ 32 = omega (arith, c.wide-end.ensures.value, c.slice_known-in-loop-j-1.given loop.j) in
+    let small : c.wide-end.result < 2 ^ 32 = omega (arith, c.wide-end.ensures.value) in
     omega (arith, here_next loop.invariant c.loop-j-test.true there c.wide-end.ensures.value c.move_contour-next.ensures.outcome, small)
 
 pub bounds-ends-kept : goal.bounds-ends-kept

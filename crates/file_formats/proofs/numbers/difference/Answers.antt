@@ -4,27 +4,21 @@ use mir.Syntax.{w32, w64}
 use Rattle.laws.specs.Machine.{Rd, fit, cast, cast_ok, sub, sub_ok}
 use Rattle.file_formats.specs.Numbers.{zigzag}
 use Rattle.file_formats.proofs.numbers.difference.Goals as goal
-use Rattle.file_formats.proofs.numbers.difference.Goals.{Start}
-
-module _ (c : Start) where
-  abbrev z : Rd w32 c.args.z 2147483648
-  z = fit c.ranges.z
-
-  abbrev before : Rd w32 c.args.before 2147483648
-  before = fit c.ranges.before
 
 pub overflow_cast-z : goal.overflow_cast-z
-overflow_cast-z c = cast_ok (z c) tt
+overflow_cast-z c = cast_ok (fit c.ranges.z) tt
 
 pub overflow_cast-before : goal.overflow_cast-before
-overflow_cast-before c = cast_ok (before c) tt
+overflow_cast-before c = cast_ok (fit c.ranges.before) tt
 
 pub overflow_sub-z : goal.overflow_sub-z
-overflow_sub-z c = sub_ok (cast (z c) tt) (cast (before c) tt) tt
+overflow_sub-z c =
+    let z : Rd w32 c.args.z 2147483648 = fit c.ranges.z in
+    let before : Rd w32 c.args.before 2147483648 = fit c.ranges.before in sub_ok (cast z tt) (cast before tt) tt
 
 pub returns : goal.returns
 returns c =
-    let z-read : Rd w32 c.args.z 2147483648 = fit c.ranges.z in
-    let before-read : Rd w32 c.args.before 2147483648 = fit c.ranges.before in record {
-      value = c.unsigned_of.ensures.value ∙ ap zigzag (sub {w = w64} (cast z-read tt) (cast before-read tt) tt).is;
+    let z : Rd w32 c.args.z 2147483648 = fit c.ranges.z in
+    let before : Rd w32 c.args.before 2147483648 = fit c.ranges.before in record {
+      value = c.unsigned_of.ensures.value ∙ ap zigzag (sub {w = w64} (cast z tt) (cast before tt) tt).is;
     }

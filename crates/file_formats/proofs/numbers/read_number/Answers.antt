@@ -8,12 +8,6 @@ use Rattle.file_formats.proofs.numbers.read_number.Goals.{Else-rest-lt128}
 pub loop-i-init : goal.loop-i-init
 loop-i-init c = number_reading _ _ _
 
-pub bounds-file-i : goal.bounds-file-i
-bounds-file-i c = c.loop-i-test.true
-
-pub wide_byte-b-requires : goal.wide_byte-b-requires
-wide_byte-b-requires c = tt
-
 pub returns-then-b-least : goal.returns-then-b-least
 returns-then-b-least c = record { value = needless c.loop-i.invariant c.loop-i-test.true c.wide_byte-b.ensures.value c.if-b-lt128.true c.if-b-least.true }
 
@@ -29,24 +23,20 @@ overflow_add-result c =
     omega (arith, group_fits c.loop-i.invariant c.wide_byte-b.result c.if-rest-b.false, c.ranges.top.fits)
 
 pub returns-then-b-lt128 : goal.returns-then-b-lt128
-returns-then-b-lt128 c = record { value = last c.loop-i.invariant c.loop-i-test.true c.wide_byte-b.ensures.value c.if-b-lt128.true c.if-b-least.false c.if-rest-b.false }
+returns-then-b-lt128 c = record {
+  value = last c.loop-i.invariant c.loop-i-test.true c.wide_byte-b.ensures.value c.if-b-lt128.true c.if-b-least.false c.if-rest-b.false;
+}
 
 pub returns-then-rest-lt128 : goal.returns-then-rest-lt128
-returns-then-rest-lt128 c = record { value = too_many_lem c.loop-i.invariant c.loop-i-test.true c.wide_byte-b.ensures.value c.if-b-lt128.false c.if-rest-lt128.true }
+returns-then-rest-lt128 c = record {
+  value = too_many_lem c.loop-i.invariant c.loop-i-test.true c.wide_byte-b.ensures.value c.if-b-lt128.false c.if-rest-lt128.true;
+}
 
 -- a byte, and its group, which is below what is left
 byte : (c : Else-rest-lt128) → c.wide_byte-b.result < 256
-byte c =
-    omega (
-      arith,
-      c.wide_byte-b.ensures.value,
-      (c.shared_slice_known-in-loop-i-1.given c.loop-i.i
-          ).fits,
-    )
+byte c = omega (arith, c.wide_byte-b.ensures.value)
 
-low : (c : Else-rest-lt128)
-    →
-    c.wide_byte-b.result - 128 ≤ c.loop-i.rest
+low : (c : Else-rest-lt128) → c.wide_byte-b.result - 128 ≤ c.loop-i.rest
 low c = omega (arith, byte c, c.if-rest-lt128.false)
 
 pub overflow_mul-value : goal.overflow_mul-value

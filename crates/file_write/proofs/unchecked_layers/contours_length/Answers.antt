@@ -16,9 +16,6 @@ offset_bounds-ends-i c = omega (arith, c.loop-i.invariant.place.there)
 pub bounds-ends-i : goal.bounds-ends-i
 bounds-ends-i c = omega (arith, c.loop-i.invariant.place.there)
 
-pub wide-end-requires : goal.wide-end-requires
-wide-end-requires c = tt
-
 pub overflow_mul-a : goal.overflow_mul-a
 overflow_mul-a c = omega (arith, c.loop-i.invariant.place.within)
 
@@ -38,9 +35,6 @@ offset_bounds-points-a c = omega (arith, within c)
 
 pub slice_bounds-contour_length-count : goal.slice_bounds-contour_length-count
 slice_bounds-contour_length-count c = omega (arith, rises c)
-
-pub contour_length-total-requires : goal.contour_length-total-requires
-contour_length-total-requires c = tt
 
 pub overflow_add-total : goal.overflow_add-total
 overflow_add-total c =

@@ -19,23 +19,22 @@ module _ (c : After-number_length-2) where
   sent =
       let height : Rd w32 c.args.h 2147483648 = fit c.ranges.h in c.unsigned_of.ensures.value ∙ ap zigzag (cast {w' = w64} height tt).is
 
-  height-few : c.number_length.result ≤ 5
-  height-few =
-      height_short c.args.h c.ranges.h.sfits sent c.number_length.ensures.value
+  height_few : c.number_length.result ≤ 5
+  height_few = height_short c.args.h c.ranges.h.sfits sent c.number_length.ensures.value
 
   count_few : c.number_length-2.result ≤ 10
-  count_few =
-      omega (arith, c.number_length-2.ensures.value, number_bytes c.args.j c.ranges.j.fits)
+  count_few = omega (arith, c.number_length-2.ensures.value, number_bytes c.args.j c.ranges.j.fits)
 
 pub overflow_add-result : goal.overflow_add-result
-overflow_add-result c = omega (arith, height-few c, count_few c)
+overflow_add-result c = omega (arith, height_few c, count_few c)
 
 pub overflow_add-result-2 : goal.overflow_add-result-2
 overflow_add-result-2 c =
-    omega (arith, height-few (goal.at.overflow_add-result-2 c).After-number_length-2, count_few (goal.at.overflow_add-result-2 c).After-number_length-2, c.contours_length.ensures.result.1, c.requires.there)
+    let counted = (goal.at.overflow_add-result-2 c).After-number_length-2 in
+    omega (arith, height_few counted, count_few counted, c.contours_length.ensures.result.1, c.requires.there)
 
 pub returns : goal.returns
 returns c = record {
-  value = layer_measured c.requires _ (sent (goal.at.returns c).After-number_length-2) c.number_length.ensures.value c.number_length-2.ensures.value
-      c.contours_length.ensures.result.0;
+  value = layer_measured c.requires _ (sent (goal.at.returns c).After-number_length-2)
+      c.number_length.ensures.value c.number_length-2.ensures.value c.contours_length.ensures.result.0;
 }

@@ -10,18 +10,6 @@ use Rattle.file_write.proofs.unchecked_layers.points_length.Goals.{After-number_
 pub loop-k-init : goal.loop-k-init
 loop-k-init c = measure_points_start
 
-pub difference-requires : goal.difference-requires
-difference-requires c = tt
-
-pub number_length-requires : goal.number_length-requires
-number_length-requires c = tt
-
-pub difference-requires-in-loop-k : goal.difference-requires-in-loop-k
-difference-requires-in-loop-k c = tt
-
-pub number_length-requires-in-loop-k : goal.number_length-requires-in-loop-k
-number_length-requires-in-loop-k c = tt
-
 -- the two numbers of a point take at most ten bytes
 short : (c : After-number_length-in-loop-k) → c.number_length.result + c.number_length-in-loop-k.result ≤ 10
 short c =

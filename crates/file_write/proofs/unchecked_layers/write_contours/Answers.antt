@@ -16,9 +16,6 @@ offset_bounds-ends-i c = omega (arith, c.loop-i.invariant.place.there)
 pub bounds-ends-i : goal.bounds-ends-i
 bounds-ends-i c = omega (arith, c.loop-i.invariant.place.there)
 
-pub wide-end-requires : goal.wide-end-requires
-wide-end-requires c = tt
-
 pub overflow_mul-a : goal.overflow_mul-a
 overflow_mul-a c = omega (arith, c.loop-i.invariant.place.within)
 

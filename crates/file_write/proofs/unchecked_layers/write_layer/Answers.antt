@@ -21,17 +21,18 @@ write_number-p-requires c =
 
 pub write_number-q-requires : goal.write_number-q-requires
 write_number-q-requires c =
-    count_room c.args.output.now _ c.requires.fact_1 c.args.h (sent (goal.at.write_number-q-requires c).After-unsigned_of) c.requires.fact_2 c.write_number-p.ensures.outcome
+    count_room c.args.output.now _ c.requires.fact_1 c.args.h (sent (goal.at.write_number-q-requires c).After-unsigned_of)
+    c.requires.fact_2 c.write_number-p.ensures.outcome
 
 pub write_contours-requires : goal.write_contours-requires
 write_contours-requires c = record {
   fact_1 = c.requires.fact_1;
-  fact_2 = contours_room c.args.output.now _ c.requires.fact_1 c.args.h (sent (goal.at.write_contours-requires c).After-unsigned_of) c.requires.fact_2
-      c.write_number-p.ensures.outcome c.write_number-q.ensures.outcome;
+  fact_2 = contours_room c.args.output.now _ c.requires.fact_1 c.args.h (sent (goal.at.write_contours-requires c).After-unsigned_of)
+      c.requires.fact_2 c.write_number-p.ensures.outcome c.write_number-q.ensures.outcome;
 }
 
 pub returns : goal.returns
 returns c = record {
-  outcome = layer_put _ _ c.requires.fact_1 _ (sent (goal.at.returns c).After-unsigned_of) c.requires.fact_2 c.write_number-p.ensures.outcome c.write_number-q.ensures.outcome
-      c.write_contours.ensures.outcome;
+  outcome = layer_put _ _ c.requires.fact_1 _ (sent (goal.at.returns c).After-unsigned_of) c.requires.fact_2
+      c.write_number-p.ensures.outcome c.write_number-q.ensures.outcome c.write_contours.ensures.outcome;
 }

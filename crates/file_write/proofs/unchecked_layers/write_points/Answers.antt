@@ -7,12 +7,6 @@ use Rattle.file_write.proofs.unchecked_layers.write_points.Goals as goal
 pub loop-k-init : goal.loop-k-init
 loop-k-init c = write_points_start c.requires
 
-pub difference-dx-requires : goal.difference-dx-requires
-difference-dx-requires c = tt
-
-pub difference-dy-requires : goal.difference-dy-requires
-difference-dy-requires c = tt
-
 pub write_number-q-requires : goal.write_number-q-requires
 write_number-q-requires c =
     x_room c.loop-k.invariant c.loop-k-test.true (same w32 _ c.nx-1.given) (same w32 _ c.ny-1.given)

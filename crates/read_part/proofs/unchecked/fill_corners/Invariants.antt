@@ -7,7 +7,8 @@ use Rattle.read_part.proofs.unchecked.fill_corners.Given as goal
 
 abbrev pub invariant-loop-unread : goal.invariant-loop-unread
 invariant-loop-unread l =
-    RunFilling (number largest_word) l.file (values_of plain_run l.file (record { at = l.initial.i; count = l.initial.unread })) l.initial.corners l.corners l.i l.c l.unread
+    RunFilling (number largest_word) l.file (values_of plain_run l.file (record { at = l.initial.i; count = l.initial.unread }))
+    l.initial.corners l.corners l.i l.c l.unread
 
 abbrev pub decreases-loop-unread : goal.decreases-loop-unread
 decreases-loop-unread l = l.unread

@@ -14,7 +14,9 @@ pub shape_of-table-in_default : goal.shape_of-table-in_default
 shape_of-table-in_default c = c.loop-left.invariant.table.size
 
 pub returns-in_default : goal.returns-in_default
-returns-in_default c = record { outcome = absurd (signed_there c.loop-left.invariant c.loop-left-test.true (sym c.read_number-n.ensures.value ∙ c.in_default.is)) }
+returns-in_default c = record {
+  outcome = absurd (signed_there c.loop-left.invariant c.loop-left-test.true (sym c.read_number-n.ensures.value ∙ c.in_default.is));
+}
 
 pub signed_word-z-requires : goal.signed_word-z-requires
 signed_word-z-requires c = (took (sym c.read_number-n.ensures.value ∙ c.in-Value.is)).low
@@ -24,8 +26,7 @@ offset_bounds-table-k c =
     omega (arith, fill_room c.loop-left.invariant c.loop-left-test.true, c.loop-left.invariant.table.size)
 
 pub bounds-table-k : goal.bounds-table-k
-bounds-table-k c =
-    fill_room c.loop-left.invariant c.loop-left-test.true
+bounds-table-k c = fill_room c.loop-left.invariant c.loop-left-test.true
 
 pub overflow_add-k : goal.overflow_add-k
 overflow_add-k c =

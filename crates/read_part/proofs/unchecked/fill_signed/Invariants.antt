@@ -7,7 +7,8 @@ use Rattle.read_part.proofs.unchecked.fill_signed.Given as goal
 
 abbrev pub invariant-loop-left : goal.invariant-loop-left
 invariant-loop-left l =
-    RunFilling (signed largest_word) l.file (values_of signed_run l.file (record { at = l.initial.i; count = l.initial.left })) l.initial.table l.table l.i l.k l.left
+    RunFilling (signed largest_word) l.file (values_of signed_run l.file (record { at = l.initial.i; count = l.initial.left }))
+    l.initial.table l.table l.i l.k l.left
 
 abbrev pub decreases-loop-left : goal.decreases-loop-left
 decreases-loop-left l = l.left
