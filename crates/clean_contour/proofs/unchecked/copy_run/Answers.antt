@@ -8,17 +8,14 @@ use Rattle.clean_contour.proofs.unchecked.copy_run.Goals as goal
 pub loop-i-init : goal.loop-i-init
 loop-i-init c = copy_start (omega arith) (omega arith) (omega arith) (omega arith)
 
-pub same_point-requires : goal.same_point-requires
-same_point-requires c = tt
-
 pub loop-i-preserved-then-not-same_point : goal.loop-i-preserved-then-not-same_point
 loop-i-preserved-then-not-same_point c =
-    copy_next c.loop-i.invariant c.loop-i-test.true (held_is c.u-1.given c.v-1.given) c.same_point.ensures.value
+    copy_next c.loop-i.invariant c.loop-i-test.true (held_is (omega arith) (omega arith)) c.same_point.ensures.value
     c.if-not-same_point.true c.write_point-then-not-same_point.ensures.outcome
 
 pub loop-i-preserved : goal.loop-i-preserved
 loop-i-preserved c =
-    copy_skip c.loop-i.invariant c.loop-i-test.true (held_is c.u-1.given c.v-1.given) c.same_point.ensures.value
+    copy_skip c.loop-i.invariant c.loop-i-test.true (held_is (omega arith) (omega arith)) c.same_point.ensures.value
     c.if-not-same_point.false
 
 pub shape_of-table : goal.shape_of-table
@@ -26,6 +23,6 @@ shape_of-table c = omega (arith, c.loop-i.invariant.size)
 
 pub returns : goal.returns
 returns c = record {
-  outcome = run_stands _ _ _ _ c.requires.fact_2 c.requires.fact_1.there (held_is c.x-1.given c.y-1.given) refl c.write_point.ensures.outcome
+  outcome = run_stands _ _ _ _ c.requires.fact_2 c.requires.fact_1.there (held_is (omega arith) (omega arith)) refl c.write_point.ensures.outcome
       (copy_end c.loop-i.invariant c.loop-i-test.false);
 }

@@ -8,19 +8,16 @@ use Rattle.clean_contour.proofs.unchecked.move_run.Goals as goal
 pub loop-i-init : goal.loop-i-init
 loop-i-init c = copy_start (omega arith) (omega arith) (omega arith) (omega arith)
 
-pub same_point-requires : goal.same_point-requires
-same_point-requires c = tt
-
 pub loop-i-preserved-then-not-same_point : goal.loop-i-preserved-then-not-same_point
 loop-i-preserved-then-not-same_point c =
     let s = c.loop-i.invariant in
-    copy_next s c.loop-i-test.true (held_is c.u-1.given c.v-1.given ∙ copy_read s refl) c.same_point.ensures.value
+    copy_next s c.loop-i-test.true (held_is (omega arith) (omega arith) ∙ copy_read s refl) c.same_point.ensures.value
     c.if-not-same_point.true c.write_point-then-not-same_point.ensures.outcome
 
 pub loop-i-preserved : goal.loop-i-preserved
 loop-i-preserved c =
     let s = c.loop-i.invariant in
-    copy_skip s c.loop-i-test.true (held_is c.u-1.given c.v-1.given ∙ copy_read s refl) c.same_point.ensures.value
+    copy_skip s c.loop-i-test.true (held_is (omega arith) (omega arith) ∙ copy_read s refl) c.same_point.ensures.value
     c.if-not-same_point.false
 
 pub shape_of-points : goal.shape_of-points
@@ -30,7 +27,7 @@ pub returns : goal.returns
 returns c =
     let room = c.requires.fact_1 in
     let with_point = c.write_point.ensures.outcome in record {
-      outcome = run_stands _ _ _ _ c.requires.fact_2 room.there (held_is c.x-1.given c.y-1.given) (moved_part _ _ _ _ _ room.behind with_point)
+      outcome = run_stands _ _ _ _ c.requires.fact_2 room.there (held_is (omega arith) (omega arith)) (moved_part _ _ _ _ _ room.behind with_point)
           with_point
           (copy_end c.loop-i.invariant c.loop-i-test.false);
     }

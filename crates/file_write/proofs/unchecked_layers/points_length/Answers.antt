@@ -14,8 +14,8 @@ loop-k-init c = measure_points_start
 short : (c : After-number_length-in-loop-k) → c.number_length.result + c.number_length-in-loop-k.result ≤ 10
 short c =
     point_short c.loop-k.invariant c.loop-k-test.true
-    (same w32 _ c.nx-1.given) (same w32 _ c.ny-1.given)
-    c.nx-1.given c.ny-1.given
+    (same w32 _ (omega arith)) (same w32 _ (omega arith))
+    (omega arith) (omega arith)
     c.difference.ensures.value c.difference-in-loop-k.ensures.value c.number_length.ensures.value
     c.number_length-in-loop-k.ensures.value
 
@@ -27,8 +27,8 @@ overflow_add-total-in-loop-k c = omega (arith, short c)
 
 pub loop-k-preserved : goal.loop-k-preserved
 loop-k-preserved c =
-    points_next c.loop-k.invariant c.loop-k-test.true (same w32 _ c.nx-1.given) (same w32 _ c.ny-1.given) c.nx-1.given
-    c.ny-1.given c.difference.ensures.value c.difference-in-loop-k.ensures.value c.number_length.ensures.value
+    points_next c.loop-k.invariant c.loop-k-test.true (same w32 _ (omega arith)) (same w32 _ (omega arith)) (omega arith)
+    (omega arith) c.difference.ensures.value c.difference-in-loop-k.ensures.value c.number_length.ensures.value
     c.number_length-in-loop-k.ensures.value
 
 pub returns : goal.returns
