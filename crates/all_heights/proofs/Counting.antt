@@ -3,7 +3,6 @@ use Prim.Native.Nat.{ℕ, ◌+◌, ◌-◌, ◌/◌, ◌^◌, ◌≤◌, ◌<◌
 use mathlib.Core.Path.{◌≡◌, sym, ap, ◌∙◌, subst}
 use mathlib.Core.List.{List, [], ◌∷◌}
 use native.Mathlib.Omega.{arith}
-use borrow.Author.Tests.{lt-ltb, le-ltb}
 use lib.Dec.{T}
 use lib.ListN.{length}
 use lib.IntN.{ℤ, pos, nat_abs, ◌-ℤ◌}
@@ -13,12 +12,8 @@ use mir.Val.{Fits, to_z}
 use Rattle.laws.specs.Integers.{diff, le_in, le_out}
 use Rattle.laws.specs.Machine.{Rd, fit, cast, sub, unsigned_ok}
 use Rattle.mesh.specs.Corners.{vertex_count}
-use Rattle.mesh.specs.Operation.{fine, refuses, test}
-use Rattle.mesh.specs.OperationLaws.{whole_refused, whole_fine}
-use Rattle.mesh.specs.Refusals.{refusal}
 use Rattle.file_formats.specs.Numbers.{Word}
-use Rattle.file_formats.specs.LayerFile.{most_layers}
-use Rattle.all_heights.specs.Heights.{first_offset, spacing, lowest_z, highest_z, default_count, heights_taken, too_many_heights}
+use Rattle.all_heights.specs.Heights.{first_offset, spacing, lowest_z, highest_z, default_count, heights_taken}
 use Rattle.all_heights.specs.HeightLaws.{lowest_highest, count_some, length_defaults, taken_default, taken_given}
 
 -- a number of 32 bits, as the code holds it

@@ -2,3 +2,4 @@
 pub mod Scans
 pub mod Counting
 pub mod Additions
+pub mod DefaultLaws

@@ -1,9 +1,9 @@
--- Laws of the heights taken: the lowest and the highest z, that the default heights are exactly those not above the highest z, that they rise, and that they
--- have 32 bits.
+-- Laws of the heights taken: the lowest and the highest z, that the default heights are exactly those not above the highest z, and that they rise. That there
+-- are none without vertices, and that they have 32 bits, stands in proofs/DefaultLaws, where a wrong definition of their count is refused.
 use Prim.Native.Nat.{ℕ, zero, suc, ◌+◌, ◌*◌, ◌-◌, ◌/◌, ◌≤◌, ◌<◌}
-use Rattle.std.specs.Prelude.{◌≡◌, Bool, not, cond, ◌⊎◌, T, length, get_or, ℤ, pos, negsuc, nat_abs, ◌-ℤ◌, ◌≤ℤ◌, ◌<ℤ◌}
+use Rattle.std.specs.Prelude.{◌≡◌, Bool, not, cond, ◌⊎◌, T, length, get_or, ℤ, pos, nat_abs, ◌-ℤ◌, ◌≤ℤ◌, ◌<ℤ◌}
 use Rattle.std.proofs.Math.Path.{refl, subst}
-use Rattle.std.proofs.Common.{sym, ap, ◌∙◌, lt-ltb, le-ltb, ltb-false}
+use Rattle.std.proofs.Common.{sym, ap, ◌∙◌, lt-ltb, ltb-false}
 use Rattle.std.proofs.Math.Bool.{true, false}
 use mathlib.Core.List.{List, [], ◌∷◌}
 use Rattle.std.proofs.Math.Logic.{inl, inr, ⊎_elim}
@@ -152,23 +152,6 @@ module _ (coords : List ℤ) where
   unfolding default_count
   count_some h = rw (lt-ltb 0 (vertex_count coords) h)
 
-  pub count_none : vertex_count coords ≡ 0 → default_count coords ≡ 0
-  unfolding default_count
-  count_none e = rw (le-ltb 0 (vertex_count coords) (omega arith))
-
-  -- where a default height is taken there is a vertex
-  pub count_vertex : (k : ℕ) → k < default_count coords → 0 < vertex_count coords
-  count_vertex k h = ⊎_elim (λ l. l) (λ l. absurd (omega (arith, count_none (omega arith)))) (split_lt 0 (vertex_count coords))
-
-  -- only those not above the highest z (ALL-4): height k is taken exactly if it is not above
-  pub default_not_above : (k : ℕ) → k < default_count coords → default_height coords k ≤ℤ highest_z coords
-  unfolding default_height
-  default_not_above k h =
-      let l = lowest_z coords in
-      let t = highest_z coords in
-      let v : 0 < vertex_count coords = count_vertex k h in
-      omega (arith, le_out, sum l (pos (first_offset + spacing * k)), diff t l, abs_is (t -ℤ l), one_zero (t -ℤ l), le_in (lowest_highest v), count_some v)
-
   pub default_all : (k : ℕ) → 0 < vertex_count coords → default_height coords k ≤ℤ highest_z coords → k < default_count coords
   unfolding default_height
   default_all k v h =
@@ -176,9 +159,25 @@ module _ (coords : List ℤ) where
       let t = highest_z coords in
       omega (arith, le_in h, sum l (pos (first_offset + spacing * k)), diff t l, abs_is (t -ℤ l), one_zero (t -ℤ l), le_in (lowest_highest v), count_some v)
 
+  -- only those not above the highest z (ALL-4): height k is taken exactly if it is not above
   pub default_exactly : 0 < vertex_count coords → (k : ℕ)
       → (k < default_count coords → default_height coords k ≤ℤ highest_z coords) × (default_height coords k ≤ℤ highest_z coords → k < default_count coords)
-  default_exactly v k = (default_not_above k, default_all k v)
+  unfolding default_height
+  default_exactly v k =
+      let l = lowest_z coords in
+      let t = highest_z coords in (
+        (λ h. omega (
+          arith,
+          le_out,
+          sum l (pos (first_offset + spacing * k)),
+          diff t l,
+          abs_is (t -ℤ l),
+          one_zero (t -ℤ l),
+          le_in (lowest_highest v),
+          count_some v,
+        )),
+        default_all k v,
+      )
 
   pub length_defaults : length (default_heights coords) ≡ default_count coords
   length_defaults = length_tabulate (default_count coords) (default_height coords)
@@ -251,12 +250,6 @@ taken_few coords heights e = ltb-false most_layers (length (heights_taken coords
 
 -- ---- 32 bits
 
-word_between : (a z b : ℤ) → a ≤ℤ z → z ≤ℤ b → Word a → Word b → Word z
-word_between a (pos n) (pos m) h k p q = omega (arith, le_in k)
-word_between a (pos n) (negsuc m) h k p q = absurd k.le
-word_between (pos m) (negsuc n) b h k p q = absurd h.le
-word_between (negsuc m) (negsuc n) b h k p q = omega (arith, le_in h)
-
 -- numbers in coordinate range do
 pub ranged_words : (numbers : List ℤ) → ((i : ℕ) → i < length numbers → nat_abs (get_or numbers i (pos 0)) ≤ largest) → Words numbers
 ranged_words numbers r i l = omega (arith, mag_le (get_or numbers i (pos 0)), r i l)
@@ -265,10 +258,6 @@ module _ (coords : List ℤ) where
   pub default_above : (k : ℕ) → lowest_z coords ≤ℤ default_height coords k
   unfolding default_height
   default_above k = omega (arith, le_out, sum (lowest_z coords) (pos (first_offset + spacing * k)))
-
-  -- a default height has 32 bits where the lowest and the highest z have
-  pub default_word : Word (lowest_z coords) → Word (highest_z coords) → (k : ℕ) → k < default_count coords → Word (default_height coords k)
-  default_word l t k h = word_between (lowest_z coords) (default_height coords k) (highest_z coords) (default_above k) (default_not_above coords k h) l t
 
   module _ (w : Words coords) where
     of_word : {z : ℤ} → OfVertex coords (vertex_count coords) z → Word z
@@ -279,14 +268,3 @@ module _ (coords : List ℤ) where
 
     pub highest_word : 0 < vertex_count coords → Word (highest_z coords)
     highest_word h = of_word (highest_reached coords h)
-
-    pub heights_fit : (k : ℕ) → k < default_count coords → Word (default_height coords k)
-    heights_fit k h = let v : 0 < vertex_count coords = count_vertex coords k h in default_word (lowest_word v) (highest_word v) k h
-
-    -- the heights taken have 32 bits where those given have
-    pub taken_fit : (heights : List ℤ) → Words heights → Words (heights_taken coords heights)
-    unfolding heights_taken
-    taken_fit [] f k l =
-        let h : k < default_count coords = omega (arith, length_defaults coords) in
-        subst Word (sym (default_at coords k h)) (heights_fit k h)
-    taken_fit (z ∷ zs) f k l = f k l

@@ -2,19 +2,14 @@
 use Rattle.std.specs.Prelude.{ℕ, ◌<◌, ◌≡◌, refl, List, [], ◌∷◌, length, get_or, ℤ, pos}
 use Rattle.std.proofs.Common.{sym, arith}
 use Rattle.all_heights.specs.Heights.{lowest_z, default_height, heights_taken}
-use Rattle.all_heights.specs.HeightLaws.{Words, length_defaults, default_at, heights_fit}
-use Rattle.all_heights.specs.Taking.{base_z, height_at, Takable}
+use Rattle.all_heights.specs.HeightLaws.{length_defaults, default_at}
+use Rattle.all_heights.specs.Taking.{base_z, height_at}
 
 pub height_at_lem : (coords heights : List ℤ) (k : ℕ) → k < length (heights_taken coords heights)
     → height_at (base_z coords heights) heights k ≡ get_or (heights_taken coords heights) k (pos 0)
 unfolding base_z height_at heights_taken default_height
 height_at_lem coords [] k h = sym (default_at coords k (omega (arith, length_defaults coords)))
 height_at_lem coords (z ∷ zs) k h = refl
-
-pub takable : (coords heights : List ℤ) (k : ℕ) → Words coords → k < length (heights_taken coords heights) → Takable (base_z coords heights) heights k
-unfolding base_z heights_taken default_height
-takable coords [] k w h = record { there = λ l. absurd (omega arith); fits = λ e. heights_fit coords w k (omega (arith, length_defaults coords)) }
-takable coords (z ∷ zs) k w h = record { there = λ l. h; fits = λ e. absurd (omega arith) }
 
 -- ---- from where the default heights are counted
 

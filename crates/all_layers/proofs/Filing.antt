@@ -27,7 +27,7 @@ use Rattle.file_formats.specs.LayerFile.{most_layers}
 use Rattle.all_heights.specs.Heights.{heights_taken, too_many_heights, falling_height}
 use Rattle.all_heights.specs.HeightLaws.{falling_taken}
 use Rattle.all_heights.specs.Taking.{base_z, Takable}
-use Rattle.all_heights.specs.TakingLaws.{takable}
+use Rattle.all_heights.proofs.DefaultLaws.{takable}
 use Rattle.all_sweep.specs.declared.AllLayersAnswer.{AllLayersAnswer}
 use Rattle.all_sweep.specs.declared.AllLayersAnswer.TheVariants.{Refused}
 use Rattle.all_sweep.specs.AllLayers.{cut_file, swept_file, climbed, WorkTables, work, work_room_for, work_room, work_after}

@@ -33,7 +33,8 @@ use Rattle.sweep.specs.Operations.{unless_refused}
 use Rattle.sweep.specs.Places.{InOrder}
 use Rattle.all_heights.specs.Heights.{heights_taken}
 use Rattle.all_heights.specs.Taking.{RisingHeights, Words}
-use Rattle.all_heights.specs.HeightLaws.{nowhere_rising, taken_fit}
+use Rattle.all_heights.specs.HeightLaws.{nowhere_rising}
+use Rattle.all_heights.proofs.DefaultLaws.{taken_fit}
 use Rattle.all_sweep.specs.declared.AllLayersAnswer.{AllLayersAnswer}
 use Rattle.all_sweep.specs.declared.AllLayersAnswer.TheVariants.{Length, Refused}
 use Rattle.all_sweep.specs.AllLayers.{cut_layer, cut_file, swept_file, climbed, WorkTables, work_room_for, layers_tests, used_at, short_output, filing}

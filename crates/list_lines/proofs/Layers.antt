@@ -16,7 +16,8 @@ use Rattle.cut.specs.Cut.{CutTables, lengths, lengths_of}
 use Rattle.all_heights.specs.Heights.{heights_taken}
 use Rattle.all_heights.specs.HeightLaws.{ranged_words}
 use Rattle.all_heights.specs.Taking.{base_z, height_at, Takable}
-use Rattle.all_heights.specs.TakingLaws.{height_at_lem, takable}
+use Rattle.all_heights.specs.TakingLaws.{height_at_lem}
+use Rattle.all_heights.proofs.DefaultLaws.{takable}
 use Rattle.list_decimals.specs.Texts.{TextRoom, PutsText}
 use Rattle.list_decimals.specs.TextLaws.{put_length, put_both, TextWriting, text_writing, next_put, all_put}
 use Rattle.list_lines.specs.Limits.{held_heights, most_output}

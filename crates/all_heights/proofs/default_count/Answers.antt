@@ -2,7 +2,7 @@
 use mathlib.Core.Path.{sym}
 use native.Mathlib.Omega.{arith}
 use Rattle.laws.specs.Machine.{cast_ok, sub_ok}
-use Rattle.all_heights.specs.HeightLaws.{count_none}
+use Rattle.all_heights.proofs.DefaultLaws.{count_none}
 use Rattle.all_heights.proofs.Counting.{word_held, SpanFound, low_held, high_held, rise_ok, rise_small, count_is}
 use Rattle.all_heights.proofs.default_count.Goals as goal
 use Rattle.all_heights.proofs.default_count.Goals.{After-struct_told-2-1}

@@ -2,7 +2,6 @@
 use mathlib.Core.Path.{sym, ◌∙◌}
 use native.Mathlib.Omega.{arith}
 use Rattle.laws.specs.LeastLaws.{scan_start, scan_hit, scan_miss, scan_end}
-use Rattle.all_heights.specs.Heights.{not_above_last}
 use Rattle.all_heights.proofs.first_falling.Goals as goal
 
 pub loop-i-init : goal.loop-i-init
