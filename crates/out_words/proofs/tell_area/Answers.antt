@@ -1,5 +1,6 @@
 -- `tell_area` meets its contract.
 use mathlib.Core.Path.{ap, ◌∙◌}
+use native.Mathlib.Omega.{arith}
 use lib.ListN.{set}
 use mir.Syntax.{w64}
 use Rattle.laws.specs.Machine.{same}
@@ -11,8 +12,8 @@ use Rattle.out_words.proofs.tell_area.Goals as goal
 
 pub returns-in-Area : goal.returns-in-Area
 returns-in-Area c =
-    let found = c.a-1.given in
-    let sent = c.word_of.ensures.value ∙ ap word_of (same w64 found.0.0 c.known_told-1.given.0.1) in record { outcome = says_values (ap tell_area found.1) (ap (set c.args.out.now 0) sent) }
+    let sent = c.word_of.ensures.value ∙ ap word_of (same w64 c.in-Area.d (omega arith)) in
+    record { outcome = says_values (ap tell_area c.in-Area.is) (ap (set c.args.out.now 0) sent) }
 
 pub returns-in-Refused : goal.returns-in-Refused
 returns-in-Refused c = record { outcome = says_refusal (ap tell_area c.in-Refused.is) c.refuse.ensures.outcome }
