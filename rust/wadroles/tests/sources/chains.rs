@@ -1,10 +1,12 @@
-//! A fact that lies deep in a proof has a name: no chain of more than four steps without one outside a
-//! `let`, or outside a definition whose whole value is the fact. Steps without a name are `.before`, one
-//! step back in a proof that walks the code, and fields by their place, as `.0` and `.1`.
+//! A fact that lies deep in a proof has a name: no chain of more than four steps back, or of more than
+//! five without a name, outside a `let`, or outside a definition whose whole value is the fact. A step
+//! back is `.before`, in a proof that walks the code; without a name are fields by their place too, as
+//! `.0` and `.1`.
 
 use crate::tree;
 
-const MOST_STEPS: usize = 4;
+const MOST_BACK: usize = 4;
+const MOST_STEPS: usize = 5;
 
 /// A word of a text, and the line that it stands in.
 type Word<'a> = (usize, &'a str);
@@ -40,16 +42,18 @@ fn is_unnamed(step: &str) -> bool {
     step == "before" || !step.is_empty() && step.chars().all(|c| c.is_ascii_digit())
 }
 
-/// The lengths of the chains without a name in a path, and whether each is the end of the path.
+/// The chains without a name in a path that are too long: how long each is, and whether it is the end of
+/// the path.
 fn chains(path: &str) -> Vec<(usize, bool)> {
     let steps: Vec<_> = path.split('.').skip(1).collect();
     let mut found = Vec::new();
     let mut at = 0;
     while at < steps.len() {
-        let count = steps[at..].iter().take_while(|step| is_unnamed(step));
-        let count = count.count();
+        let chain = steps[at..].iter().take_while(|step| is_unnamed(step));
+        let count = chain.clone().count();
+        let back = chain.filter(|step| **step == "before").count();
         at += count;
-        if 0 < count {
+        if MOST_BACK < back || MOST_STEPS < count {
             found.push((count, at == steps.len()));
         }
         at += 1;
@@ -82,9 +86,9 @@ fn long_chains(text: &str) -> Vec<(usize, usize)> {
     let mut found = Vec::new();
     for words in paragraphs(text) {
         for (at, &(line, path)) in words.iter().enumerate() {
-            let long = chains(path).into_iter().find(|&(count, is_end)| {
+            let long = chains(path).into_iter().find(|&(_, is_end)| {
                 let (before, after) = (&words[..at], &words[at + 1..]);
-                MOST_STEPS < count && !is_named(before, path, is_end, after)
+                !is_named(before, path, is_end, after)
             });
             found.extend(long.map(|(count, _)| (line, count)));
         }
@@ -111,7 +115,7 @@ returns c =
     let at-test = c.before.before.before.before.before in
     let s = sweep_of (at-test.1.1.1.1.1.0.args) in
     told (c.before.before.before.before.ok) (c.before.before.before.before.before.ok)
-    (c.deal.auto.1.1.1.1.0)
+    (c.deal.auto.1.1.1.1.1.0) (c.deal.auto.1.1.1.1.0)
 
   abbrev at-found : goal.found
   at-found = c.given.before.before.before.before.before
@@ -121,12 +125,12 @@ start_of at = at.1.1.1.1.1.0
 
 add-c c = c.before.before.before.before.before.inv
 
-held = c.loop-i.invariant.1.1.1.1.0.ok
+held = c.loop-i.invariant.1.1.1.1.1.0.ok
 
-short c = record { least = c.loop-i.invariant.1.1.1.0.least; most = c.loop-i.invariant.1.1.1.1.1; }
+short c = record { least = c.loop-i.invariant.1.1.1.1.0.least; most = c.loop-i.invariant.before.1.1.1.1.1; }
 ";
     assert_eq!(
         long_chains(text),
-        [(4, 5), (5, 5), (13, 5), (15, 5), (17, 5)]
+        [(4, 5), (5, 6), (13, 5), (15, 6), (17, 6)]
     );
 }
