@@ -3,7 +3,7 @@
  *
  * Reads a layer file, and prints its charge in whole nanolitres for layers of a thickness.
  *
- *   (cd crates/wadroles && rt lib)
+ *   (cd crates/wadroles && rt lib --cpu x86-64)
  *   cc -std=c99 -Iinclude examples/c/ink.c crates/wadroles/out/libwadroles.a -o ink
  *   ./ink p.layers 1000
  *

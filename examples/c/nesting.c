@@ -5,7 +5,7 @@
  * that fills from outside in takes them. The layer has three rings within each other and a fourth
  * contour beside them.
  *
- *   (cd crates/wadroles && rt lib)
+ *   (cd crates/wadroles && rt lib --cpu x86-64)
  *   cc -std=c99 -Iinclude examples/c/nesting.c crates/wadroles/out/libwadroles.a -o nesting
  *   ./nesting
  *

@@ -5,7 +5,7 @@
  * prints a line for each. The layer is that of part P at height 5, as wadroles_cut and
  * wadroles_read_layer give it.
  *
- *   (cd crates/wadroles && rt lib)
+ *   (cd crates/wadroles && rt lib --cpu x86-64)
  *   cc -std=c99 -Iinclude examples/c/preview.c crates/wadroles/out/libwadroles.a -o preview
  *   ./preview 100 -20
  *

@@ -5,7 +5,7 @@
  * heights of that file, reads each layer back, and compares it with what the sweep gives. Prints a
  * line for each layer: height, contours, points, and the sum of the contours' doubled areas.
  *
- *   (cd crates/wadroles && rt lib)
+ *   (cd crates/wadroles && rt lib --cpu x86-64)
  *   cc -std=c99 -Iinclude examples/c/sweep.c crates/wadroles/out/libwadroles.a -o sweep
  *   ./sweep examples/p.part p.layers
  *

@@ -18,7 +18,7 @@ fn main() {
 
     if !archive.is_file() {
         println!(
-            "cargo::error=there is no archive {}: make it with `rt lib` in crates/wadroles, \
+            "cargo::error=there is no archive {}: make it with `rt lib --cpu x86-64` in crates/wadroles, \
              or name its directory in {DIRECTORY_VARIABLE}",
             archive.display()
         );

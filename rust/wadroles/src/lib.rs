@@ -104,9 +104,9 @@
 //!
 //! # Linking
 //!
-//! The library is the archive `crates/wadroles/out/libwadroles.a` of the repository, made by `rt lib`
-//! in `crates/wadroles`. To link an archive from elsewhere, give the absolute path of its directory in
-//! the environment variable `WADROLES_LIB_DIR`.
+//! The library is the archive `crates/wadroles/out/libwadroles.a` of the repository, made by
+//! `rt lib --cpu x86-64` in `crates/wadroles`. To link an archive from elsewhere, give the absolute
+//! path of its directory in the environment variable `WADROLES_LIB_DIR`.
 
 #![warn(unsafe_op_in_unsafe_fn)]
 
