@@ -21,7 +21,7 @@ const TWICE: [(&str, &str); 11] = [
     ("walk", COMPUTES),
 ];
 const COMPUTES: &str = "the function computes it, and its contract says so by another definition";
-const APART: &str = "two things, of crates of which neither uses the other's";
+const APART: &str = "two things, and no file uses both";
 
 /// What a name is defined as.
 #[derive(Clone, Copy, PartialEq, Eq, Debug)]
