@@ -60,7 +60,7 @@ extern "C" {
  * number. */
 #define WADROLES_VERSION_MAJOR 0
 #define WADROLES_VERSION_MINOR 7
-#define WADROLES_VERSION_PATCH 1
+#define WADROLES_VERSION_PATCH 0
 
 /* The most vertices and triangles a mesh may have. */
 #define WADROLES_MAX_VERTICES 32768
