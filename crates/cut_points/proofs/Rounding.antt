@@ -7,7 +7,10 @@ use native.Mathlib.Omega.{arith}
 use lib.Arith.{digits_div}
 use lib.IntN.{ℤ, pos, negsuc, neg_ℤ, nat_abs, ◌+ℤ◌, ◌-ℤ◌, ◌*ℤ◌}
 use lib.Signed.{◌<ℤ◌, ◌≤ℤ◌, quot_z}
-use Rattle.laws.specs.Integers.{ext, sum, diff, prod, up_neg, dn_neg, abs_neg, abs_sub, lt_in, le_in, lt_out}
+use mir.Syntax.{w64}
+use mir.Val.{to_z}
+use Rattle.laws.specs.Integers.{ext, sum, diff, prod, up_neg, dn_neg, abs_neg, lt_in, le_in, lt_out}
+use Rattle.laws.specs.Machine.{Rd}
 use Rattle.cut_points.specs.Points.{nearest, rounded}
 use Rattle.cut_points.specs.PointLaws.{rounded_in}
 use Rattle.cut_points.specs.Climbs.{Fraction}
@@ -17,13 +20,16 @@ abbrev pub half_for : ℤ → ℤ → ℤ
 half_for (pos n) d = d
 half_for (negsuc n) d = d -ℤ pos 1
 
--- the dividend
-abbrev pub raised : ℤ → ℤ → ℤ
-raised n d = pos 2 *ℤ n +ℤ half_for n d +ℤ pos 1048576 *ℤ (pos 2 *ℤ d)
+-- the dividend, with what is added of a divisor
+abbrev pub raised_by : ℤ → ℤ → ℤ → ℤ
+raised_by half n d = pos 2 *ℤ n +ℤ half +ℤ pos 1048576 *ℤ (pos 2 *ℤ d)
 
-pub half_small : (n d : ℤ) → nat_abs d ≤ 2097152 → nat_abs (half_for n d) ≤ 2097153
-half_small (pos n) d h = omega arith
-half_small (negsuc n) d h = omega (arith, abs_sub d (pos 1))
+abbrev pub raised : ℤ → ℤ → ℤ
+raised n d = raised_by (half_for n d) n d
+
+-- what an arm sets is no larger than two divisors
+pub half_small : {z y : ℤ} {B : ℕ} (r : Rd w64 y B) → z ≡ to_z w64 r.n → B ≤ 4194305 → nat_abs z ≤ 4194305
+half_small r e h = omega (arith, ap nat_abs (e ∙ r.is), r.le)
 
 -- by the two arms of the code
 pub half_less : (n d : ℤ) → n <ℤ pos 0 → d -ℤ pos 1 ≡ half_for n d
@@ -68,3 +74,6 @@ rounded_is (negsuc n) (pos d) f =
     rounded_below n d (1048576 - q) q ((2 * suc n + d) % (2 * d)) (div-add-mod' (2 * suc n + d) (2 * d))
     (mod-lt (2 * suc n + d) (omega (arith, lt_in f.positive))) (omega arith)
 rounded_is n (negsuc d) f = absurd f.positive.lt
+
+pub rounded_by : (half n d : ℤ) → Fraction n d → half ≡ half_for n d → quot_z (raised_by half n d) (pos 2 *ℤ d) -ℤ pos 1048576 ≡ rounded n d
+rounded_by half n d f e = ap (λ (z : ℤ). quot_z (raised_by z n d) (pos 2 *ℤ d) -ℤ pos 1048576) e ∙ rounded_is n d f
