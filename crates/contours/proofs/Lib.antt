@@ -1,4 +1,5 @@
 -- Lemmas that belong to no one function.
 pub mod Answers
+pub mod ContourLaws
 pub mod Parts
 pub mod Sums

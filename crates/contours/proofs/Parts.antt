@@ -8,7 +8,8 @@ use lib.ListN.{length, take, drop}
 use lib.IntN.{ℤ}
 use Rattle.laws.specs.Booleans.{clash}
 use Rattle.contours.specs.Contours.{prior_end, own_end, is_contour, span_of, first_of, contour_of}
-use Rattle.contours.specs.ContourLaws.{contour_parts, contour_of_lem, span_there, span_none, first_there, first_none, contour_lies}
+use Rattle.contours.specs.ContourLaws.{contour_parts, contour_of_lem, span_there, first_there, first_none}
+use Rattle.contours.proofs.ContourLaws.{span_none, contour_lies}
 
 module _ (n : ℕ) (ends : List ℕ) (j : ℕ) where
   empty : span_of n ends j ≡ 0 → (0 ≡ first_of n ends j) × (0 ≡ span_of n ends j)

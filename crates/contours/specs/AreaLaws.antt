@@ -1,6 +1,6 @@
 -- What Area promises: it refuses exactly if a listed condition holds, at the least place; its answer is at most 98,304 times the largest cross product; a run
 -- without points has area 0; points in range, and contours of such, are never refused.
-use Rattle.std.specs.Prelude.{ℕ, zero, suc, ◌+◌, ◌*◌, ◌/◌, ◌%◌, ◌≤◌, ◌<◌, ◌≡◌, refl, Bool, true, false, not, cond, List, [], ◌⊎◌, ◌↔◌, length, get_or, ℤ, pos, nat_abs, ◌+ℤ◌, ◌-ℤ◌, ◌*ℤ◌}
+use Rattle.std.specs.Prelude.{ℕ, zero, suc, ◌+◌, ◌*◌, ◌/◌, ◌%◌, ◌≤◌, ◌<◌, ◌≡◌, refl, Bool, true, false, not, cond, List, [], ◌∷◌, ◌⊎◌, ◌↔◌, length, get_or, ℤ, pos, nat_abs, ◌+ℤ◌, ◌-ℤ◌, ◌*ℤ◌}
 use Rattle.std.proofs.Common.{sym, ap, ◌∙◌, inl, inr, ⊎_elim, arith, mul-le-mul, mul-le-mul_right, le_trans, leb-true, eqb-true, le-ltb, le-leb, eq-eqb, ne_eqb}
 use Rattle.std.proofs.lemmas.Bool.{not-false}
 use Rattle.std.proofs.Math.ListN.{get_or-eq_default}
@@ -11,14 +11,12 @@ use Rattle.mesh.specs.Operation.{gives, refuses}
 use Rattle.mesh.specs.OperationLaws.{First, None, more, done, fine_none, Recovers, given_verdict, refused_exactly, given_exactly, only_outcome}
 use Rattle.mesh.specs.Refusals.{Told}
 use Rattle.mesh.specs.RefusalLaws.{refusal_of, refusal_once}
-use Rattle.mesh.specs.Tests.{out_of_range}
+use Rattle.mesh.specs.Tests.{out_of_range, range}
 use Rattle.mesh.specs.TestLaws.{in_range_lem}
 use Rattle.polygons.specs.AreaBoundLaws.{cross_le}
 use Rattle.contours.specs.declared.AreaAnswer.{AreaAnswer}
 use Rattle.contours.specs.declared.AreaAnswer.TheVariants.{Area, Refused}
-use Rattle.contours.specs.Areas.{most_points, point_count, x_of, y_of, cross_of, next_point, sum_of, area_of, run_fits, measuring, tell_area, Measures}
-use Rattle.contours.specs.Contours.{prior_end, own_end, span_of, contour_of}
-use Rattle.contours.specs.ContourLaws.{span_there, span_contour, span_even, length_contour, contour_at_lem}
+use Rattle.contours.specs.Areas.{most_points, point_count, x_of, y_of, cross_of, next_point, sum_of, area_of, run_fits, run_size, measuring, tell_area, Measures}
 use Rattle.contours.specs.Runs.{largest_cross, PointRun}
 
 -- ---- sums
@@ -81,7 +79,7 @@ run_bound points r =
     le_trans (sum_bound n largest_cross (λ i. cross_of points i (next_point n i)) (λ i l. cross_bound points r i (next_point n i)))
     (mul-le-mul_right largest_cross r.few)
 
--- what the tests say of a run, and what passes them
+-- what the two tests say of a run, and what passes them
 pub fits_parts : (n : ℕ) → run_fits n ≡ true → (n % 2 ≡ 0) × (n / 2 ≤ most_points)
 unfolding run_fits
 fits_parts n e = let p = and_parts _ _ e in (eqb-true (n % 2) 0 p.0, leb-true (n / 2) most_points p.1)
@@ -94,8 +92,8 @@ range_passed : (points : List ℤ) (i : ℕ) → nat_abs (get_or points i (pos 0
 unfolding out_of_range
 range_passed points i h = le-ltb largest (nat_abs (get_or points i (pos 0))) h
 
-pub run_of : (points : List ℤ) → None (measuring points).refusals → PointRun points
-run_of points (more s (more r done)) =
+pub run_tested : (points : List ℤ) → None (run_size points ∷ range points ∷ []) → PointRun points
+run_tested points (more s (more r done)) =
     let p = fits_parts (length points) (not-false _ (s 0 (omega arith))) in
     record {
       even = p.0;
@@ -106,34 +104,17 @@ run_of points (more s (more r done)) =
           (split_lt i (length points));
     }
 
-pub none_of : (points : List ℤ) → PointRun points → None (measuring points).refusals
-none_of points r =
+pub none_tested : (points : List ℤ) → PointRun points → None (run_size points ∷ range points ∷ [])
+none_tested points r =
     more (λ i l. ap not (fits_of (length points) r.even r.few))
     (more (λ i l. range_passed points i (r.ranged i)) done)
 
--- a contour of points in range, of which there are not too many
-pub contour_run : (points : List ℤ) (ends : List ℕ) (j : ℕ) → own_end ends j ≤ most_points
-    → ((i : ℕ) → i < 2 * own_end ends j → nat_abs (get_or points i (pos 0)) ≤ largest) → PointRun (contour_of points ends j)
-contour_run points ends j few ranged =
-    record { even = rw len (span_even n ends j); few = rw len (short (split_lt 0 (span_of n ends j))); ranged = λ i. at i (split_lt i (span_of n ends j)) }
-  where
-    n : ℕ
-    n = length points
+-- these are all that Area asks
+pub run_of : (points : List ℤ) → None (measuring points).refusals → PointRun points
+run_of = run_tested
 
-    len : length (contour_of points ends j) ≡ span_of n ends j
-    len = length_contour points ends j
-
-    short : (0 < span_of n ends j) ⊎ (span_of n ends j ≤ 0) → span_of n ends j / 2 ≤ most_points
-    short (inl h) = omega (arith, span_there n ends j (span_contour n ends j h))
-    short (inr h) = omega arith
-
-    at : (i : ℕ) → (i < span_of n ends j) ⊎ (span_of n ends j ≤ i) → nat_abs (get_or (contour_of points ends j) i (pos 0)) ≤ largest
-    at i (inl h) =
-        let c = span_contour n ends j (omega arith) in
-        rw (contour_at_lem points ends j i (pos 0) h) (ranged (2 * prior_end ends j + i) (omega (arith, span_there n ends j c, c.rises)))
-    at i (inr h) =
-        let e : get_or (contour_of points ends j) i (pos 0) ≡ pos 0 = get_or-eq_default (contour_of points ends j) (pos 0) (omega (arith, len)) in
-        omega (arith, ap nat_abs e)
+pub none_of : (points : List ℤ) → PointRun points → None (measuring points).refusals
+none_of = none_tested
 
 -- ---- Area
 
@@ -155,7 +136,7 @@ module _ {points : List ℤ} {result : AreaAnswer} (d : Measures points result) 
   area_only e = (only_outcome area_recovers d e).0
 
   pub run_measured : PointRun points → tell_area result ≡ gives (area_of points)
-  run_measured r = area_given.1 (none_of points r)
+  run_measured r = (given_exactly d).1 (none_tested points r)
 
   -- an area that is answered is the area, and at most 98,304 × 2 × 2 ^ 40
   pub area_is : (a : ℤ) → tell_area result ≡ gives a → a ≡ area_of points
@@ -164,4 +145,4 @@ module _ {points : List ℤ} {result : AreaAnswer} (d : Measures points result) 
   pub area_bound : (a : ℤ) → tell_area result ≡ gives a → nat_abs a ≤ most_points * largest_cross
   area_bound a e =
       let f = given_verdict d e in
-      rw f.1 (run_bound points (run_of points (fine_none (measuring points).refusals f.0)))
+      rw f.1 (run_bound points (run_tested points (fine_none (measuring points).refusals f.0)))

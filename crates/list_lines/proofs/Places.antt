@@ -18,7 +18,8 @@ use Rattle.cut_points.specs.Points.{points_of}
 use Rattle.cut_points.specs.PointLaws.{points_append, length_points_of}
 use Rattle.polygons.specs.Flat.{end_before}
 use Rattle.contours.specs.Areas.{point_count, area_of}
-use Rattle.contours.specs.AreaLaws.{sum_same, contour_run}
+use Rattle.contours.specs.AreaLaws.{sum_same}
+use Rattle.contours.proofs.ContourLaws.{contour_run}
 use Rattle.contours.specs.Contours.{prior_end, own_end, contour_of}
 use Rattle.contours.specs.ContourLaws.{contour_of_lem, contour_is}
 use Rattle.contours.specs.Runs.{PointRun}

@@ -10,9 +10,9 @@ use Rattle.polygons.specs.Flat.{Point, point, nth_point, FlatLayer, points_in, p
 use Rattle.polygons.specs.FlatLaws.{LayerTested, few_polygons, length_ends, points_numbers, layer_of_lem, flat_polygons, layer_polygons, end_rises}
 use Rattle.polygons.specs.ContourAreas.{contour_area}
 use Rattle.contours.specs.Areas.{x_of, y_of}
-use Rattle.contours.specs.AreaLaws.{contour_run}
 use Rattle.contours.specs.Contours.{prior_end, own_end, contour_of}
-use Rattle.contours.specs.ContourLaws.{HasContour, span_there, length_contour, contour_at_lem}
+use Rattle.contours.specs.ContourLaws.{HasContour, span_there}
+use Rattle.contours.proofs.ContourLaws.{length_contour, contour_at_lem, contour_run}
 use Rattle.contours.specs.PolygonLaws.{contour_polygon}
 use Rattle.contours.specs.Runs.{PointRun}
 use Rattle.inside.specs.Inside.{lies_in}

@@ -2,7 +2,7 @@
 use Prim.Native.Nat.{◌+◌, ◌≤◌}
 use native.Mathlib.Omega.{arith}
 use lib.ListN.{length}
-use Rattle.contours.specs.ContourLaws.{span_fits}
+use Rattle.contours.proofs.ContourLaws.{span_fits}
 use Rattle.contours.proofs.Parts.{part_is}
 use borrow.Author.Rules.{rules}
 use Rattle.contours.proofs.contour.Goals as goal
