@@ -6,8 +6,9 @@ ghost use Rattle.std.specs.Prelude.{length};
 ghost use Rattle.listing.specs.Inputs.{Within};
 
 use crate::unchecked::read_on;
-use libc::STDOUT_FILENO;
 use list_part::ListAnswer;
+use std::io;
+use std::io::Read;
 
 mod unchecked;
 
@@ -19,12 +20,12 @@ pub enum ReadInputAnswer {
 }
 
 // Reads until the buffer is full or the input ends.
-fn read_input(buffer: &mut [u8]) -> ReadInputAnswer
+fn read_input<R: Read>(reader: &mut R, buffer: &mut [u8]) -> ReadInputAnswer
     ensures outcome { Within 0 (length buffer.new) result }
 {
     let mut done: usize = 0;
     while done < buffer.len() {
-        let a = read_on(buffer, done);
+        let a = read_on(reader, buffer, done);
         let ReadInputAnswer::Bytes(n) = a else {
             return ReadInputAnswer::Failed;
         };
@@ -37,20 +38,21 @@ fn read_input(buffer: &mut [u8]) -> ReadInputAnswer
 }
 
 // Writes the listing of an input.
-fn write_listing(input: &[u8]) {
+fn write_listing<P: Print>(rt: &P, input: &[u8]) -> io::Result<()> {
     let mut output = [0u8; 23580];
     let a = list_part::list(input, &mut output);
     if let ListAnswer::Length(n) = a {
-        io::write_all(STDOUT_FILENO, &output[..n]);
+        rt.write_all(&output[..n])?;
     }
+    Ok(())
 }
 
 // One byte more than the program takes (LIMIT-11) tells it that there are too many.
-fn main() {
+fn main(rt: HostRuntime) -> io::Result<()> {
     let mut input = [0u8; 8193];
-    let a = read_input(&mut input);
+    let a = read_input(&mut rt.stdin(), &mut input);
     match a {
-        ReadInputAnswer::Bytes(n) => write_listing(&input[..n]),
-        ReadInputAnswer::Failed => os::fail(b"standard input"),
+        ReadInputAnswer::Bytes(n) => write_listing(&rt, &input[..n]),
+        ReadInputAnswer::Failed => Err(io::Error::other("standard input")),
     }
 }

@@ -5,37 +5,37 @@ use crate::unchecked::rise;
 use all_sweep::AllLayersAnswer;
 use check_mesh::CheckAnswer;
 use cleaning::Profile;
-use libc::STDOUT_FILENO;
 use list_lines::unchecked_lines::write_refusal;
 use mesh::Refusal;
+use std::io;
 
 mod unchecked;
 
-fn say(text: &[u8]) {
-    io::write_all(STDOUT_FILENO, text);
+fn say<P: Print>(rt: &P, text: &[u8]) -> io::Result<()> {
+    rt.write_all(text)
 }
 
-fn say_refused(r: Refusal) {
+fn say_refused<P: Print>(rt: &P, r: Refusal) -> io::Result<()> {
     let mut line = [0u8; 64];
     let n = write_refusal(&mut line, r);
-    io::write_all(STDOUT_FILENO, &line[..n]);
+    rt.write_all(&line[..n])
 }
 
 // Check of a single vertex (x, 0, 0) (WORKED-15).
-fn check_coordinate(x: i32) {
+fn check_coordinate<P: Print>(rt: &P, x: i32) -> io::Result<()> {
     let coords = [x, 0, 0];
     let corners = [0u32; 1];
     let mut pairing = [0u32; 1];
     let mut order = [0u32; 1];
     let a = check_mesh::check(&coords, &corners[..0], &mut pairing, &mut order);
     match a {
-        CheckAnswer::Accepted => say(b"passes\n"),
-        CheckAnswer::Refused(r) => say_refused(r),
+        CheckAnswer::Accepted => say(rt, b"passes\n"),
+        CheckAnswer::Refused(r) => say_refused(rt, r),
     }
 }
 
 // All layers of an empty mesh at these heights (WORKED-16).
-fn file_heights(heights: &[i32]) {
+fn file_heights<P: Print>(rt: &P, heights: &[i32]) -> io::Result<()> {
     let coords = [0i32; 1];
     let corners = [0u32; 1];
     let pairing = [0u32; 1];
@@ -61,20 +61,20 @@ fn file_heights(heights: &[i32]) {
         &mut output,
     );
     match a {
-        AllLayersAnswer::Length(_) => say(b"pass\n"),
-        AllLayersAnswer::Refused(r) => say_refused(r),
+        AllLayersAnswer::Length(_) => say(rt, b"pass\n"),
+        AllLayersAnswer::Refused(r) => say_refused(rt, r),
     }
 }
 
-fn main() {
-    say(b"coordinate 1048576: ");
-    check_coordinate(1048576);
-    say(b"coordinate 1048577: ");
-    check_coordinate(1048577);
+fn main(rt: HostRuntime) -> io::Result<()> {
+    say(&rt, b"coordinate 1048576: ")?;
+    check_coordinate(&rt, 1048576)?;
+    say(&rt, b"coordinate 1048577: ")?;
+    check_coordinate(&rt, 1048577)?;
     let mut heights = [0i32; 4097];
     rise(&mut heights);
-    say(b"4096 heights: ");
-    file_heights(&heights[..4096]);
-    say(b"4097 heights: ");
-    file_heights(&heights);
+    say(&rt, b"4096 heights: ")?;
+    file_heights(&rt, &heights[..4096])?;
+    say(&rt, b"4097 heights: ")?;
+    file_heights(&rt, &heights)
 }

@@ -3,12 +3,10 @@ use mathlib.Core.Path.{ap}
 use Rattle.list_part.specs.Listing.{tell_list}
 use Rattle.list_part.specs.ListingLaws.{written}
 use Rattle.listing.proofs.Reading.{front_length}
-use borrow.Author.Rules.{rules}
 use Rattle.listing.proofs.write_listing.Goals as goal
 
 pub slice_bounds-output-end : goal.slice_bounds-output-end
-slice_bounds-output-end c = (written c.list-a.ensures.outcome (ap tell_list c.in-Length.is)).within
+slice_bounds-output-end g c = (written c.list-a.ensures.outcome (ap tell_list c.in-Length.is)).within
 
 pub slice_bounds-write_all-end : goal.slice_bounds-write_all-end
-slice_bounds-write_all-end c =
-    front_length _ _ (written c.list-a.ensures.outcome (ap tell_list c.in-Length.is)).within
+slice_bounds-write_all-end g c = front_length _ _ (written c.list-a.ensures.outcome (ap tell_list c.in-Length.is)).within

@@ -1,9 +1,7 @@
 -- `unchecked::rise` meets its contract.
 use Prim.Native.Nat.{◌-◌}
-use mathlib.Core.Path.{◌≡◌, refl, ◌∙◌}
-use native.Mathlib.Omega.{arith}
-use lib.ListN.{length, length-set}
-use borrow.Author.Rules.{rules}
+use mathlib.Core.Path.{◌≡◌}
+use lib.ListN.{length}
 use Rattle.worked_run.proofs.unchecked.rise.Given as goal
 
 abbrev pub invariant-loop-i : goal.invariant-loop-i
