@@ -120,7 +120,7 @@ module _ (m : OrderedMesh) where
       let below : n < vertex_count coords = subst (λ (i : ℕ). i < vertex_count coords) k.position d.next in
       subst (λ (b : Bool). SweepKept (cond b (suc n) n) u ring') (sym (lt-ltb n (vertex_count coords) below))
       (record {
-        position = d.one_more ∙ ap suc k.position;
+        position = d.one_more_lem ∙ ap suc k.position;
         few = below;
         table = subst (λ (i : ℕ). RingAt (sweep m ring' (suc i))) k.position
             (subst (λ (x : List ℕ). RingAt (sweep m x (suc passed))) (sym d.relinks)

@@ -33,7 +33,7 @@ use Rattle.all_sweep.specs.AllLayers.{drawn, cut_layer, cut_file, swept_file, cl
 use Rattle.all_sweep.specs.AllLayers.{tell_all_layers, Files}
 use Rattle.all_sweep.specs.CutLayerLaws.{drawn_points, drawn_ends}
 use Rattle.all_sweep.specs.LayersLaws.{all_layers_tested, all_layers_length, all_layers_output}
-use Rattle.demand_three.specs.Claim.{Call, step, rise, refused, given, move_of, to, fed, Run, done, skipped, taken}
+use Rattle.demand_three.specs.Claim.{Call, step, rise, refused, given, move_of, passed_after, to, fed, Run, done, skipped, taken}
 use Rattle.demand_three.specs.ClaimLaws.{sweep_claim}
 use Rattle.demand_three.specs.FileClaim.{LayerOfCut, Leave, no_call, next_call, right_tests, ClimbClaim, FileClaim, DemandThree}
 use Rattle.demand_three.specs.RunLaws.{unrefused, start_fine, layers_climb}
@@ -114,7 +114,8 @@ leave_up [] (skipped x r) e = absurd (let z : ◌≡◌ {A = ℕ} 0 1 = cc in om
 leave_up [] (taken x q r) e = absurd (let z : ◌≡◌ {A = ℕ} 0 1 = cc in omega arith)
 leave_up (h ∷ hs) done e = absurd (let z : ◌≡◌ {A = ℕ} 0 1 = cc in omega arith)
 leave_up (h ∷ hs) (skipped x r) e = absurd (clash x (λ i. ((parts_of e).0 i).1))
-leave_up (h ∷ hs) (taken {c = c} x q r) e = leave_one c x q (λ i. ((parts_of e).0 i).0) (leave_up hs r (parts_of e).1)
+leave_up {n = n} (h ∷ hs) (taken {c = c} x q r) e =
+    leave_one c x q (λ i. ((parts_of e).0 i).0) (leave_up {n = passed_after c} hs r (parts_of e).1)
 
 pub climb_claim : ClimbClaim
 climb_claim m right t room ring start n ring₀ ok e hs above =
