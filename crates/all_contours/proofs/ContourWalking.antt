@@ -14,11 +14,11 @@ use Rattle.mesh.specs.Meshes.{PairedMesh}
 use Rattle.mesh.specs.Tests.{pair_of}
 use Rattle.mesh.specs.TestLaws.{next_below}
 use Rattle.section.specs.Section.{below, rising, rising_in, successor, Crossing, Right}
-use Rattle.section.specs.SectionLaws.{next_thrice, next_triangle, falling_parts, rising_of, rising_in_is, pair_falls, crossing_ring}
+use Rattle.section.proofs.SectionLaws.{next_thrice, next_triangle, falling_parts, rising_of, rising_in_is, pair_falls, crossing_ring}
 use Rattle.section.specs.Rings.{iterate, Ring}
 use Rattle.section.specs.Contours.{places_of, member}
 use Rattle.section.specs.OrbitLaws.{orbit, length_orbit, orbit_snoc, walk_closes}
-use Rattle.section.specs.LayerLaws.{crosses, leads_on}
+use Rattle.section.proofs.LayerLaws.{crosses, leads_on}
 use Rattle.all_contours.specs.Rounds.{successor_at, contour_from, stamped, Followable, ContourFollowed}
 use Rattle.all_contours.proofs.Stamps.{length_stamped, stamped_join}
 

@@ -17,8 +17,8 @@ use Rattle.section.specs.Section.{below, rising, Among, Right}
 use Rattle.section.specs.Rings.{Ring}
 use Rattle.section.specs.Contours.{member, contours, names_of as flat, trace_to, trace, ends_from, ends_of}
 use Rattle.section.specs.OrbitLaws.{length_orbit}
-use Rattle.section.specs.LayerLaws.{names_snoc, ends_snoc, Leads, leads_on, starts_at, Begun, begun_start, begun_skip, ring, ring_names}
-use Rattle.section.specs.LayerLaws.{begun_ring, ring_room_lem, begun_few}
+use Rattle.section.proofs.LayerLaws.{names_snoc, ends_snoc, Leads, leads_on, starts_at, Begun, begun_start, begun_skip, ring, ring_names}
+use Rattle.section.proofs.LayerLaws.{begun_ring, ring_room_lem, begun_few}
 use Rattle.all_active.specs.Lists.{next_in, active_at}
 use Rattle.all_active.specs.ListLaws.{next_upto, next_found, next_between}
 use Rattle.all_contours.specs.Rounds.{successor_at, contour_from, stamped, Followable, ContourFollowed, Outlinable, Followed, Marked}

@@ -15,7 +15,7 @@ use Rattle.mesh.specs.OperationLaws.{nowhere_fine, then_fine}
 use Rattle.mesh.specs.RankLaws.{lower_sum, sum_lower}
 use Rattle.section.specs.Section.{below, rising, no_corner, ring_entry, Right}
 use Rattle.section.specs.Contours.{Traced, member}
-use Rattle.section.specs.LayerLaws.{trace_layer}
+use Rattle.section.proofs.LayerLaws.{trace_layer}
 use Rattle.cleaning.specs.declared.Profile.{Profile}
 use Rattle.file_formats.specs.LayerFile.{Layer, layer_in, layer_file}
 use Rattle.cut.specs.Cut.{met_at, contours_of}

@@ -21,7 +21,7 @@ use Rattle.cleaning.specs.declared.Profile.TheVariants.{Full, Clean}
 use Rattle.section.specs.Section.{below, Right}
 use Rattle.section.specs.Contours.{Traced, contours, member, names_of}
 use Rattle.section.specs.Layers as layers
-use Rattle.section.specs.LayerLaws.{contours_few, trace_layer}
+use Rattle.section.proofs.LayerLaws.{contours_few, trace_layer}
 use Rattle.section.specs.OrbitLaws.{member_join, at_member}
 use Rattle.cut_points.specs.Points.{point_of, points_of}
 use Rattle.cut_points.specs.Climbs.{Climbs}

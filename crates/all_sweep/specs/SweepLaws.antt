@@ -6,7 +6,7 @@ use Rattle.laws.specs.Integers.{mag_le, lt_in, lt_out}
 use Rattle.mesh.specs.Corners.{start_of, z_of}
 use Rattle.mesh.specs.Meshes.{Mesh, PairedMesh}
 use Rattle.section.specs.Section.{below, Right}
-use Rattle.section.specs.SectionLaws.{rising_parts}
+use Rattle.section.proofs.SectionLaws.{rising_parts}
 use Rattle.file_formats.specs.Numbers.{Word}
 use Rattle.all_heights.specs.Heights.{heights_taken}
 use Rattle.all_heights.specs.Taking.{RisingHeights, height_at}

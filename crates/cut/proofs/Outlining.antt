@@ -13,7 +13,7 @@ use Rattle.mesh.specs.OperationLaws.{does_give}
 use Rattle.section.specs.Contours.{Traced, contours, names_of, ends_of}
 use Rattle.section.specs.Links.{has_link, link_of, trace_links}
 use Rattle.section.specs.OrbitLaws.{at_member}
-use Rattle.section.specs.LayerLaws.{Begun, trace_all, begun_few}
+use Rattle.section.proofs.LayerLaws.{Begun, trace_all, begun_few}
 use Rattle.cut_points.specs.Points.{points_of}
 use Rattle.cut_points.specs.Climbs.{Climbs}
 use Rattle.cut_trace.specs.Traces.{trace_answer, zeroed, names_after, ends_after}

@@ -14,13 +14,13 @@ use Rattle.mesh.specs.OperationLaws.{First, None, more, fine_none, Recovers, giv
 use Rattle.mesh.specs.Refusals.{Told}
 use Rattle.mesh.specs.RefusalLaws.{refusal_of, refusal_once}
 use Rattle.section.specs.Section.{VertexSet, below, Crossing, Linked, Right}
-use Rattle.section.specs.SectionLaws.{rising_unique}
+use Rattle.section.proofs.SectionLaws.{rising_unique}
 use Rattle.section.specs.RightLaws.{right_of}
 use Rattle.section.specs.RingLaws.{pigeonhole}
 use Rattle.section.specs.Contours.{names_of}
 use Rattle.section.specs.Layers as layers
 use Rattle.section.specs.OrbitLaws.{at_member}
-use Rattle.section.specs.LayerLaws.{trace_layer}
+use Rattle.section.proofs.LayerLaws.{trace_layer}
 use Rattle.cut_points.specs.Points.{exact_over, exact_under, point_at, points_of}
 use Rattle.cut_points.specs.PointLaws.{point_near, points_in_lem}
 use Rattle.cut.specs.declared.CutAnswer.{CutAnswer}

@@ -11,12 +11,12 @@ use Rattle.mesh.specs.Operation.{refuses, fine, verdict, after}
 use Rattle.mesh.specs.OperationLaws.{nowhere_fine, verdict_one, then_fine, after_kept, left_given, does_give}
 use Rattle.mesh.specs.Refusals.{Told, numbered}
 use Rattle.section.specs.Section.{below, under, ring_entry, Right}
-use Rattle.section.specs.SectionLaws.{below_under}
+use Rattle.section.proofs.SectionLaws.{below_under}
 use Rattle.section.specs.Contours.{Traced, contours, names_of, ends_of}
 use Rattle.cut_points.specs.Points.{points_of}
-use Rattle.section.specs.LayerLaws.{trace_layer}
+use Rattle.section.proofs.LayerLaws.{trace_layer}
 use Rattle.section.specs.Links.{trace_links}
-use Rattle.section.specs.LinkLaws.{table_trace, table_leads, link_rises}
+use Rattle.section.proofs.LinkLaws.{table_trace, table_leads, link_rises}
 use Rattle.cut.specs.declared.CutAnswer.{CutAnswer}
 use Rattle.cut.specs.Cut.{CutTables, lent, Lengths, lengths, cut_room_for, met_at, used, section, contours_of, tables_after_cut}
 use Rattle.cut.specs.Outlines.{Long, Outlined, Traces}

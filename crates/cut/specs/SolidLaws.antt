@@ -7,7 +7,7 @@ use Rattle.mesh.specs.Corners.{triangle_of, next_corner, start_of, end_of, coord
 use Rattle.mesh.specs.Meshes.{PairedMesh}
 use Rattle.mesh.specs.Tests.{pair_of}
 use Rattle.section.specs.Section.{below, successor, Crossing, Right}
-use Rattle.section.specs.SectionLaws.{next_thrice, same_triangle, rising_parts, falling_parts, turned, pair_falls, successor_triangle, successor_crosses}
+use Rattle.section.proofs.SectionLaws.{next_thrice, same_triangle, rising_parts, falling_parts, turned, pair_falls, successor_triangle, successor_crosses}
 use Rattle.cut_points.specs.Points.{numerator, denominator, exact_under}
 use Rattle.cut_points.specs.Climbs.{Climbs}
 use Rattle.cut_points.specs.PointLaws.{climbs_by, over_of, under_of, under_positive}

@@ -18,8 +18,8 @@ use Rattle.section.specs.Rings.{iterate, Ring, Leads}
 use Rattle.section.specs.Contours.{member, Traced, contours, names_of as flat, trace_to, ends_from, ends_of}
 use Rattle.section.specs.Links.{has_link, link_of, trace_links}
 use Rattle.section.specs.OrbitLaws.{orbit, length_orbit, orbit_snoc}
-use Rattle.section.specs.LayerLaws.{names_snoc, ends_snoc, starts_at, Begun, begun_start, begun_skip, crosses, ring, ring_names}
-use Rattle.section.specs.LayerLaws.{fresh, begun_ring, ring_room_lem, begun_few}
+use Rattle.section.proofs.LayerLaws.{names_snoc, ends_snoc, starts_at, Begun, begun_start, begun_skip, crosses, ring, ring_names}
+use Rattle.section.proofs.LayerLaws.{fresh, begun_ring, ring_room_lem, begun_few}
 use Rattle.cut_trace.specs.Traces.{trace_answer, zeroed, names_after, ends_after}
 use Rattle.cut_trace.specs.Walks.{ring_of, strike, Walkable, Traceable, NoLinks, Sought}
 use Rattle.cut_trace.specs.declared.TraceAnswer.TheVariants.{Contours}

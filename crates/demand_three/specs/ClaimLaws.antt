@@ -15,13 +15,13 @@ use Rattle.mesh.specs.Operation.{Answer, gives, refuses, is_refusal}
 use Rattle.mesh.specs.Refusals.{Told}
 use Rattle.mesh.specs.Tests.{pair_of}
 use Rattle.section.specs.Section.{rising, successor, no_corner, ring_entry, Among, Linked}
-use Rattle.section.specs.SectionLaws.{rising_parts, falling_parts, pair_falls}
+use Rattle.section.proofs.SectionLaws.{rising_parts, falling_parts, pair_falls}
 use Rattle.section.specs.Rings.{Ring}
 use Rattle.section.specs.RingLaws.{ring_of_lem}
 use Rattle.section.specs.Contours.{member, trace}
 use Rattle.section.specs.Links.{has_link, link_of, trace_links}
-use Rattle.section.specs.LayerLaws.{Leads, leads_on, trace_all}
-use Rattle.section.specs.LinkLaws.{same_trace, link_rises, table_trace, table_leads}
+use Rattle.section.proofs.LayerLaws.{Leads, leads_on, trace_all}
+use Rattle.section.proofs.LinkLaws.{same_trace, link_rises, table_trace, table_leads}
 use Rattle.cut.specs.Cut.{CutTables, tell_cut}
 use Rattle.cut.specs.CutLaws.{cut_only}
 use Rattle.sweep.specs.declared.StartAnswer.{StartAnswer}

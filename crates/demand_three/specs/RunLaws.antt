@@ -22,7 +22,7 @@ use Rattle.mesh.specs.Refusals.{Told}
 use Rattle.section.specs.Section.{below, Right}
 use Rattle.section.specs.RightLaws.{right_of}
 use Rattle.section.specs.Contours.{Traced, names_of}
-use Rattle.section.specs.LayerLaws.{trace_layer}
+use Rattle.section.proofs.LayerLaws.{trace_layer}
 use Rattle.cut.specs.Cut.{CutTables, lengths_of, cut_room_for, met_at, used, contours_of, tables_after_cut}
 use Rattle.sweep.specs.declared.StartAnswer.{StartAnswer}
 use Rattle.sweep.specs.declared.StartAnswer.TheVariants.{Fresh}

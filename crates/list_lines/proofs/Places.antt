@@ -13,7 +13,7 @@ use Rattle.mesh.specs.Meshes.{Mesh}
 use Rattle.polygons.specs.FlatLaws.{length_ends}
 use Rattle.section.specs.Contours.{names_of, ends_from, ends_of}
 use Rattle.section.specs.Layers.{contour_at}
-use Rattle.section.specs.LayerLaws.{contours_few}
+use Rattle.section.proofs.LayerLaws.{contours_few}
 use Rattle.cut_points.specs.Points.{points_of}
 use Rattle.cut_points.specs.PointLaws.{points_append, length_points_of}
 use Rattle.polygons.specs.Flat.{end_before}

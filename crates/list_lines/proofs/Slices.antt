@@ -20,7 +20,7 @@ use Rattle.section.specs.Section.{below, Right}
 use Rattle.section.specs.Contours.{contours, names_of, ends_of}
 use Rattle.section.specs.Layers as layers
 use Rattle.section.specs.OrbitLaws.{at_member}
-use Rattle.section.specs.LayerLaws.{trace_layer}
+use Rattle.section.proofs.LayerLaws.{trace_layer}
 use Rattle.cut_points.specs.Points.{points_of}
 use Rattle.cut_points.specs.PointLaws.{points_in_lem}
 use Rattle.cut.specs.declared.CutAnswer.{CutAnswer}

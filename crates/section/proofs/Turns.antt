@@ -21,7 +21,7 @@ use Rattle.mesh.specs.TestLaws.{next_below}
 use Rattle.section.specs.Section.{VertexSet, under, rising, falling, Crossing, rising_in, successor, no_corner, ring_entry}
 use Rattle.section.specs.Section.{Named, Linked}
 use Rattle.section.specs.Triangles.{Between, set_three}
-use Rattle.section.specs.SectionLaws.{beside_not, beside_passed, pair_falls}
+use Rattle.section.proofs.SectionLaws.{beside_not, beside_passed, pair_falls}
 
 -- a signed argument as the code holds it
 abbrev pub held : ℤ → ℤ

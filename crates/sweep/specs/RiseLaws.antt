@@ -9,7 +9,7 @@ use Rattle.mesh.specs.OperationLaws.{Nowhere, None, more, done, none_fine, fine_
 use Rattle.mesh.specs.Refusals.{Told}
 use Rattle.section.specs.Section.{below}
 use Rattle.section.specs.Contours.{Traced}
-use Rattle.section.specs.LinkLaws.{table_trace}
+use Rattle.section.proofs.LinkLaws.{table_trace}
 use Rattle.cut.specs.Cut.{CutTables, lengths_of, used, section, contours_of, counts_of, tables_after_cut, cutting, tell_cut, Cuts}
 use Rattle.cut.specs.declared.CutAnswer.{CutAnswer}
 use Rattle.cut.specs.declared.CutAnswer.TheVariants.{Layer as CutLayer}

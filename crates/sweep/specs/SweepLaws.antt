@@ -24,7 +24,7 @@ use Rattle.mesh.specs.Tests.{pair_of}
 use Rattle.mesh.specs.RankLaws.{rank, lower_sum, not_lower_sum, sum_lower, before_irreflexive, before_total, before_rank, rank_inj, rank_before}
 use Rattle.mesh.specs.Order.{Ranked}
 use Rattle.section.specs.Section.{VertexSet, below, under, rising, rising_in, successor, ring_entry, Named, Linked}
-use Rattle.section.specs.SectionLaws.{next_triangle, turned}
+use Rattle.section.proofs.SectionLaws.{next_triangle, turned}
 use Rattle.section.specs.Contours.{member}
 use Rattle.section.specs.OrbitLaws.{member_join, member_one}
 use Rattle.sweep.specs.Sweep.{Sweep, sweep, mesh_of, sweep_pairing, stepped, passed_at, RingAt, touches, relinked, step_ring, may_rise, risen_to, risen_ring}

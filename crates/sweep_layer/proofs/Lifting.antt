@@ -21,7 +21,7 @@ use Rattle.mesh.specs.OrderTableLaws.{ordered_rank}
 use Rattle.mesh.specs.Refusals.{Told, numbered, told_of}
 use Rattle.mesh.specs.declared.Refusal.{Refusal}
 use Rattle.section.specs.Section.{under, ring_entry, Right}
-use Rattle.section.specs.SectionLaws.{below_under}
+use Rattle.section.proofs.SectionLaws.{below_under}
 use Rattle.section.specs.RightLaws.{right_of}
 use Rattle.section.specs.Contours.{Traced}
 use Rattle.section.specs.Links.{trace_links}

@@ -1,7 +1,7 @@
 -- `unchecked_crossings::entry_between` meets its contract.
 use mathlib.Core.Path.{ap, sym, ◌∙◌}
 use Rattle.section.specs.Section.{VertexSet, under, Crossing, ring_entry}
-use Rattle.section.specs.SectionLaws.{and_not_of}
+use Rattle.section.proofs.SectionLaws.{and_not_of}
 use Rattle.section.proofs.Turns.{passed_held, crosses_held, entry_none, between_rises, between_level}
 use Rattle.section.proofs.unchecked_crossings.entry_between.Goals as goal
 

@@ -13,7 +13,7 @@ use Rattle.std.proofs.lemmas.List.{get_or_at}
 use Rattle.laws.specs.Booleans.{clash, is_true, is_false, and_parts, and_of, not_of, or_left, or_right, or_cases}
 use Rattle.laws.specs.TableLaws.{length_snoc}
 use Rattle.section.specs.Section.{VertexSet, rising, successor, Among, Linked}
-use Rattle.section.specs.SectionLaws.{successor_crosses, successor_injective, two_crossings}
+use Rattle.section.proofs.SectionLaws.{successor_crosses, successor_injective, two_crossings}
 use Rattle.section.specs.Rings.{iterate, Ring}
 pub use Rattle.section.specs.Rings.{Leads}
 use Rattle.section.specs.RingLaws.{ring_of_lem}

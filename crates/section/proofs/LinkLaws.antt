@@ -6,11 +6,11 @@ use Rattle.std.proofs.Common.{sym, ◌∙◌, subst, arith, eq-eqb, ne_eqb}
 use Rattle.std.proofs.Math.Bool.{true, false, not, cond}
 use Rattle.laws.specs.Booleans.{and_parts}
 use Rattle.section.specs.Section.{VertexSet, rising, successor, no_corner, ring_entry, Among, Linked}
-use Rattle.section.specs.SectionLaws.{successor_crosses}
+use Rattle.section.proofs.SectionLaws.{successor_crosses}
 use Rattle.section.specs.Contours.{member, closed, met, onward, walk, Traced, contours, stuck, names_of, more, trace_at, trace_to, trace}
 use Rattle.section.specs.Rings.{Leads}
 use Rattle.section.specs.Links.{has_link, link_of, trace_links}
-use Rattle.section.specs.LayerLaws.{leads_on}
+use Rattle.section.proofs.LayerLaws.{leads_on}
 
 -- ---- two ways of going on that agree on the rising corners
 
