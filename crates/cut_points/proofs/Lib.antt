@@ -2,3 +2,5 @@
 pub mod Rounding
 pub mod Reading
 pub mod Writing
+pub mod RoundedLaws
+pub mod HalfLaws

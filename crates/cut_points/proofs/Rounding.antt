@@ -12,7 +12,7 @@ use mir.Val.{to_z}
 use Rattle.laws.specs.Integers.{ext, sum, diff, prod, up_neg, dn_neg, abs_neg, lt_in, le_in, lt_out}
 use Rattle.laws.specs.Machine.{Rd}
 use Rattle.cut_points.specs.Points.{nearest, rounded}
-use Rattle.cut_points.specs.PointLaws.{rounded_in}
+use Rattle.cut_points.proofs.RoundedLaws.{rounded_in}
 use Rattle.cut_points.specs.Climbs.{Fraction}
 
 -- half a divisor, and one less if the dividend is below zero

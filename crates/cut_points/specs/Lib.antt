@@ -3,6 +3,5 @@ pub mod Points
 pub mod Climbs
 pub mod Normals
 pub mod PointLaws
-pub mod HalfLaws
 pub mod NormalLaws
 pub mod Worked

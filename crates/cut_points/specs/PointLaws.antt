@@ -1,62 +1,22 @@
--- Laws of points: a point is within half a unit of the exact crossing (RESULT-3)
--- and in coordinate range; the negated crossing's point; the points of a list of names.
-use Rattle.std.specs.Prelude.{ℕ, zero, suc, ◌+◌, ◌*◌, ◌/◌, ◌%◌, ◌<◌, ◌≤◌, ◌≡◌, refl, List, [], ◌∷◌, ◌++◌, map, Bool, true, false, not, T, length, get_or, ℤ, pos, negsuc, neg_ℤ, ◌+ℤ◌, ◌-ℤ◌, ◌*ℤ◌, ◌≤ℤ◌, ◌<ℤ◌}
-use Rattle.std.proofs.Common.{sym, ◌∙◌, subst, lt_of_mul-lt-mul_right, div-add-mod', mod-lt}
+-- Laws of points: the exact crossing of an edge; the points of a list of names. What rests on how a value is rounded stands in proofs/RoundedLaws.antt.
+use Rattle.std.specs.Prelude.{ℕ, zero, suc, ◌+◌, ◌*◌, ◌<◌, ◌≤◌, ◌≡◌, List, [], ◌∷◌, ◌++◌, map, Bool, true, false, not, T, length, get_or, ℤ, pos, ◌+ℤ◌, ◌-ℤ◌, ◌*ℤ◌, ◌≤ℤ◌, ◌<ℤ◌}
+use Rattle.std.proofs.Common.{sym, ◌∙◌, subst}
 use Rattle.std.proofs.Math.Path.{ap}
 use Rattle.std.proofs.lemmas.List.{map-append, length-map}
-use Rattle.std.proofs.Math.Nat.{mul-le-mul_right, div-eq_of_lt}
+use Rattle.std.proofs.Math.Nat.{mul-le-mul_right}
 use native.Mathlib.Omega.{arith}
-use Rattle.std.proofs.Math.IntN.{neg_ℤ-neg_ℤ, nat_abs}
+use Rattle.std.proofs.Math.IntN.{nat_abs}
 use Rattle.std.specs.Int.Signed.{lt_z, lt_z_yes, lt_z_no}
-use Rattle.laws.specs.Integers.{one_zero, abs_is, abs_neg, abs_add, abs_sub, abs_mul, diff, le_in, lt_in, le_out, lt_out}
-use Rattle.laws.specs.Ring.{x, ◌⊕◌, ◌⊖◌, ◌⊗◌, ⊝, ring}
+use Rattle.laws.specs.Integers.{one_zero, abs_is, abs_add, abs_sub, abs_mul, diff, le_in, lt_in, le_out, lt_out}
+use Rattle.laws.specs.Ring.{x, ◌⊕◌, ◌⊖◌, ◌⊗◌, ring}
 use Rattle.mesh.specs.Corners.{largest, vertex_count, next_corner, start_of, end_of, coord_of, z_of}
 use Rattle.mesh.specs.Meshes.{Mesh}
 use Rattle.mesh.specs.Tests.{WholeTriangles}
 use Rattle.mesh.specs.TestLaws.{next_below}
 use Rattle.polygons.specs.Flat.{Point, no_point}
 use Rattle.polygons.specs.FlatLaws.{length_numbers, numbers_append, number_x, number_y, map_at}
-use Rattle.cut_points.specs.Points.{numerator, denominator, nearest, rounded, exact_over, exact_under, point_at, point_of, numbers_of, points_of}
+use Rattle.cut_points.specs.Points.{numerator, denominator, exact_over, exact_under, point_at, point_of, numbers_of, points_of}
 use Rattle.cut_points.specs.Climbs.{Fraction, CrossedEdge, Climbs}
-
--- ---- rounding
-
-nearest_zero : (d : ℕ) → nearest 0 d ≡ 0
-nearest_zero zero = refl
-nearest_zero (suc d) = div-eq_of_lt (omega arith)
-
--- an exact value negated has its point negated (POINT-4)
-pub rounded_neg : (n d : ℤ) → rounded (neg_ℤ n) d ≡ neg_ℤ (rounded n d)
-unfolding rounded
-rounded_neg (pos zero) d = let e = nearest_zero (nat_abs d) in ap pos e ∙ ap (λ (k : ℕ). neg_ℤ (pos k)) (sym e)
-rounded_neg (pos (suc n)) d = refl
-rounded_neg (negsuc n) d = sym (neg_ℤ-neg_ℤ (pos (nearest (suc n) (nat_abs d))))
-
--- at most half a unit from n / d
-near_size : (n d : ℕ) → 0 < d → 2 * nat_abs (pos (d * nearest n d) -ℤ pos n) ≤ d
-near_size n d h =
-    let q = nearest n d in
-    let e = pos (d * q) -ℤ pos n in
-    omega (arith, div-add-mod' (2 * n + d) (2 * d), mod-lt (2 * n + d) {m = 2 * d} (omega arith), abs_is e, one_zero e, diff (pos (d * q)) (pos n))
-
-pub rounded_near : (n d : ℤ) → pos 0 <ℤ d → 2 * nat_abs (d *ℤ rounded n d -ℤ n) ≤ nat_abs d
-unfolding rounded
-rounded_near (pos n) (pos d) h = near_size n d (omega (arith, lt_in h))
-rounded_near (negsuc n) (pos d) h =
-    let q = pos (nearest (suc n) d) in
-    let e = ring (pos d ∷ q ∷ pos (suc n) ∷ []) (x 0 ⊗ ⊝ (x 1) ⊖ ⊝ (x 2)) (⊝ (x 0 ⊗ x 1 ⊖ x 2)) tt in
-    subst (λ (k : ℕ). 2 * k ≤ d) (sym (ap nat_abs e ∙ abs_neg (pos d *ℤ q -ℤ pos (suc n)))) (near_size (suc n) d (omega (arith, lt_in h)))
-rounded_near n (negsuc d) h = absurd h.lt
-
--- in every range from −k to k that n / d is in
-pub rounded_in : (n d : ℤ) (k : ℕ) → pos 0 <ℤ d → nat_abs n ≤ k * nat_abs d → nat_abs (rounded n d) ≤ k
-rounded_in n d k h l =
-    let r = rounded n d in
-    let e = d *ℤ r -ℤ n in
-    let m : nat_abs d * nat_abs r ≤ nat_abs e + nat_abs n = omega (arith, abs_mul d r, diff (d *ℤ r) n, abs_is (d *ℤ r), abs_is e, abs_is n, one_zero (d *ℤ r)) in
-    let p : 0 < nat_abs d = omega (arith, lt_in h, abs_is d) in
-    let s : nat_abs r < suc k = lt_of_mul-lt-mul_right (2 * nat_abs d) (omega (arith, rounded_near n d h)) in
-    omega arith
 
 -- ---- the exact crossing
 
@@ -109,12 +69,9 @@ edge_fraction {u0} {u1} {z0} {z1} {h} e =
       inside = numerator_in u0 u1 z0 z1 h largest e.u0_in e.u1_in (le_out (omega (arith, b))) e.upto;
     }
 
--- its height and its point are in coordinate range
+-- its height is in coordinate range
 pub edge_height : {u0 u1 z0 z1 h : ℤ} → CrossedEdge u0 u1 z0 z1 h → nat_abs h ≤ largest
 edge_height {z0 = z0} {z1 = z1} {h = h} e = omega (arith, e.z0_in, e.z1_in, abs_is h, abs_is z0, abs_is z1, one_zero h, lt_in e.below, le_in e.upto)
-
-pub edge_point : {u0 u1 z0 z1 h : ℤ} → CrossedEdge u0 u1 z0 z1 h → nat_abs (rounded (numerator u0 u1 z0 z1 h) (denominator z0 z1)) ≤ largest
-edge_point e = let f = edge_fraction e in rounded_in _ _ largest f.positive f.inside
 
 -- ---- the crossing of a corner
 
@@ -171,15 +128,6 @@ module _ (m : Mesh) (h : ℤ) where
     pub under_positive : pos 0 <ℤ exact_under m c
     under_positive = (fraction 0 (omega arith)).positive
 
-    -- at most half a unit from the exact crossing, multiplied out
-    pub point_near : (axis : ℕ) → 2 * nat_abs (exact_under m c *ℤ point_at m h axis c -ℤ exact_over m h axis c) ≤ nat_abs (exact_under m c)
-    unfolding point_at
-    point_near axis = rounded_near (exact_over m h axis c) (exact_under m c) under_positive
-
-    pub point_in_lem : (axis : ℕ) → axis ≤ 1 → nat_abs (point_at m h axis c) ≤ largest
-    unfolding point_at
-    point_in_lem axis k = rounded_in (exact_over m h axis c) (exact_under m c) largest under_positive (fraction axis k).inside
-
   -- ---- the points of a list of names
 
   pub points_append : (cs ds : List ℕ) → points_of m h (cs ++ ds) ≡ points_of m h cs ++ points_of m h ds
@@ -200,13 +148,3 @@ module _ (m : Mesh) (h : ℤ) where
     points_at_lem zero k = let e : 2 * i + 0 ≡ 2 * i = omega arith in ap (λ (j : ℕ). get_or (points_of m h names) j (pos 0)) e ∙ points_x
     points_at_lem (suc zero) k = points_y
     points_at_lem (suc (suc axis)) k = absurd (omega arith)
-
-  -- all in coordinate range
-  pub points_in_lem : (names : List ℕ) → ((i : ℕ) → i < length names → Climbs m h (get_or names i 0)) → (j : ℕ) → j < length (points_of m h names)
-      → nat_abs (get_or (points_of m h names) j (pos 0)) ≤ largest
-  points_in_lem names t j l =
-      let e : 2 * (j / 2) + j % 2 ≡ j = omega arith in
-      let i : j / 2 < length names = omega (arith, length_points_of names) in
-      let k : j % 2 ≤ 1 = omega arith in
-      subst (λ (n : ℕ). nat_abs (get_or (points_of m h names) n (pos 0)) ≤ largest) e
-      (rw (points_at_lem names (j / 2) i (j % 2) k) (point_in_lem (get_or names (j / 2) 0) (t (j / 2) i) (j % 2) k))

@@ -13,7 +13,7 @@ use Rattle.polygons.specs.Flat.{Point, PointNear}
 use Rattle.inside.specs.declared.ContourExtent.{ContourExtent}
 use Rattle.inside.specs.Inside.{lies_in}
 use Rattle.inside.specs.Extents.{Spans, within}
-use Rattle.inside.specs.ExtentLaws.{without_outside}
+use Rattle.inside.proofs.ExtentLaws.{without_outside}
 use Rattle.inside.specs.PointLaws.{number_back, read_back, back_same}
 
 -- all six numbers are of 32 bits

@@ -10,7 +10,8 @@ use Rattle.laws.specs.Machine.{Rd, small, cast, sub, sub_ok, mul, mul_ok, lt_is}
 use Rattle.mesh.specs.Corners.{largest}
 use Rattle.polygons.specs.Flat.{Point, PointNear}
 use Rattle.inside.specs.Inside.{not_higher, meets_right, counts_for}
-use Rattle.inside.specs.EdgeLaws.{right_less, counts_level, counts_up, counts_down}
+use Rattle.inside.specs.EdgeLaws.{counts_level, counts_up, counts_down}
+use Rattle.inside.proofs.RightLaws.{right_less}
 use Rattle.inside.specs.PointLaws.{read_back, back_same}
 
 -- the three points are in coordinate range

@@ -4,3 +4,5 @@ pub mod Rounds
 pub mod Extending
 pub mod Bounds
 pub mod Sizes
+pub mod RightLaws
+pub mod ExtentLaws

@@ -5,6 +5,5 @@ pub mod Worked
 pub mod OrderLaws
 pub mod ParityLaws
 pub mod EdgeLaws
-pub mod ExtentLaws
 pub mod PointLaws
 pub mod RoundLaws

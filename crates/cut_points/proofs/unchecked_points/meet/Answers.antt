@@ -5,7 +5,8 @@ use mir.Syntax.{w32, w64}
 use Rattle.laws.specs.Machine.{Rd, arg, got, cast, cast_ok, add, add_ok, sub, sub_ok, mul, mul_ok}
 use Rattle.cut_points.specs.Points.{numerator, denominator, rounded}
 use Rattle.cut_points.specs.Climbs.{Fraction}
-use Rattle.cut_points.specs.PointLaws.{edge_fraction, edge_height, edge_point}
+use Rattle.cut_points.specs.PointLaws.{edge_fraction, edge_height}
+use Rattle.cut_points.proofs.RoundedLaws.{edge_point}
 use Rattle.cut_points.proofs.unchecked_points.meet.Goals as goal
 use Rattle.cut_points.proofs.unchecked_points.meet.Goals.{After-rounded, Start}
 

@@ -6,7 +6,7 @@ use Rattle.laws.specs.Integers.{lt_in, eq_in, prod}
 use Rattle.laws.specs.Ring.{x, #, ◌⊗◌, ⊝, ring}
 use Rattle.mesh.specs.Meshes.{Mesh}
 use Rattle.cut_points.specs.Points.{rounded, exact_over, exact_under, point_at}
-use Rattle.cut_points.specs.PointLaws.{rounded_neg}
+use Rattle.cut_points.proofs.RoundedLaws.{rounded_neg}
 
 -- n / d is k + 1/2: twice n is 2 k + 1 times d
 pub half_above : (n d : ℤ) (k : ℕ) → pos 0 <ℤ d → pos 2 *ℤ n ≡ pos (2 * k + 1) *ℤ d → rounded n d ≡ pos (k + 1)

@@ -14,7 +14,8 @@ use Rattle.inside.specs.Inside.{not_higher, counts_for, edge_counts, is_odd, lie
 use Rattle.inside.specs.Extents.{InExtent, Spans, within}
 use Rattle.inside.specs.OrderLaws.{le_via, le_z_of, le_z_not, le_z_false, lt_z_false}
 use Rattle.inside.specs.ParityLaws.{odd_none, round_even}
-use Rattle.inside.specs.EdgeLaws.{counts_level, counts_left, counts_right}
+use Rattle.inside.specs.EdgeLaws.{counts_level}
+use Rattle.inside.proofs.RightLaws.{counts_left, counts_right}
 
 pub next_point_below : (n i : ℕ) → i < n → next_point n i < n
 next_point_below n i h = by (split_lt (i + 1) n)
