@@ -25,7 +25,8 @@ use Rattle.section.proofs.LayerLaws.{contours_few, trace_layer}
 use Rattle.section.specs.OrbitLaws.{member_join, at_member}
 use Rattle.cut_points.specs.Points.{point_of, points_of}
 use Rattle.cut_points.specs.Climbs.{Climbs}
-use Rattle.cut_points.specs.PointLaws.{point_in_lem, length_points_of}
+use Rattle.cut_points.specs.PointLaws.{length_points_of}
+use Rattle.cut_points.proofs.RoundedLaws.{point_in_lem}
 use Rattle.cut.specs.Cut.{section, contours_of}
 use Rattle.cut.specs.CutLaws.{one_each}
 use Rattle.cut.specs.SolidLaws.{crossing_climbs}

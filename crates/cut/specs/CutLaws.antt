@@ -22,7 +22,7 @@ use Rattle.section.specs.Layers as layers
 use Rattle.section.specs.OrbitLaws.{at_member}
 use Rattle.section.proofs.LayerLaws.{trace_layer}
 use Rattle.cut_points.specs.Points.{exact_over, exact_under, point_at, points_of}
-use Rattle.cut_points.specs.PointLaws.{point_near, points_in_lem}
+use Rattle.cut_points.proofs.RoundedLaws.{point_near, points_in_lem}
 use Rattle.cut.specs.declared.CutAnswer.{CutAnswer}
 use Rattle.cut.specs.declared.CutAnswer.TheVariants.{Layer, Refused}
 use Rattle.cut.specs.Cut.{CutTables, section, contours_of, counts_of, tables_after_cut, cutting, tell_cut, Cuts}

@@ -25,7 +25,8 @@ use Rattle.mesh.specs.Tests.{sizes_fit, out_of_range, vertex, triangle, pairs}
 use Rattle.section.specs.Section.{VertexSet, below}
 use Rattle.section.specs.Contours.{names_of, trace, ends_of}
 use Rattle.cut_points.specs.Points.{numerator, denominator, rounded, exact_over, exact_under, point_at, points_of}
-use Rattle.cut_points.specs.PointLaws.{rounded_neg, length_points_of, points_at_lem}
+use Rattle.cut_points.specs.PointLaws.{length_points_of, points_at_lem}
+use Rattle.cut_points.proofs.RoundedLaws.{rounded_neg}
 use Rattle.cut.specs.declared.CutAnswer.{CutAnswer}
 use Rattle.cut.specs.declared.CutAnswer.TheVariants.{Layer, Refused}
 use Rattle.cut.specs.Cut.{CutTables, lent, lengths_of, room, used, section, contours_of, counts_of, tables_after_cut, cutting, tell_cut, Cuts}
