@@ -3,3 +3,5 @@ pub mod Answering
 pub mod LayerCharges
 pub mod LayerRuns
 pub mod FileCharges
+pub mod InkLaws
+pub mod ReadLaws

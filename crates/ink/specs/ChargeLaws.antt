@@ -1,12 +1,12 @@
 -- Laws of charges: what rounding up gives, that nothing is lost where it is done in parts, and how large a charge can be.
-use Rattle.std.specs.Prelude.{ℕ, ◌+◌, ◌-◌, ◌*◌, ◌/◌, ◌%◌, ◌<◌, ◌≤◌, ◌^◌, ◌≡◌, refl, List, [], ◌∷◌, ◌++◌, ◌↔◌, length, ℤ, pos, negsuc, nat_abs}
+use Rattle.std.specs.Prelude.{ℕ, ◌+◌, ◌-◌, ◌*◌, ◌/◌, ◌%◌, ◌<◌, ◌≤◌, ◌≡◌, refl, List, [], ◌∷◌, ◌++◌, ◌↔◌, length, ℤ, pos, negsuc, nat_abs}
 use Rattle.std.proofs.Common.{sym, ap, ◌∙◌, arith, mul-le-mul, mul-le-mul_right, le_trans, div-mul-le_self, div-add-mod'}
 use Rattle.std.proofs.Math.Nat.{lt-div-mul-add, div-eq_of_lt-le, mul-add-div_right}
 use Rattle.polygons.specs.Flat.{Point, PointNear, most_points, Each}
 use Rattle.polygons.specs.ContourAreas.{layer_area, largest_cross}
 use Rattle.polygons.specs.AreaBoundLaws.{layer_area_le}
-use Rattle.file_formats.specs.LayerFile.{Layer, most_layers}
-use Rattle.file_formats.specs.LayerRules.{ContourRules, LayerRules, Rules}
+use Rattle.file_formats.specs.LayerFile.{Layer}
+use Rattle.file_formats.specs.LayerRules.{ContourRules, LayerRules}
 use Rattle.ink.specs.Charges.{doubled_nanolitre, divided_up, layer_charge, job_charge}
 use Rattle.ink.specs.Inking.{most_thickness}
 
@@ -65,7 +65,10 @@ unfolding layer_charge
 charge_le t (pos s) h a =
     let p : s * t ≤ most_points * largest_cross * most_thickness = mul-le-mul a h in
     omega arith
-charge_le t (negsuc s) h a = omega arith
+charge_le t (negsuc s) h a =
+    let size : s + 1 ≤ most_points * largest_cross = omega (arith, a) in
+    let p : (s + 1) * t ≤ most_points * largest_cross * most_thickness = mul-le-mul size h in
+    omega arith
 
 contours_near : (cs : List (List Point)) → Each ContourRules cs → Each (Each PointNear) cs
 contours_near [] e = tt
@@ -82,8 +85,3 @@ pub job_charge_le : (t : ℕ) (ls : List Layer) → t ≤ most_thickness → Eac
 unfolding job_charge
 job_charge_le t [] h e = omega arith
 job_charge_le t (l ∷ ls) h e = omega (arith, layer_charge_le t l h e.0, job_charge_le t ls h e.1)
-
-pub job_fits : (t : ℕ) (ls : List Layer) → t ≤ most_thickness → Rules ls → (job_charge t ls ≤ most_layers * most_charge) × (job_charge t ls < 2 ^ 63)
-job_fits t ls h r =
-    let p = le_trans (job_charge_le t ls h r.each) (mul-le-mul_right most_charge r.few) in
-    (p, omega (arith, p))

@@ -1,6 +1,7 @@
--- What Ink promises: it refuses exactly if a listed condition holds, at its place; its answer is the only one; 13 exactly where Read layer is refused so,
--- 19 exactly if the file holds layers and the thickness is out of its range; and all else is charged what its layers are, less than 2 ^ 63.
-use Rattle.std.specs.Prelude.{ℕ, ◌<◌, ◌≤◌, ◌^◌, ◌≡◌, Bool, not, ◌&&◌, List, [], ◌∷◌, ◌↔◌, ◌⊎◌}
+-- What Ink promises: it refuses exactly if a listed condition holds, at its place; its answer is the only one; 13 exactly where the file breaks a rule,
+-- 19 exactly if the file holds layers and the thickness is out of its range; and all else is charged what its layers are. That it refuses with 13 where
+-- Read layer does, and charges less than 2 ^ 63, is in proofs/InkLaws.antt.
+use Rattle.std.specs.Prelude.{ℕ, ◌<◌, ◌≤◌, ◌≡◌, Bool, not, ◌&&◌, List, [], ◌∷◌, ◌↔◌, ◌⊎◌}
 use Rattle.std.proofs.Math.Path.{refl}
 use Rattle.std.proofs.Common.{sym, ap, ◌∙◌, arith}
 use Rattle.std.proofs.Math.Bool.{true, false}
@@ -13,20 +14,13 @@ use Rattle.mesh.specs.OperationLaws.{First, None, whole_refused, whole_fine, the
 use Rattle.mesh.specs.OperationLaws.{refused_exactly, given_exactly, only_outcome, same_refusal, apart}
 use Rattle.mesh.specs.Refusals.{Told, refusal}
 use Rattle.mesh.specs.RefusalLaws.{refusal_of, refusal_once}
-use Rattle.polygons.specs.Flat.{FlatLayer}
-use Rattle.cleaning.specs.declared.Profile.{Profile}
 use Rattle.cleaning.specs.declared.Profile.TheVariants.{Full}
 use Rattle.file_formats.specs.Formats.{Decoded, holds, broken}
-use Rattle.file_formats.specs.FormatLaws.{Bytes}
 use Rattle.file_formats.specs.LayerFile.{Layer, layers_of}
-use Rattle.file_formats.specs.RoundTripLaws.{layers_written}
-use Rattle.file_formats.specs.WholeFiles.{layers_in}
+use Rattle.file_formats.specs.WholeFiles.{form, layers_in}
 use Rattle.file_formats.specs.WholeFileLaws.{held_or_is, form_first, form_next, fine_holds, thirteen_exactly}
-use Rattle.read_layer.specs.Reading.{tell_read_layer, ReadsLayer}
-use Rattle.read_layer.specs.ReadingLaws.{layers_broken_inside, broken_exactly}
-use Rattle.read_layer.specs.declared.ReadLayerAnswer.{ReadLayerAnswer}
+use Rattle.read_layer.specs.ReadingLaws.{layers_broken_inside}
 use Rattle.ink.specs.Charges.{job_charge}
-use Rattle.ink.specs.ChargeLaws.{job_fits}
 use Rattle.ink.specs.Inking.{least_thickness, most_thickness, thickness_fits, wrong_thickness, inking, tell_ink, Inks}
 use Rattle.ink.specs.declared.InkAnswer.{InkAnswer}
 use Rattle.ink.specs.declared.InkAnswer.TheVariants.{Charge, Refused}
@@ -66,28 +60,43 @@ module _ (file : List ℕ) (t : ℕ) where
   abbrev others : List (Condition Told)
   others = wrong_thickness t ∷ []
 
-  pub ink_verdict_broken : {q : ℕ} → layers_of file ≡ broken q → verdict (inking (file, t)).refusals ≡ refuses (refusal 13 q)
-  ink_verdict_broken e = form_first 13 file (layers_of file) (layers_broken_inside Full file) others e
+  -- the two tests, in order
+  abbrev tests : List (Condition Told)
+  tests = form file (layers_of file) ∷ others
+
+  tests_broken : {q : ℕ} → layers_of file ≡ broken q → verdict tests ≡ refuses (refusal 13 q)
+  tests_broken e = form_first 13 file (layers_of file) (layers_broken_inside Full file) others e
 
   module _ {ls : List Layer} (e : layers_of file ≡ holds ls) where
-    left : verdict (inking (file, t)).refusals ≡ verdict others
+    left : verdict tests ≡ verdict others
     left = form_next 13 file (layers_of file) (layers_broken_inside Full file) others e
 
-    pub ink_verdict_out : thickness_fits t ≡ false → verdict (inking (file, t)).refusals ≡ refuses (refusal 19 0)
-    ink_verdict_out f = left ∙ sym (whole_refused (refusal 19) (not (thickness_fits t)) (ap not f) ∙ verdict_one (wrong_thickness t))
+    tests_out : thickness_fits t ≡ false → verdict tests ≡ refuses (refusal 19 0)
+    tests_out f = left ∙ sym (whole_refused (refusal 19) (not (thickness_fits t)) (ap not f) ∙ verdict_one (wrong_thickness t))
 
-    pub ink_verdict_fine : thickness_fits t ≡ true → verdict (inking (file, t)).refusals ≡ fine
-    ink_verdict_fine f = left ∙ sym (whole_fine (refusal 19) (not (thickness_fits t)) (ap not f) ∙ verdict_one (wrong_thickness t))
+    tests_fine : thickness_fits t ≡ true → verdict tests ≡ fine
+    tests_fine f = left ∙ sym (whole_fine (refusal 19) (not (thickness_fits t)) (ap not f) ∙ verdict_one (wrong_thickness t))
 
   -- where nothing is refused
-  fine_charged : verdict (inking (file, t)).refusals ≡ fine → ((ls : List Layer) × (layers_of file ≡ holds ls)) × (thickness_fits t ≡ true)
+  fine_charged : verdict tests ≡ fine → ((ls : List Layer) × (layers_of file ≡ holds ls)) × (thickness_fits t ≡ true)
   fine_charged v =
       let h = fine_holds 13 file (layers_of file) (layers_broken_inside Full file) others v in
       (h, by (thickness_fits t) refl h.1)
     where
       by : (b : Bool) → thickness_fits t ≡ b → {ls : List Layer} → layers_of file ≡ holds ls → thickness_fits t ≡ true
       by true f e = f
-      by false f e = apart (sym (ink_verdict_out e f) ∙ v)
+      by false f e = apart (sym (tests_out e f) ∙ v)
+
+  -- these are what Ink asks
+  pub ink_verdict_broken : {q : ℕ} → layers_of file ≡ broken q → verdict (inking (file, t)).refusals ≡ refuses (refusal 13 q)
+  ink_verdict_broken e = tests_broken e
+
+  pub ink_verdict_out : {ls : List Layer} → layers_of file ≡ holds ls → thickness_fits t ≡ false
+      → verdict (inking (file, t)).refusals ≡ refuses (refusal 19 0)
+  ink_verdict_out e f = tests_out e f
+
+  pub ink_verdict_fine : {ls : List Layer} → layers_of file ≡ holds ls → thickness_fits t ≡ true → verdict (inking (file, t)).refusals ≡ fine
+  ink_verdict_fine e f = tests_fine e f
 
 -- ---- Ink
 
@@ -119,33 +128,28 @@ module _ {file : List ℕ} {t : ℕ} {result : InkAnswer} (d : Inks file t resul
   pub ink_broken : (q : ℕ) → (tell_ink result ≡ refuses (refusal 13 q)) ↔ (layers_of file ≡ broken q)
   ink_broken q = (
     (λ e. (thirteen_exactly file (layers_of file) (layers_broken_inside Full file) (others file t) ((λ j e. omega arith), tt) q).0 (refused_verdict d e)),
-    (λ e. d.answers ∙ sym (then_refused _ (ink_verdict_broken file t e))),
+    (λ e. d.answers ∙ sym (then_refused _ (tests_broken file t e))),
   )
-
-  -- and so that of Read layer, in both profiles, whatever layer it is asked for and whatever its tables are
-  pub broken_alike : {p : Profile} {i : ℕ} {u : FlatLayer} {other : ReadLayerAnswer} {u' : FlatLayer} → ReadsLayer p file i u other u'
-      → (q : ℕ) → (tell_ink result ≡ refuses (refusal 13 q)) ↔ (tell_read_layer other ≡ refuses (refusal 13 q))
-  broken_alike r q = ((λ e. (broken_exactly r q).1 ((ink_broken q).0 e)), (λ e. (ink_broken q).1 ((broken_exactly r q).0 e)))
 
   -- refused with 19 exactly if the file holds layers and the thickness is out of its range
   pub ink_thickness : (tell_ink result ≡ refuses (refusal 19 0)) ↔ (((ls : List Layer) × (layers_of file ≡ holds ls)) × ThicknessOut t)
   ink_thickness = (
     (λ e. by (layers_of file) refl (thickness_fits t) refl (refused_verdict d e)),
-    (λ h. d.answers ∙ sym (then_refused _ (ink_verdict_out file t h.0.1 ((thickness_out t).1 h.1)))),
+    (λ h. d.answers ∙ sym (then_refused _ (tests_out file t h.0.1 ((thickness_out t).1 h.1)))),
   )
     where
       by : (x : Decoded (List Layer)) → layers_of file ≡ x → (b : Bool) → thickness_fits t ≡ b → verdict (inking (file, t)).refusals ≡ refuses (refusal 19 0)
           → ((ls : List Layer) × (layers_of file ≡ holds ls)) × ThicknessOut t
       by (broken q) e b f v =
-          let n : refusal 13 q ≡ refusal 19 0 = same_refusal (sym (ink_verdict_broken file t e) ∙ v) in
+          let n : refusal 13 q ≡ refusal 19 0 = same_refusal (sym (tests_broken file t e) ∙ v) in
           absurd (omega (arith, ap (λ (r : Told). r.number) n))
-      by (holds ls) e true f v = apart (sym v ∙ ink_verdict_fine file t e f)
+      by (holds ls) e true f v = apart (sym v ∙ tests_fine file t e f)
       by (holds ls) e false f v = ((ls, e), (thickness_out t).0 f)
 
   -- what the layers of a file are charged, at a thickness in its range, is answered
   pub ink_charges : {ls : List Layer} → layers_of file ≡ holds ls → least_thickness ≤ t → t ≤ most_thickness → tell_ink result ≡ gives (job_charge t ls)
   ink_charges e h k =
-      d.answers ∙ sym (then_fine (ink_verdict_fine file t e (thickness_of t h k))) ∙ ap (λ (ls : List Layer). gives (job_charge t ls)) (held_or_is [] e)
+      d.answers ∙ sym (then_fine (tests_fine file t e (thickness_of t h k))) ∙ ap (λ (ls : List Layer). gives (job_charge t ls)) (held_or_is [] e)
 
   -- and nothing else
   pub ink_charged : {c : ℕ} → tell_ink result ≡ gives c → (ls : List Layer) × Charged file t c ls
@@ -154,10 +158,3 @@ module _ {file : List ℕ} {t : ℕ} {result : InkAnswer} (d : Inks file t resul
       let h = fine_charged file t v.0 in
       let k = thickness_in t h.1 in
       (h.0.0, record { held = h.0.1; least = k.0; most = k.1; is = v.1 ∙ ap (job_charge t) (held_or_is [] h.0.1) })
-
-  -- a charge is below 2 ^ 63
-  pub ink_fits : Bytes file → {c : ℕ} → tell_ink result ≡ gives c → c < 2 ^ 63
-  ink_fits bytes e =
-      let g = ink_charged e in
-      let h = g.1 in
-      omega (arith, h.is, (job_fits t g.0 h.most (layers_written file g.0 bytes h.held).0).1)

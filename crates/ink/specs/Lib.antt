@@ -5,5 +5,4 @@ pub mod Steps
 pub mod ReadAreas
 pub mod ChargeLaws
 pub mod InkLaws
-pub mod ReadLaws
 pub mod Worked

@@ -3,3 +3,4 @@ pub mod PointFills
 pub mod LayerFills
 pub mod LayerSearch
 pub mod Answering
+pub mod ReadingLaws

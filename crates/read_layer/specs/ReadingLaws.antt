@@ -1,26 +1,25 @@
--- What Read layer promises, in both profiles: it refuses exactly if a listed condition holds, at its place; its outcome is the only one; 13 exactly if the
--- file is not the encoding of layers that obey the rules, 18 exactly if the clean profile alters them; and from any other file it gives the layer.
+-- What Read layer promises, in both profiles: it refuses exactly if a listed condition holds, at its place; its outcome is the only one; and it gives the
+-- layer of a file that it does not refuse. When it refuses with 13, and when with 18, is in proofs/ReadingLaws.antt.
 use Rattle.std.specs.Prelude.{ℕ, ◌*◌, ◌≤◌, ◌<◌, ◌≡◌, refl, true, false, not, List, [], ◌∷◌, ◌++◌, map, ◌↔◌, leb, length, ℤ, pos}
 use Rattle.std.proofs.Math.Path.{sym}
-use Rattle.std.proofs.Common.{ap, ◌∙◌, subst, arith, le-leb, leb-false}
+use Rattle.std.proofs.Common.{ap, ◌∙◌, arith, le-leb, leb-false}
 use Rattle.std.proofs.lemmas.Bool.{lt-leb}
 use Rattle.laws.specs.Booleans.{and_of}
 use Rattle.mesh.specs.Operation.{gives, refuses, fine, Condition, test, ◌then◌, verdict}
 use Rattle.mesh.specs.OperationLaws.{First, None, more, whole_refused, whole_fine, then_refused, then_fine, verdict_one, fine_none, Recovers}
 use Rattle.mesh.specs.OperationLaws.{refused_verdict, given_verdict, refused_exactly, given_exactly, left_refused, only_outcome}
-use Rattle.mesh.specs.OperationLaws.{after_kept, same_refusal, Every, refused_every}
+use Rattle.mesh.specs.OperationLaws.{after_kept, Every, refused_every}
 use Rattle.mesh.specs.Refusals.{Told, refusal, numbered}
 use Rattle.mesh.specs.RefusalLaws.{refusal_of, refusal_once}
 use Rattle.polygons.specs.Flat.{FlatLayer, flat, flat_of}
 use Rattle.cleaning.specs.declared.Profile.{Profile}
 use Rattle.cleaning.specs.declared.Profile.TheVariants.{Full, Clean}
-use Rattle.file_formats.specs.Formats.{Decoded, holds, broken}
+use Rattle.file_formats.specs.Formats.{holds, broken}
 use Rattle.file_formats.specs.FormatLaws.{Bytes}
 use Rattle.file_formats.specs.LayerFile.{Layer, layer_in, layer_file, layer_file_in, layers_of, layers_of_in}
 use Rattle.file_formats.specs.LayerRules.{point_total, Rules}
-use Rattle.file_formats.specs.RoundTripLaws.{layers_read_back, layers_written}
-use Rattle.file_formats.specs.CleanFileLaws.{layers_full, read_back_in, written_in, read_exactly_in, FirstUnclean, clean_place}
-use Rattle.file_formats.specs.WholeFileLaws.{decode_inside, held_or_is, form_first, form_next, fine_holds, thirteen_exactly, eighteen_exactly}
+use Rattle.file_formats.specs.CleanFileLaws.{layers_full, read_back_in, written_in}
+use Rattle.file_formats.specs.WholeFileLaws.{decode_inside, held_or_is, form_first, form_next, fine_holds, thirteen_exactly}
 use Rattle.read_layer.specs.Reading.{layers_in, layer_at, no_layer, Entries, entries_of, read_layer_room_for, layer_has_room, no_layer_room, profile_tests}
 use Rattle.read_layer.specs.Reading.{reading_tests, layer_counts, fills_layer}
 use Rattle.read_layer.specs.Reading.{tell_read_layer, ReadsLayer}
@@ -45,15 +44,15 @@ module _ (file : List ℕ) (i : ℕ) (n : Entries) where
 
   -- ---- 13, and 18 in the clean profile
 
-  others_not_13 : (p : Profile) → Every (λ r. r.number ≡ 13 → ⊥) (others p)
-  others_not_13 Full = ((λ j e. omega arith), ((λ j e. omega arith), tt))
-  others_not_13 Clean = ((λ j e. omega arith), ((λ j e. omega arith), ((λ j e. omega arith), tt)))
-
   pub verdict_broken : (p : Profile) {q : ℕ} → layers_of file ≡ broken q → verdict (reading_tests p file i n) ≡ refuses (refusal 13 q)
   verdict_broken p e = form_first 13 file (layers_of file) (layers_broken_inside Full file) (others p) e
 
   pub broken_verdict : (p : Profile) (q : ℕ) → (verdict (reading_tests p file i n) ≡ refuses (refusal 13 q)) ↔ (layers_of file ≡ broken q)
-  broken_verdict p = thirteen_exactly file (layers_of file) (layers_broken_inside Full file) (others p) (others_not_13 p)
+  broken_verdict p = thirteen_exactly file (layers_of file) (layers_broken_inside Full file) (others p) (not_13 p)
+    where
+      not_13 : (p : Profile) → Every (λ r. r.number ≡ 13 → ⊥) (others p)
+      not_13 Full = ((λ j e. omega arith), ((λ j e. omega arith), tt))
+      not_13 Clean = ((λ j e. omega arith), ((λ j e. omega arith), ((λ j e. omega arith), tt)))
 
   past_13 : (p : Profile) {ls : List Layer} → layers_of file ≡ holds ls → verdict (reading_tests p file i n) ≡ verdict (others p)
   past_13 p e = form_next 13 file (layers_of file) (layers_broken_inside Full file) (others p) e
@@ -61,23 +60,6 @@ module _ (file : List ℕ) (i : ℕ) (n : Entries) where
   pub verdict_unclean : {ls : List Layer} → layers_of file ≡ holds ls → {q : ℕ} → layers_of_in Clean file ≡ broken q
       → verdict (reading_tests Clean file i n) ≡ refuses (refusal 18 q)
   verdict_unclean h e = past_13 Clean h ∙ form_first 18 file (layers_of_in Clean file) (layers_broken_inside Clean file) (rest (layers_in file)) e
-
-  -- 18 fits exactly a file that is none of the clean profile, but one of the full
-  pub unclean_verdict : (q : ℕ)
-      → (verdict (reading_tests Clean file i n) ≡ refuses (refusal 18 q)) ↔
-      (((ls : List Layer) × (layers_of file ≡ holds ls)) × (layers_of_in Clean file ≡ broken q))
-  unclean_verdict q = ((λ v. by (layers_of file) refl v), (λ h. verdict_unclean h.0.1 h.1))
-    where
-      by : (d : Decoded (List Layer)) → layers_of file ≡ d → verdict (reading_tests Clean file i n) ≡ refuses (refusal 18 q)
-          → ((ls : List Layer) × (layers_of file ≡ holds ls)) × (layers_of_in Clean file ≡ broken q)
-      by (broken k) e v =
-          let f : refusal 13 k ≡ refusal 18 q = same_refusal (sym (verdict_broken Clean e) ∙ v) in
-          absurd (omega (arith, ap (λ (r : Told). r.number) f))
-      by (holds ls) e v = (
-        (ls, e),
-        (eighteen_exactly file (layers_of_in Clean file) (layers_broken_inside Clean file) (rest (layers_in file))
-            ((λ j e. omega arith), ((λ j e. omega arith), tt)) q).0 (sym (past_13 Clean e) ∙ v),
-      )
 
   -- ---- the others, of a file of the profile
 
@@ -89,7 +71,7 @@ module _ (file : List ℕ) (i : ℕ) (n : Entries) where
       where
         by : (p : Profile) → layers_of_in p file ≡ holds ls → verdict (others p) ≡ verdict (rest (layers_in file))
         by Full e = refl
-        by Clean e = form_next 18 file (layers_of_in Clean file) (layers_broken_inside Clean file) (rest (layers_in file)) e
+        by Clean e = form_next _ file (layers_of_in Clean file) (layers_broken_inside Clean file) (rest (layers_in file)) e
 
     pub verdict_absent : length ls ≤ i → verdict (reading_tests p file i n) ≡ refuses (refusal 15 0)
     unfolding verdict
@@ -98,7 +80,7 @@ module _ (file : List ℕ) (i : ℕ) (n : Entries) where
     module _ (h : i < length ls) where
       there : verdict (rest ls) ≡ test (no_layer_room (layer_at ls i) n)
       unfolding verdict
-      there = sym (verdict_one (no_layer_room (layer_at ls i) n) ∙ then_fine (sym (whole_fine (refusal 15) (leb (length ls) i) (lt-leb (length ls) i h))))
+      there = sym (verdict_one (no_layer_room (layer_at ls i) n) ∙ then_fine (sym (whole_fine _ (leb (length ls) i) (lt-leb (length ls) i h))))
 
       pub verdict_short : layer_has_room (layer_at ls i) n ≡ false → verdict (reading_tests p file i n) ≡ refuses (refusal 9 0)
       verdict_short t = left ∙ there ∙ sym (whole_refused (refusal 9) (not (layer_has_room (layer_at ls i) n)) (ap not t))
@@ -124,7 +106,7 @@ module _ (file : List ℕ) (i : ℕ) (n : Entries) where
       held Full v = fine_holds 13 file (layers_of file) (layers_broken_inside Full file) (others Full) v
       held Clean v =
           let h = fine_holds 13 file (layers_of file) (layers_broken_inside Full file) (others Clean) v in
-          fine_holds 18 file (layers_of_in Clean file) (layers_broken_inside Clean file) (rest (layers_in file)) (sym (past_13 Clean h.1) ∙ v)
+          fine_holds _ file (layers_of_in Clean file) (layers_broken_inside Clean file) (rest (layers_in file)) (sym (past_13 Clean h.1) ∙ v)
 
       found : (p : Profile) → None (reading_tests p file i n) → leb (length (layers_in file)) i ≡ false
       found Full (more a (more b c)) = b 0 (omega arith)
@@ -162,29 +144,6 @@ module _ {p : Profile} {file : List ℕ} {i : ℕ} {t : FlatLayer} {result : Rea
   -- both tables stay on refusal
   pub refused_stays : {r : Told} → tell_read_layer result ≡ refuses r → t' ≡ t
   refused_stays {r} e = left_refused c e ∙ sym (refused_keeps (layer_at (layers_in file) i) t r)
-
-  -- refusal 13 is that of the file's format, in both profiles
-  pub broken_exactly : (q : ℕ) → (tell_read_layer result ≡ refuses (refusal 13 q)) ↔ (layers_of file ≡ broken q)
-  broken_exactly q = (
-    (λ e. (broken_verdict file i (entries_of t) p q).0 (refused_verdict c e)),
-    (λ e. c.answers ∙ sym (then_refused _ (verdict_broken file i (entries_of t) p e))),
-  )
-
-  -- refused with 13 exactly if the file is not the encoding of layers that obey the rules
-  pub unwritten_exactly : Bytes file
-      → ((q : ℕ) × (tell_read_layer result ≡ refuses (refusal 13 q))) ↔ ((ls : List Layer) → Rules ls → file ≡ layer_file.encode ls → ⊥)
-  unwritten_exactly bytes = (to, (λ h. by h (layers_of file) refl))
-    where
-      to : (q : ℕ) × (tell_read_layer result ≡ refuses (refusal 13 q)) → (ls : List Layer) → Rules ls → file ≡ layer_file.encode ls → ⊥
-      to q ls r w =
-          let e = (broken_exactly q.0).0 q.1 in
-          let f = ap layers_of w ∙ layers_read_back ls r in
-          let z : ◌≡◌ {A = ℕ} 0 1 = cc in omega arith
-
-      by : ((ls : List Layer) → Rules ls → file ≡ layer_file.encode ls → ⊥) → (d : Decoded (List Layer)) → layers_of file ≡ d
-          → (q : ℕ) × (tell_read_layer result ≡ refuses (refusal 13 q))
-      by h (broken q) e = (q, (broken_exactly q).1 e)
-      by h (holds ls) e = let w = layers_written file ls bytes e in absurd (h ls w.0 w.1)
 
   -- layer i of these layers is answered, and fills_layer the tables
   pub record Gives (ls : List Layer) : Type 0 where
@@ -228,44 +187,6 @@ module _ {p : Profile} {file : List ℕ} {i : ℕ} {t : FlatLayer} {result : Rea
 -- ---- 18, in the clean profile alone
 
 module _ {file : List ℕ} {i : ℕ} {t : FlatLayer} {result : ReadLayerAnswer} {t' : FlatLayer} where
-  -- refused with 18 exactly if the file is one of the full profile and none of the clean one, which breaks there: see `clean_place`, CleanFileLaws
-  pub unclean_exactly : ReadsLayer Clean file i t result t' → (q : ℕ)
-      → (tell_read_layer result ≡ refuses (refusal 18 q)) ↔ (((ls : List Layer) × (layers_of file ≡ holds ls)) × (layers_of_in Clean file ≡ broken q))
-  unclean_exactly c q = (
-    (λ e. (unclean_verdict file i (entries_of t) q).0 (refused_verdict c e)),
-    (λ h. c.answers ∙ sym (then_refused _ (verdict_unclean file i (entries_of t) h.0.1 h.1))),
-  )
-
-  -- and there stands the first contour that is not clean, in whatever layer
-  pub unclean_first_lem : ReadsLayer Clean file i t result t' → Bytes file → {q : ℕ} → tell_read_layer result ≡ refuses (refusal 18 q)
-      → (ls : List Layer) × FirstUnclean file ls q
-  unclean_first_lem c bytes {q} e = let h = (unclean_exactly c q).0 e in (h.0.0, clean_place file h.0.0 bytes h.0.1 q h.1)
-
-  -- so it is refused with 18 exactly if it is the encoding of layers that obey the rules, and cleaning alters them
-  pub altered_exactly : ReadsLayer Clean file i t result t' → Bytes file
-      → ((q : ℕ) × (tell_read_layer result ≡ refuses (refusal 18 q)))
-      ↔ ((ls : List Layer) × Rules ls × (file ≡ layer_file.encode ls) × (map (layer_in Clean) ls ≡ ls → ⊥))
-  altered_exactly c bytes = (to, (λ (ls, r, w, s). by ls r w s (layers_of_in Clean file) refl))
-    where
-      to : (q : ℕ) × (tell_read_layer result ≡ refuses (refusal 18 q))
-          → (ls : List Layer) × Rules ls × (file ≡ layer_file.encode ls) × (map (layer_in Clean) ls ≡ ls → ⊥)
-      to (q, e) =
-          let h = (unclean_exactly c q).0 e in
-          let w = layers_written file h.0.0 bytes h.0.1 in
-          (h.0.0, w.0, w.1, (λ s. apart_decoded (sym ((read_exactly_in Clean file h.0.0 bytes).1 (h.0.1, s)) ∙ h.1)))
-        where
-          apart_decoded : {ls : List Layer} {k : ℕ} → holds ls ≡ broken k → ⊥
-          apart_decoded e = let z : ◌≡◌ {A = ℕ} 0 1 = cc in omega arith
-
-      by : (ls : List Layer) → Rules ls → file ≡ layer_file.encode ls → (map (layer_in Clean) ls ≡ ls → ⊥) → (d : Decoded (List Layer))
-          → layers_of_in Clean file ≡ d
-          → (q : ℕ) × (tell_read_layer result ≡ refuses (refusal 18 q))
-      by ls r w s (broken q) e = (q, (unclean_exactly c q).1 ((ls, ap layers_of w ∙ layers_read_back ls r), e))
-      by ls r w s (holds ms) e =
-          let full = sym (layers_full Clean file ms e) ∙ ap layers_of w ∙ layers_read_back ls r in
-          let same : ms ≡ ls = cc in
-          absurd (s (subst (λ (ns : List Layer). map (layer_in Clean) ns ≡ ns) same ((read_exactly_in Clean file ms bytes).0 e).1))
-
   -- of a file of the clean profile both profiles answer and leave the same
   pub clean_as_full : {ls : List Layer} → layers_of_in Clean file ≡ holds ls → ReadsLayer Clean file i t result t'
       → {other : ReadLayerAnswer} {u' : FlatLayer} → ReadsLayer Full file i t other u' → (result ≡ other) × (t' ≡ u')
