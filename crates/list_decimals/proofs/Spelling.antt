@@ -10,7 +10,7 @@ use Rattle.file_formats.specs.EmitLaws.{Emit, emit_start, emit_one_fits, emit_on
 use lib.IntN.{ℤ}
 use Rattle.laws.specs.SignLaws.{Negative, NonNegative}
 use Rattle.list_decimals.specs.Decimals.{digit, minus, decimal, signed_decimal}
-use Rattle.list_decimals.specs.DecimalLaws.{decimal_one, decimal_more, length_more, decimal_pos}
+use Rattle.list_decimals.proofs.DecimalLaws.{decimal_one, decimal_more, length_more, decimal_pos}
 use Rattle.list_decimals.specs.Texts.{TextRoom, PutsText}
 
 -- ---- digits

@@ -8,7 +8,7 @@ use lib.IntN.{ℤ}
 use lib.Signed.{mag}
 use Rattle.mesh.specs.Refusals.{Told, refusal}
 use Rattle.polygons.specs.FlatLaws.{length_flatten}
-use Rattle.list_decimals.specs.DecimalLaws.{decimal_word, signed_word_lem}
+use Rattle.list_decimals.proofs.DecimalLaws.{decimal_word, signed_word_lem}
 use Rattle.list_decimals.specs.Texts.{TextRoom, PutsText}
 use Rattle.list_decimals.specs.TextLaws.{TextWriting, text_writing, next_room, next_put, all_put}
 use Rattle.list_lines.specs.Lines.{refused_words, refused_line, layers_words, layers_line, layer_line_words, layer_line}
