@@ -12,7 +12,7 @@ use Rattle.laws.specs.Booleans.{clash, is_true, is_false, and_parts, split_lt}
 use Rattle.laws.specs.Tables.{overwrite}
 use Rattle.laws.specs.TableLaws.{length_snoc, overwrite_none, length_overwrite, overwrite_snoc, overwrite_more}
 use Rattle.mesh.specs.Meshes.{PairedMesh}
-use Rattle.polygons.specs.FlatLaws.{length_ends}
+use Rattle.polygons.proofs.FlatLaws.{length_ends}
 use Rattle.section.specs.Section.{below, rising, Among, Right}
 use Rattle.section.specs.Rings.{Ring}
 use Rattle.section.specs.Contours.{member, contours, names_of as flat, trace_to, trace, ends_from, ends_of}

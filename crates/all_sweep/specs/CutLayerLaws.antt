@@ -14,7 +14,7 @@ use Rattle.laws.specs.TableLaws.{length_overwrite, overwrite_at, overwrite_front
 use Rattle.mesh.specs.Corners.{triangle_count}
 use Rattle.mesh.specs.Meshes.{Mesh, PairedMesh}
 use Rattle.polygons.specs.Flat.{flat, polygons_of}
-use Rattle.polygons.specs.FlatLaws.{length_points}
+use Rattle.polygons.proofs.FlatLaws.{length_points}
 use Rattle.cleaning.specs.Cleaning.{cleaned}
 use Rattle.cleaning.specs.declared.Profile.{Profile}
 use Rattle.cleaning.specs.declared.Profile.TheVariants.{Full, Clean}

@@ -15,7 +15,7 @@ use Rattle.mesh.specs.Operation.{gives, refuses, fine, Condition, verdict}
 use Rattle.mesh.specs.OperationLaws.{First, None, more, fine_none, join_fine, Recovers, given_verdict, refused_exactly, given_exactly, left_given, only_outcome}
 use Rattle.mesh.specs.Refusals.{Told}
 use Rattle.mesh.specs.RefusalLaws.{refusal_of, refusal_once}
-use Rattle.cleaning.specs.CleaningLaws.{cleaned_twice}
+use Rattle.cleaning.proofs.CleaningLaws.{cleaned_twice}
 use Rattle.cleaning.specs.declared.Profile.{Profile}
 use Rattle.cleaning.specs.declared.Profile.TheVariants.{Full, Clean}
 use Rattle.section.specs.Section.{Right}

@@ -14,7 +14,7 @@ use Rattle.mesh.specs.Refusals.{Told, refusal, told_of}
 use Rattle.mesh.specs.declared.Refusal.{Refusal}
 use Rattle.mesh.specs.declared.Refusal.TheVariants.{Room}
 use Rattle.polygons.specs.Flat.{FlatLayer, layer_tests}
-use Rattle.polygons.specs.FlatLaws.{layer_tested}
+use Rattle.polygons.proofs.FlatLaws.{layer_tested}
 use Rattle.clean_layers.specs.Layers.{Fills, CleanTables}
 use Rattle.clean.specs.declared.CleanAnswer.TheVariants.{Layer, Refused}
 use Rattle.clean.specs.Clean.{clean_room_for, no_clean_room, cleaned_of, Cleans}

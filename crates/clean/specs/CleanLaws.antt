@@ -10,15 +10,15 @@ use Rattle.mesh.specs.Refusals.{Told}
 use Rattle.mesh.specs.RefusalLaws.{refusal_of, refusal_once}
 use Rattle.polygons.specs.Flat.{PointNear, fewest_points, point_total, FlatLayer, flat_of, ends_rise, last_end, end_before, polygons_of}
 use Rattle.polygons.specs.Flat.{layer_tests}
-use Rattle.polygons.specs.FlatLaws.{LayerTested, layer_tested, tested_fine, tested_near, near_tested, end_rises, polygons_flat}
-use Rattle.polygons.specs.FlatLaws.{layer_polygons}
-use Rattle.polygons.specs.FlatLaws.{front_holding}
+use Rattle.polygons.proofs.FlatLaws.{LayerTested, layer_tested, tested_fine, tested_near, near_tested, end_rises, polygons_flat}
+use Rattle.polygons.proofs.FlatLaws.{layer_polygons}
+use Rattle.polygons.proofs.FlatLaws.{front_holding}
 use Rattle.file_write.specs.LayerTables.{EndsWithin}
 use Rattle.cleaning.specs.Cleaning.{cleaned}
-use Rattle.cleaning.specs.CleaningLaws.{AllClean, cleaned_clean, cleaned_twice}
-use Rattle.cleaning.specs.SizeLaws.{each_cleaned, cleaned_polygons}
+use Rattle.cleaning.proofs.CleaningLaws.{AllClean, cleaned_clean, cleaned_twice}
+use Rattle.cleaning.proofs.SizeLaws.{each_cleaned, cleaned_polygons}
 use Rattle.polygons.specs.ContourAreas.{layer_area}
-use Rattle.cleaning.specs.AreaLaws.{area_cleaned}
+use Rattle.cleaning.proofs.AreaLaws.{area_cleaned}
 use Rattle.clean_layers.specs.Layers.{CleanTables, layer_front}
 use Rattle.clean.specs.declared.CleanAnswer.{CleanAnswer}
 use Rattle.clean.specs.declared.CleanAnswer.TheVariants.{Layer, Refused}

@@ -9,7 +9,7 @@ use lib.Dec.{ltb, leb}
 use lib.IntN.{ℤ}
 use Rattle.polygons.specs.Flat.{Point}
 use Rattle.cleaning.specs.Cleaning.{same_point, trimmed, variety, fewest_different, kept}
-use Rattle.cleaning.specs.VarietyLaws.{kept_is}
+use Rattle.cleaning.proofs.VarietyLaws.{kept_is}
 use Rattle.clean_contour.specs.Parts.{point_in, contour_part, HasPoints, beyond, Found, Trimmed}
 use Rattle.clean_contour.specs.PartLaws.{part_none, part_next, part_last}
 use Rattle.clean_contour.specs.ScanLaws.{beyond_either, beyond_neither, beyond_none, three_one, three_two, three_found, trimmed_last, trimmed_stop}

@@ -12,7 +12,7 @@ use Rattle.cleaning.specs.Cleaning.{same_point, unrepeated, trimmed, kept_before
 use Rattle.cleaning.specs.Tests.{others}
 use Rattle.clean_contour.specs.Parts.{beyond}
 use Rattle.cleaning.specs.PointLaws.{decide, cons_apart, same_is, unrepeated_same, unrepeated_new, Trims, goes, stays, trims}
-use Rattle.cleaning.specs.VarietyLaws.{others_same, others_new, variety_first, variety_none}
+use Rattle.cleaning.proofs.VarietyLaws.{others_same, others_new, variety_first, variety_none}
 
 -- ---- the first point that is neither of two
 

@@ -12,15 +12,15 @@ use lib.IntN.{ℤ}
 use Rattle.laws.specs.Tables.{overwrite}
 use Rattle.laws.specs.TableLaws.{overwrite_none, overwrite_more}
 use Rattle.polygons.specs.Flat.{Point, point_total, FlatLayer, flat, numbers_of, ends_from, ends_of, contours_in, polygons_of}
-use Rattle.polygons.specs.FlatLaws.{length_numbers, numbers_append, length_ends, length_flatten}
+use Rattle.polygons.proofs.FlatLaws.{length_numbers, numbers_append, length_ends, length_flatten}
 use Rattle.file_formats.specs.EmitLaws.{Emit, emit_start, emit, emit_one, emit_end}
 use Rattle.file_write.specs.LayerTables.{EndsWithin, LayerTables}
 use Rattle.cleaning.specs.Cleaning.{neat, kept, cleaned}
 use Rattle.cleaning.specs.declared.Profile.{Profile}
 use Rattle.cleaning.specs.declared.Profile.TheVariants.{Full, Clean}
 use Rattle.cleaning.specs.PointLaws.{decide}
-use Rattle.cleaning.specs.CleaningLaws.{cleaned_kept, cleaned_dropped}
-use Rattle.cleaning.specs.SizeLaws.{length_neat, kept_length, cleaned_total, cleaned_count}
+use Rattle.cleaning.proofs.CleaningLaws.{cleaned_kept, cleaned_dropped}
+use Rattle.cleaning.proofs.SizeLaws.{length_neat, kept_length, cleaned_total, cleaned_count}
 use Rattle.clean_contour.specs.Parts.{contour_part, remains, PointsStand, CleanRoom}
 use Rattle.clean_contour.specs.PartLaws.{part_length, ahead_part, ahead_more, ahead_at, ahead_sets, remains_dropped, remains_kept}
 use Rattle.clean_layers.specs.Layers.{Fills, LeftIn}

@@ -8,8 +8,8 @@ use Rattle.polygons.specs.Flat.{Point}
 use Rattle.cleaning.specs.Cleaning.{same_point, variety, fewest_different, is_clean}
 use Rattle.cleaning.specs.Tests.{others, apart, looks_clean}
 use Rattle.cleaning.specs.PointLaws.{decide, same_is, same_refl}
-use Rattle.cleaning.specs.VarietyLaws.{others_same, others_new, variety_first, variety_none}
-use Rattle.cleaning.specs.CleaningLaws.{looks_clean_lem}
+use Rattle.cleaning.proofs.VarietyLaws.{others_same, others_new, variety_first, variety_none}
+use Rattle.cleaning.proofs.CleaningLaws.{looks_clean_lem}
 use Rattle.clean_test.specs.Seeing.{seen, unseen, seeing, seen_clean, seen_all}
 
 -- ---- one step, by what was seen

@@ -1,1 +1,5 @@
 pub mod Comparing
+pub mod AreaLaws
+pub mod CleaningLaws
+pub mod SizeLaws
+pub mod VarietyLaws

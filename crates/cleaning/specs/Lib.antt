@@ -3,8 +3,4 @@ pub mod Cleaning
 pub mod Profiles
 pub mod Tests
 pub mod PointLaws
-pub mod VarietyLaws
-pub mod CleaningLaws
-pub mod SizeLaws
-pub mod AreaLaws
 pub mod Worked

@@ -6,7 +6,7 @@ use Rattle.mesh.specs.Operation.{gives, ◌then◌, verdict}
 use Rattle.mesh.specs.OperationLaws.{recovered}
 use Rattle.polygons.specs.Flat.{Point}
 use Rattle.polygons.specs.ContourAreas.{layer_area}
-use Rattle.cleaning.specs.AreaLaws.{area_cleaned}
+use Rattle.cleaning.proofs.AreaLaws.{area_cleaned}
 use Rattle.cleaning.specs.Profiles.{profiled}
 use Rattle.cleaning.specs.declared.Profile.{Profile}
 use Rattle.cleaning.specs.declared.Profile.TheVariants.{Full, Clean}

@@ -10,7 +10,7 @@ use Rattle.mesh.specs.Operation.{Answer, gives, after, Nowhere}
 use Rattle.mesh.specs.OperationLaws.{None, more, done, fine_none}
 use Rattle.mesh.specs.Refusals.{Told, refusal, numbered}
 use Rattle.polygons.specs.Flat.{FlatLayer, flat_of, layer_front, polygons_of, layer_tests}
-use Rattle.polygons.specs.FlatLaws.{LayerTested, layer_tested, tested_fine, at_each, front_holding}
+use Rattle.polygons.proofs.FlatLaws.{LayerTested, layer_tested, tested_fine, at_each, front_holding}
 use Rattle.cleaning.specs.declared.Profile.{Profile}
 use Rattle.cleaning.specs.declared.Profile.TheVariants.{Full, Clean}
 use Rattle.file_formats.specs.LayerFile as files

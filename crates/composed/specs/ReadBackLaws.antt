@@ -10,7 +10,7 @@ use Rattle.mesh.specs.Meshes.{PairedMesh, OrderedMesh}
 use Rattle.mesh.specs.Operation.{gives, fine, after}
 use Rattle.mesh.specs.OperationLaws.{given_verdict, left_given}
 use Rattle.polygons.specs.Flat.{FlatLayer, flat, flat_of, numbers_of, ends_of, point_total, polygons_of}
-use Rattle.polygons.specs.FlatLaws.{length_points, length_ends, polygons_flat, front_holding}
+use Rattle.polygons.proofs.FlatLaws.{length_points, length_ends, polygons_flat, front_holding}
 use Rattle.cleaning.specs.Cleaning.{cleaned}
 use Rattle.cleaning.specs.declared.Profile.{Profile}
 use Rattle.cleaning.specs.declared.Profile.TheVariants.{Full, Clean}

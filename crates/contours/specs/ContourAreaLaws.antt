@@ -3,7 +3,7 @@ use Rattle.std.specs.Prelude.{ℕ, zero, suc, ◌+◌, ◌*◌, ◌<◌, ◌≡�
 use Rattle.std.proofs.Common.{sym, ap, ◌∙◌, arith, add-one}
 use Rattle.std.proofs.Math.IntN.{+ℤ_idl, +ℤ_idr, +ℤ_assoc}
 use Rattle.polygons.specs.Flat.{Point, nth_point, FlatLayer, numbers_of, polygons_of, is_layer}
-use Rattle.polygons.specs.FlatLaws.{length_numbers, number_x, number_y}
+use Rattle.polygons.proofs.FlatLaws.{length_numbers, number_x, number_y}
 use Rattle.contours.specs.Areas.{point_count, cross_of, sum_of, area_of}
 use Rattle.contours.specs.AreaLaws.{sum_same, area_none, area_closed}
 use Rattle.contours.specs.Contours.{contour_of}

@@ -2,7 +2,7 @@
 use Rattle.std.specs.Prelude.{ℕ, ◌-◌, ◌*◌, ◌≤◌, ◌<◌, ◌≡◌, true, [], length, get_or, drop}
 use Rattle.std.proofs.Common.{sym, ap, ◌∙◌, arith, length-drop, length-take-le}
 use Rattle.polygons.specs.Flat.{FlatLayer, numbers_of, points_between, polygons_of, is_layer}
-use Rattle.polygons.specs.FlatLaws.{layer_parts, row_points, contour_in_lem, end_rises}
+use Rattle.polygons.proofs.FlatLaws.{layer_parts, row_points, contour_in_lem, end_rises}
 use Rattle.contours.specs.Contours.{prior_end, own_end, contour_of}
 use Rattle.contours.specs.ContourLaws.{contour_of_lem, contour_is}
 

@@ -14,7 +14,7 @@ use Rattle.mesh.specs.Meshes.{Mesh}
 use Rattle.mesh.specs.Tests.{WholeTriangles}
 use Rattle.mesh.specs.TestLaws.{next_below}
 use Rattle.polygons.specs.Flat.{Point, no_point}
-use Rattle.polygons.specs.FlatLaws.{length_numbers, numbers_append, number_x, number_y, map_at}
+use Rattle.polygons.proofs.FlatLaws.{length_numbers, numbers_append, number_x, number_y, map_at}
 use Rattle.cut_points.specs.Points.{numerator, denominator, exact_over, exact_under, point_at, point_of, numbers_of, points_of}
 use Rattle.cut_points.specs.Climbs.{Fraction, CrossedEdge, Climbs}
 

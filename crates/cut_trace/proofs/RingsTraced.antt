@@ -12,7 +12,7 @@ use lib.Seq.{sets}
 use Rattle.laws.specs.Booleans.{clash, is_false, and_parts}
 use Rattle.laws.specs.Tables.{overwrite}
 use Rattle.laws.specs.TableLaws.{length_snoc, overwrite_none, length_overwrite, overwrite_snoc, overwrite_more}
-use Rattle.polygons.specs.FlatLaws.{length_ends}
+use Rattle.polygons.proofs.FlatLaws.{length_ends}
 use Rattle.section.specs.Section.{no_corner, Among}
 use Rattle.section.specs.Rings.{iterate, Ring, Leads}
 use Rattle.section.specs.Contours.{member, Traced, contours, names_of as flat, trace_to, ends_from, ends_of}

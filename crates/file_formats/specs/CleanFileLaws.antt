@@ -9,7 +9,7 @@ use Rattle.laws.specs.Booleans.{from_T}
 use Rattle.cleaning.specs.Cleaning.{is_clean}
 use Rattle.cleaning.specs.Profiles.{profiled, fits_in}
 use Rattle.cleaning.specs.PointLaws.{decide}
-use Rattle.cleaning.specs.CleaningLaws.{AllClean, clean_stays}
+use Rattle.cleaning.proofs.CleaningLaws.{AllClean, clean_stays}
 use Rattle.cleaning.specs.declared.Profile.{Profile}
 use Rattle.cleaning.specs.declared.Profile.TheVariants.{Full, Clean}
 use Rattle.file_formats.specs.Formats.{parsed, refused, Format, obeyed, pair, valid_all, encode_all, state_after, sequence, holds, broken}

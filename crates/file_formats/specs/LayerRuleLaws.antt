@@ -3,7 +3,7 @@ use Rattle.std.specs.Prelude.{List, [], ◌∷◌, ℕ, zero, suc, ◌-◌, ◌*
 use Rattle.std.proofs.Common.{arith, le→leb, leb→le}
 use Rattle.mesh.specs.Corners.{largest}
 use Rattle.polygons.specs.Flat.{PointNear, Polygons, flat_of}
-use Rattle.polygons.specs.FlatLaws.{LayerTested, few_polygons, near_tested}
+use Rattle.polygons.proofs.FlatLaws.{LayerTested, few_polygons, near_tested}
 use Rattle.file_formats.specs.Formats.{valid_all, Each}
 use Rattle.file_formats.specs.NumberLaws.{word_sent, sent_word}
 use Rattle.file_formats.specs.LayerFile.{Point, Layer, most_points, fewest_points, coordinate_format, point_format, origin, latest, contour_format, room_after}

@@ -6,8 +6,8 @@ use Rattle.std.proofs.lemmas.List.{length-map}
 use Rattle.laws.specs.Booleans.{and_parts}
 use Rattle.cleaning.specs.Cleaning.{neat, fewest_different, kept, cleaned, same_points, is_clean}
 use Rattle.cleaning.specs.Profiles.{profiled, fits_in}
-use Rattle.cleaning.specs.CleaningLaws.{cleaned_clean}
-use Rattle.cleaning.specs.SizeLaws.{each_neat, length_neat, kept_length, by_kept, cleaned_total, cleaned_count}
+use Rattle.cleaning.proofs.CleaningLaws.{cleaned_clean}
+use Rattle.cleaning.proofs.SizeLaws.{each_neat, length_neat, kept_length, by_kept, cleaned_total, cleaned_count}
 use Rattle.cleaning.specs.declared.Profile.{Profile}
 use Rattle.cleaning.specs.declared.Profile.TheVariants.{Full, Clean}
 use Rattle.file_formats.specs.Formats.{Each}

@@ -10,8 +10,8 @@ use Rattle.laws.specs.Integers.{abs_sub}
 use Rattle.laws.specs.Tables.{overwrite}
 use Rattle.laws.specs.TableLaws.{overwrite_none, overwrite_more, overwrite_front}
 use Rattle.mesh.specs.Corners.{largest}
-use Rattle.polygons.specs.FlatLaws.{length_numbers, contours_in_lem}
-pub use Rattle.polygons.specs.FlatLaws.{length_ends, length_flatten, flatten_map, ends_map}
+use Rattle.polygons.proofs.FlatLaws.{length_numbers, contours_in_lem}
+pub use Rattle.polygons.proofs.FlatLaws.{length_ends, length_flatten, flatten_map, ends_map}
 use Rattle.file_formats.specs.Formats.{Format, encode_all, Each}
 use Rattle.file_formats.specs.Numbers.{encode_number, zigzag}
 use Rattle.file_formats.specs.NumberLaws.{encode_short, word_bytes, word_sent, zigzag_abs}

@@ -9,7 +9,7 @@ use Rattle.mesh.specs.Operation.{gives, refuses, Finding, verdict, after}
 use Rattle.mesh.specs.OperationLaws.{apart, same_refusal, refused_verdict, given_verdict, left_given}
 use Rattle.mesh.specs.Refusals.{Told, refusal}
 use Rattle.polygons.specs.Flat.{Point, Polygons, FlatLayer, flat_of, holding, Each}
-use Rattle.polygons.specs.FlatLaws.{length_ends, polygons_flat, front_holding, layer_exactly}
+use Rattle.polygons.proofs.FlatLaws.{length_ends, polygons_flat, front_holding, layer_exactly}
 use Rattle.polygons.specs.ContourAreas.{contour_area, layer_area}
 use Rattle.contours.specs.Areas.{sum_of, area_of}
 use Rattle.contours.specs.AreaLaws.{sum_same}

@@ -6,7 +6,7 @@ use Rattle.std.specs.Int.{w32}
 use Rattle.laws.specs.Machine.{same_in}
 use Rattle.mesh.specs.Corners.{largest}
 use Rattle.polygons.specs.Flat.{Point, point, nth_point, PointNear, numbers_of, points_in}
-use Rattle.polygons.specs.FlatLaws.{number_x, number_y, row_points}
+use Rattle.polygons.proofs.FlatLaws.{number_x, number_y, row_points}
 use Rattle.polygons.specs.ContourAreas.{contour_area}
 use Rattle.contours.specs.Areas.{x_of, y_of, area_of}
 use Rattle.contours.specs.Runs.{PointRun}

@@ -7,7 +7,7 @@ use lib.ListN.{length}
 use lib.IntN.{ℤ}
 use lib.Signed.{mag}
 use Rattle.mesh.specs.Refusals.{Told, refusal}
-use Rattle.polygons.specs.FlatLaws.{length_flatten}
+use Rattle.polygons.proofs.FlatLaws.{length_flatten}
 use Rattle.list_decimals.proofs.DecimalLaws.{decimal_word, signed_word_lem}
 use Rattle.list_decimals.specs.Texts.{TextRoom, PutsText}
 use Rattle.list_decimals.specs.TextLaws.{TextWriting, text_writing, next_room, next_put, all_put}

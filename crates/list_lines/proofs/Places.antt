@@ -10,7 +10,7 @@ use Rattle.laws.specs.Tables.{overwrite}
 use Rattle.laws.specs.TableLaws.{overwrite_at}
 use Rattle.mesh.specs.Corners.{largest, most_points}
 use Rattle.mesh.specs.Meshes.{Mesh}
-use Rattle.polygons.specs.FlatLaws.{length_ends}
+use Rattle.polygons.proofs.FlatLaws.{length_ends}
 use Rattle.section.specs.Contours.{names_of, ends_from, ends_of}
 use Rattle.section.specs.Layers.{contour_at}
 use Rattle.section.proofs.LayerLaws.{contours_few}

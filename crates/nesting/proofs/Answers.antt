@@ -12,7 +12,7 @@ use Rattle.mesh.specs.Refusals.{Told, refusal, told_of}
 use Rattle.mesh.specs.declared.Refusal.{Refusal}
 use Rattle.mesh.specs.declared.Refusal.TheVariants.{Room}
 use Rattle.polygons.specs.Flat.{FlatLayer, polygons_of, layer_tests}
-use Rattle.polygons.specs.FlatLaws.{LayerTested, layer_tested}
+use Rattle.polygons.proofs.FlatLaws.{LayerTested, layer_tested}
 use Rattle.nesting.specs.declared.NestingAnswer.TheVariants.{Nested, Refused}
 use Rattle.nesting.specs.Nesting.{NestTables, nest_room_for, no_nest_room, nested, FindsNesting}
 use Rattle.nesting.specs.NestingLaws.{nest_room_parts}

@@ -10,7 +10,7 @@ use Rattle.laws.specs.CountLaws.{count_bound}
 use Rattle.laws.specs.Tables.{tabulate, overwrite, refill}
 use Rattle.laws.specs.TableLaws.{length_tabulate, tabulate_const, overwrite_twice, length_refill, refill_at, refill_same}
 use Rattle.polygons.specs.Flat.{Point, FlatLayer, polygons_of}
-use Rattle.polygons.specs.FlatLaws.{LayerTested}
+use Rattle.polygons.proofs.FlatLaws.{LayerTested}
 use Rattle.nesting.specs.Nests.{held_by, depth_of, no_parent, parent_of}
 use Rattle.nesting.specs.Nesting.{NestTables, nest_tables, nested}
 use Rattle.nesting.specs.Steps.{next_depth, next_parent, met_to, all_met_by, ParentTo, NestEntries}

@@ -11,7 +11,7 @@ use lib.ListN.{length, get_or, set}
 use lib.IntN.{ℤ, nat_abs}
 use Rattle.laws.specs.TableLaws.{refill_none, refill_more, refill_past, length_refill}
 use Rattle.polygons.specs.Flat.{Point, PointNear, FlatLayer, points_in, polygons_of, end_before}
-use Rattle.polygons.specs.FlatLaws.{LayerTested}
+use Rattle.polygons.proofs.FlatLaws.{LayerTested}
 use Rattle.polygons.specs.ContourAreas.{contour_area}
 use Rattle.contours.specs.Contours.{prior_end, contour_of}
 use Rattle.contours.specs.Runs.{PointRun}

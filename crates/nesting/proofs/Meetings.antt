@@ -11,7 +11,7 @@ use lib.ListN.{length, get_or, set}
 use lib.Seq.{set-get_or}
 use lib.IntN.{ℤ, nat_abs}
 use Rattle.polygons.specs.Flat.{Point, PointNear, FlatLayer, points_in, polygons_of}
-use Rattle.polygons.specs.FlatLaws.{LayerTested}
+use Rattle.polygons.proofs.FlatLaws.{LayerTested}
 use Rattle.polygons.specs.ContourAreas.{contour_area}
 use Rattle.contours.specs.Contours.{contour_of}
 use Rattle.contours.specs.Runs.{PointRun}

@@ -7,7 +7,7 @@ use Rattle.std.proofs.Math.Bool.{not}
 use mathlib.Core.List.{List}
 use Rattle.std.proofs.Math.IntN.{nat_abs}
 use Rattle.polygons.specs.Flat.{Point, point, nth_point, FlatLayer, points_in, polygons_of, is_layer}
-use Rattle.polygons.specs.FlatLaws.{LayerTested, few_polygons, length_ends, points_numbers, layer_of_lem, flat_polygons, layer_polygons, end_rises}
+use Rattle.polygons.proofs.FlatLaws.{LayerTested, few_polygons, length_ends, points_numbers, layer_of_lem, flat_polygons, layer_polygons, end_rises}
 use Rattle.polygons.specs.ContourAreas.{contour_area}
 use Rattle.contours.specs.Areas.{x_of, y_of}
 use Rattle.contours.specs.Contours.{prior_end, own_end, contour_of}

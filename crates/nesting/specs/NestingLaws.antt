@@ -12,7 +12,7 @@ use Rattle.mesh.specs.OperationLaws.{left_given, left_refused, only_outcome}
 use Rattle.mesh.specs.Refusals.{Told}
 use Rattle.mesh.specs.RefusalLaws.{refusal_of, refusal_once}
 use Rattle.polygons.specs.Flat.{FlatLayer, polygons_of}
-use Rattle.polygons.specs.FlatLaws.{LayerTested, none_tested}
+use Rattle.polygons.proofs.FlatLaws.{LayerTested, none_tested}
 use Rattle.nesting.specs.declared.NestingAnswer.{NestingAnswer}
 use Rattle.nesting.specs.declared.NestingAnswer.TheVariants.{Nested, Refused}
 use Rattle.nesting.specs.Nests.{depth_of, no_parent, parent_of}

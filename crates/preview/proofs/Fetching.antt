@@ -14,7 +14,7 @@ use Rattle.mesh.specs.Operation.{Finding, gives, refuses, verdict}
 use Rattle.mesh.specs.OperationLaws.{whole_refused, whole_fine, verdict_stop, verdict_next}
 use Rattle.mesh.specs.Refusals.{Told, refusal}
 use Rattle.polygons.specs.Flat.{point, FlatLayer, end_before, layer_tests}
-use Rattle.polygons.specs.FlatLaws.{before_all, end_rises}
+use Rattle.polygons.proofs.FlatLaws.{before_all, end_rises}
 use Rattle.preview_floats.specs.declared.Origin.{Origin}
 use Rattle.preview_floats.specs.declared.DrawnPoint.{DrawnPoint}
 use Rattle.preview_floats.specs.DrawnPoints.{whole_origin, drawn_at}

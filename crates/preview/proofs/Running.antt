@@ -11,7 +11,7 @@ use lib.Seq.{take_all, take-take, take-add, drop-drop}
 use Rattle.laws.specs.Booleans.{split_lt}
 use Rattle.laws.specs.EntryLaws.{part_entries}
 use Rattle.polygons.specs.Flat.{FlatLayer, end_before}
-use Rattle.polygons.specs.FlatLaws.{before_all, end_rises}
+use Rattle.polygons.proofs.FlatLaws.{before_all, end_rises}
 use Rattle.preview_floats.specs.declared.Origin.{Origin}
 use Rattle.preview.specs.declared.PathCall.{PathCall}
 use Rattle.preview.specs.Calls.{calls_of}

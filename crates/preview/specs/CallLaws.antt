@@ -9,7 +9,7 @@ use Rattle.std.proofs.lemmas.List.{length-map}
 use Rattle.laws.specs.EntryLaws.{entry_front, entry_behind}
 use Rattle.laws.specs.Booleans.{split_lt, split_eq}
 use Rattle.polygons.specs.Flat.{Point, no_point, Each, point_total, ends_from, end_before}
-use Rattle.polygons.specs.FlatLaws.{before_later}
+use Rattle.polygons.proofs.FlatLaws.{before_later}
 use Rattle.preview.specs.Calls.{Stroke, move, line, close, contour_strokes, strokes_of}
 
 -- ---- how many

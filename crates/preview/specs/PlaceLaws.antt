@@ -10,7 +10,7 @@ use native.Mathlib.Omega.{arith}
 use Rattle.std.proofs.Math.ListN.{length, get_or, get_elem?, length-map}
 use Rattle.laws.specs.EntryLaws.{entry_map, entry_none}
 use Rattle.polygons.specs.Flat.{Point, no_point, point, Each, FlatLayer, fewest_points, ends_of, numbers_of, polygons_of, end_before}
-use Rattle.polygons.specs.FlatLaws.{number_x, number_y, length_ends, length_points, FlatTested, flat_polygons, layer_polygons}
+use Rattle.polygons.proofs.FlatLaws.{number_x, number_y, length_ends, length_points, FlatTested, flat_polygons, layer_polygons}
 use Rattle.preview_floats.specs.declared.Origin.{Origin}
 use Rattle.preview.specs.declared.PathCall.TheVariants.{Close}
 use Rattle.preview.specs.Calls.{Stroke, move, line, close, drawn_call, strokes_of, calls_of}

@@ -9,7 +9,7 @@ use Rattle.mesh.specs.OperationLaws.{First, None, more, done, fine_none, Recover
 use Rattle.mesh.specs.Refusals.{Told}
 use Rattle.mesh.specs.RefusalLaws.{refusal_of, refusal_once}
 use Rattle.polygons.specs.Flat.{FlatLayer}
-use Rattle.polygons.specs.FlatLaws.{LayerTested, none_tested}
+use Rattle.polygons.proofs.FlatLaws.{LayerTested, none_tested}
 use Rattle.preview_floats.specs.declared.Origin.{Origin}
 use Rattle.preview_floats.specs.DrawnPoints.{whole_origin}
 use Rattle.preview.specs.PlaceLaws.{past_exactly}

@@ -7,7 +7,7 @@ use Rattle.std.specs.Float.Ieee.{sub}
 use Rattle.laws.specs.Booleans.{and_parts}
 use Rattle.mesh.specs.Corners.{largest}
 use Rattle.polygons.specs.Flat.{Point, no_point, point, Each, FlatLayer, flat_of, numbers_of, polygons_of}
-use Rattle.polygons.specs.FlatLaws.{number_x, number_y, length_numbers, flat_polygons, each_at, each_join, each_parts}
+use Rattle.polygons.proofs.FlatLaws.{number_x, number_y, length_numbers, flat_polygons, each_at, each_join, each_parts}
 use Rattle.preview_floats.specs.declared.Origin.{Origin}
 use Rattle.preview_floats.specs.WholeFloats.{is_whole, value_of, float}
 use Rattle.preview_floats.specs.WholeLaws.{cast_stands}

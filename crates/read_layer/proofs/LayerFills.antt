@@ -11,7 +11,7 @@ use lib.IntN.{ℤ}
 use Rattle.laws.specs.Tables.{overwrite}
 use Rattle.laws.specs.TableLaws.{overwrite_none, overwrite_more}
 use Rattle.polygons.specs.Flat.{FlatLayer, flat, numbers_of, ends_from, ends_of, flat_of}
-use Rattle.polygons.specs.FlatLaws.{length_numbers, length_points, length_ends, flatten_none, flatten_first, ends_first}
+use Rattle.polygons.proofs.FlatLaws.{length_numbers, length_points, length_ends, flatten_none, flatten_first, ends_first}
 use Rattle.cleaning.specs.declared.Profile.TheVariants.{Full}
 use Rattle.file_formats.specs.Formats.{parsed, refused, parse_all, sequence}
 use Rattle.file_formats.specs.FormatLaws.{not_refused}

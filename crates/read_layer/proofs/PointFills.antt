@@ -7,7 +7,7 @@ use lib.ListN.{length, drop, set}
 use lib.IntN.{ℤ, pos, nat_abs}
 use Rattle.mesh.specs.Corners.{largest}
 use Rattle.polygons.specs.Flat.{numbers_of}
-use Rattle.polygons.specs.FlatLaws.{length_numbers, numbers_none, numbers_first}
+use Rattle.polygons.proofs.FlatLaws.{length_numbers, numbers_none, numbers_first}
 use Rattle.file_formats.specs.Formats.{parsed, parse_all, sequence}
 use Rattle.file_formats.specs.FormatLaws.{not_refused}
 use Rattle.file_formats.specs.LayerFile.{Point, coordinate_format, point_format, origin, latest}

@@ -2,7 +2,7 @@
 use mathlib.Core.Path.{sym, ap, ◌∙◌}
 use native.Mathlib.Omega.{arith}
 use Rattle.polygons.specs.Flat.{end_before}
-use Rattle.polygons.specs.FlatLaws.{before_next}
+use Rattle.polygons.proofs.FlatLaws.{before_next}
 use Rattle.polygons.proofs.unchecked.prior_end.Goals as goal
 
 pub returns-then-j-eq0 : goal.returns-then-j-eq0

@@ -7,8 +7,8 @@ use Rattle.std.proofs.Math.Logic.{⊎_elim}
 use Rattle.polygons.specs.Flat.{Point, fewest_points, point_total, Each, Polygons}
 use Rattle.cleaning.specs.Cleaning.{same_point, unrepeated, trimmed, neat, variety, fewest_different, kept, cleaned}
 use Rattle.cleaning.specs.PointLaws.{decide, unrepeated_same, unrepeated_new, Trims, goes, stays, trims}
-use Rattle.cleaning.specs.CleaningLaws.{cleaned_kept, cleaned_dropped}
-use Rattle.cleaning.specs.VarietyLaws.{variety_length}
+use Rattle.cleaning.proofs.CleaningLaws.{cleaned_kept, cleaned_dropped}
+use Rattle.cleaning.proofs.VarietyLaws.{variety_length}
 
 -- ---- a contour
 

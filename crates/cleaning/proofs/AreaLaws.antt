@@ -8,8 +8,8 @@ use Rattle.polygons.specs.ContourAreas.{cross_points, area_from, contour_area, l
 use Rattle.cleaning.specs.Cleaning.{same_point, unrepeated, trimmed, neat, variety, fewest_different, kept, cleaned}
 use Rattle.cleaning.specs.Tests.{others}
 use Rattle.cleaning.specs.PointLaws.{decide, cons_apart, same_is, unrepeated_same, unrepeated_new, Trims, goes, stays, trims}
-use Rattle.cleaning.specs.CleaningLaws.{cleaned_kept, cleaned_dropped}
-use Rattle.cleaning.specs.VarietyLaws.{others_same, others_new, two_points, kept_is}
+use Rattle.cleaning.proofs.CleaningLaws.{cleaned_kept, cleaned_dropped}
+use Rattle.cleaning.proofs.VarietyLaws.{others_same, others_new, two_points, kept_is}
 
 -- ---- cross_points products
 
