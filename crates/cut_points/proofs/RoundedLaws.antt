@@ -48,7 +48,8 @@ pub rounded_in : (n d : ℤ) (k : ℕ) → pos 0 <ℤ d → nat_abs n ≤ k * na
 rounded_in n d k h l =
     let r = rounded n d in
     let e = d *ℤ r -ℤ n in
-    let m : nat_abs d * nat_abs r ≤ nat_abs e + nat_abs n = omega (arith, abs_mul d r, diff (d *ℤ r) n, abs_is (d *ℤ r), abs_is e, abs_is n, one_zero (d *ℤ r)) in
+    let m : nat_abs d * nat_abs r ≤ nat_abs e + nat_abs n =
+    omega (arith, abs_mul d r, diff (d *ℤ r) n, abs_is (d *ℤ r), abs_is e, abs_is n, one_zero (d *ℤ r)) in
     let p : 0 < nat_abs d = omega (arith, lt_in h, abs_is d) in
     let s : nat_abs r < suc k = lt_of_mul-lt-mul_right (2 * nat_abs d) (omega (arith, rounded_near n d h)) in
     omega arith

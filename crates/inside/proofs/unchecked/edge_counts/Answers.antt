@@ -11,10 +11,14 @@ pub returns-then-by-y : goal.returns-then-by-y
 returns-then-by-y c = record { value = level_told (near (goal.at.returns-then-by-y c).Start) c.if-ay-y.true c.if-by-y.true }
 
 pub returns-then-ay-y : goal.returns-then-ay-y
-returns-then-ay-y c = record { value = up_told (near (goal.at.returns-then-ay-y c).Start) c.if-ay-y.true c.if-by-y.false c.meets_right.ensures.value }
+returns-then-ay-y c = record {
+  value = up_told (near (goal.at.returns-then-ay-y c).Start) c.if-ay-y.true c.if-by-y.false c.meets_right.ensures.value;
+}
 
 pub returns-then-by-y-2 : goal.returns-then-by-y-2
-returns-then-by-y-2 c = record { value = down_told (near (goal.at.returns-then-by-y-2 c).Start) c.if-ay-y.false c.if-by-y-2.true c.meets_right-then-by-y-2.ensures.value }
+returns-then-by-y-2 c = record {
+  value = down_told (near (goal.at.returns-then-by-y-2 c).Start) c.if-ay-y.false c.if-by-y-2.true c.meets_right-then-by-y-2.ensures.value;
+}
 
 pub returns : goal.returns
 returns c = record { value = level_told (near (goal.at.returns c).Start) c.if-ay-y.false c.if-by-y-2.false }
