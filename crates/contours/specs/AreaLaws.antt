@@ -16,7 +16,8 @@ use Rattle.mesh.specs.TestLaws.{in_range_lem}
 use Rattle.polygons.specs.AreaBoundLaws.{cross_le}
 use Rattle.contours.specs.declared.AreaAnswer.{AreaAnswer}
 use Rattle.contours.specs.declared.AreaAnswer.TheVariants.{Area, Refused}
-use Rattle.contours.specs.Areas.{most_points, point_count, x_of, y_of, cross_of, next_point, sum_of, area_of, run_fits, run_size, measuring, tell_area, Measures}
+use Rattle.contours.specs.Areas.{most_points, point_count, x_of, y_of, cross_of, next_point, sum_of, area_of}
+use Rattle.contours.specs.Areas.{run_fits, run_size, measuring, tell_area, Measures}
 use Rattle.contours.specs.Runs.{largest_cross, PointRun}
 
 -- ---- sums

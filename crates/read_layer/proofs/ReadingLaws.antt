@@ -28,7 +28,8 @@ module _ (file : List ℕ) (i : ℕ) (n : Entries) where
   abbrev rest : List (Condition Told)
   rest = no_layer (layers_in file) i ∷ no_layer_room (layer_at (layers_in file) i) n ∷ []
 
-  past_13 : {ls : List Layer} → layers_of file ≡ holds ls → verdict (reading_tests Clean file i n) ≡ verdict (unclean_form file (layers_of_in Clean file) ∷ rest)
+  past_13 : {ls : List Layer} → layers_of file ≡ holds ls
+      → verdict (reading_tests Clean file i n) ≡ verdict (unclean_form file (layers_of_in Clean file) ∷ rest)
   past_13 e = form_next 13 file (layers_of file) (layers_broken_inside Full file) (unclean_form file (layers_of_in Clean file) ∷ rest) e
 
   -- 18 fits exactly a file that is none of the clean profile, but one of the full

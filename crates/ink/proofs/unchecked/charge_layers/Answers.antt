@@ -34,15 +34,15 @@ charged c = c.layer_charge-charge.ensures.value ∙ ap (layer_charge _) (same w6
 
 pub overflow_add-charge : goal.overflow_add-charge
 overflow_add-charge c =
-    omega (arith, sum_small c.loop-left.invariant c.loop-left-test.true (told (goal.at.overflow_add-charge c).In-End) (charged c))
+    omega (arith, sum_small c.loop-left.invariant (omega (arith, c.loop-left-test.true)) (told (goal.at.overflow_add-charge c).In-End) (charged c))
 
 pub returns-in-Refused : goal.returns-in-Refused
-returns-in-Refused c = record { value = run_stops c.loop-left.invariant c.loop-left-test.true (sym c.check_layer-l.ensures.value ∙ c.in-Refused.is) }
+returns-in-Refused c = record { value = run_stops c.loop-left.invariant (omega (arith, c.loop-left-test.true)) (sym c.check_layer-l.ensures.value ∙ c.in-Refused.is) }
 
 pub loop-left-preserved : goal.loop-left-preserved
 loop-left-preserved c =
-    run_passes c.loop-left.invariant c.loop-left-test.true (told (goal.at.loop-left-preserved c).In-End) (charged c)
+    run_passes c.loop-left.invariant (omega (arith, c.loop-left-test.true)) (told (goal.at.loop-left-preserved c).In-End) (charged c)
     (same w64 c.in-End.z (omega arith))
 
 pub returns : goal.returns
-returns c = record { value = run_ends c.loop-left.invariant c.loop-left-test.false }
+returns c = record { value = run_ends c.loop-left.invariant (omega (arith, c.loop-left-test.false)) }
