@@ -23,7 +23,7 @@ use Rattle.sweep.specs.Sweep.{Sweep, sweep, mesh_of, passed_at, RingAt, fresh_ri
 use Rattle.sweep.specs.SweepLaws.{may_rise_lem, count_few}
 use Rattle.sweep.specs.Operations.{risen_table}
 use Rattle.sweep.specs.Places.{InOrder, RiseTested}
-use Rattle.sweep.specs.RiseLaws.{rise_to, rise_table, rise_section}
+use Rattle.sweep.proofs.RiseLaws.{rise_to, rise_table, rise_section}
 use Rattle.all_heights.specs.HeightLaws.{RisingHeights}
 use Rattle.all_sweep.specs.AllLayers.{drawn, swept_layer, risen, climb, climbed, swept_file, cut_layer, cut_file, used_at}
 

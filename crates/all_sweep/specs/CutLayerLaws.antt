@@ -28,7 +28,7 @@ use Rattle.cut_points.specs.Climbs.{Climbs}
 use Rattle.cut_points.specs.PointLaws.{length_points_of}
 use Rattle.cut_points.proofs.RoundedLaws.{point_in_lem}
 use Rattle.cut.specs.Cut.{section, contours_of}
-use Rattle.cut.specs.CutLaws.{one_each}
+use Rattle.cut.proofs.CutLaws.{one_each}
 use Rattle.cut.specs.SolidLaws.{crossing_climbs}
 use Rattle.file_formats.specs.Formats.{Each}
 use Rattle.file_formats.specs.Numbers.{encode_number, zigzag, Word}

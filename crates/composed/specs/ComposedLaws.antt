@@ -19,7 +19,7 @@ use Rattle.sweep.specs.Sweep.{sweep, RingAt}
 use Rattle.sweep.specs.Operations.{step_tests, tell_step, Steps, risen_section, rise_tests, tell_layer, Rises}
 use Rattle.sweep.specs.declared.StepAnswer.{StepAnswer}
 use Rattle.sweep.specs.declared.LayerAnswer.{LayerAnswer}
-use Rattle.sweep.specs.AnswerLaws.{rise_passed}
+use Rattle.sweep.proofs.AnswerLaws.{rise_passed}
 use Rattle.all_heights.specs.Heights.{heights_taken, too_many_heights, falling_height}
 use Rattle.all_heights.specs.HeightLaws.{RisingHeights, rising_nowhere}
 use Rattle.all_sweep.specs.AllLayers.{cut_file, swept_file, climbed, WorkTables, work_room_for, layers_tests, used_at, short_output, filing}

@@ -20,7 +20,7 @@ use Rattle.read_layer.specs.Reading.{layer_at, layer_counts}
 use Rattle.read_layer.specs.ReadingLaws.{read_written}
 use Rattle.clean.specs.CleanLaws.{clean_passes}
 use Rattle.section.specs.Section.{Right}
-use Rattle.cut.specs.CutLaws.{cut_right}
+use Rattle.cut.proofs.CutLaws.{cut_right}
 use Rattle.all_sweep.specs.CutLayerLaws.{layer_rules}
 use Rattle.nesting.specs.declared.NestingAnswer.{NestingAnswer}
 use Rattle.nesting.specs.Nesting.{NestTables, nest_room_for, no_nest_room, nesting_tests, FindsNesting}

@@ -2,3 +2,5 @@
 pub mod Rooms
 pub mod Outlining
 pub mod Slicing
+pub mod CutLaws
+pub mod MirrorLaws

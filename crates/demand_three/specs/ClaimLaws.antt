@@ -23,15 +23,15 @@ use Rattle.section.specs.Links.{has_link, link_of, trace_links}
 use Rattle.section.proofs.LayerLaws.{Leads, leads_on, trace_all}
 use Rattle.section.proofs.LinkLaws.{same_trace, link_rises, table_trace, table_leads}
 use Rattle.cut.specs.Cut.{CutTables, tell_cut}
-use Rattle.cut.specs.CutLaws.{cut_only}
+use Rattle.cut.proofs.CutLaws.{cut_only}
 use Rattle.sweep.specs.declared.StartAnswer.{StartAnswer}
 use Rattle.sweep.specs.declared.StepAnswer.{StepAnswer}
 use Rattle.sweep.specs.declared.LayerAnswer.{LayerAnswer}
 use Rattle.sweep.specs.Sweep.{Sweep, sweep, mesh_of, passed_at, RingAt, fresh_ring}
 use Rattle.sweep.specs.SweepLaws.{step_right, step_length, step_past, step_keeps, count_few}
 use Rattle.sweep.specs.Operations.{tell_start, Starts, StepGives, passes, top, tell_step, Steps, tell_layer, Rises}
-use Rattle.sweep.specs.AnswerLaws.{fresh_start, step_taken, step_top, unstepped_ring}
-use Rattle.sweep.specs.RiseLaws.{rise_tests_lem, rise_state, rise_ring, rise_is_cut, unrisen_ring}
+use Rattle.sweep.proofs.AnswerLaws.{fresh_start, step_taken, step_top, unstepped_ring}
+use Rattle.sweep.proofs.RiseLaws.{rise_tests_lem, rise_state, rise_ring, rise_is_cut, unrisen_ring}
 use Rattle.demand_three.specs.Claim.{Call, step, rise, refused, given, count_after_step, count_after_rise, passed_after, ring_after, Run, done, skipped, taken}
 use Rattle.demand_three.specs.Claim.{up, to, move_of, moved, plane_after, fed, OnlyTouched, GivesCut, StepDid, RiseDid, Did, EachCall, none, and, Afresh}
 use Rattle.demand_three.specs.Claim.{SweepClaim}

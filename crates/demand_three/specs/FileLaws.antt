@@ -26,7 +26,7 @@ use Rattle.cut.specs.declared.CutAnswer.{CutAnswer}
 use Rattle.sweep.specs.declared.LayerAnswer.{LayerAnswer}
 use Rattle.sweep.specs.Sweep.{Sweep, sweep}
 use Rattle.sweep.specs.Operations.{linked_tests, tell_layer, Rises}
-use Rattle.sweep.specs.RiseLaws.{rise_is_cut}
+use Rattle.sweep.proofs.RiseLaws.{rise_is_cut}
 use Rattle.all_heights.specs.Heights.{heights_taken}
 use Rattle.all_sweep.specs.declared.AllLayersAnswer.{AllLayersAnswer}
 use Rattle.all_sweep.specs.AllLayers.{drawn, cut_layer, cut_file, swept_file, climbed, WorkTables, work_room_for, layers_tests, used_at, short_output}

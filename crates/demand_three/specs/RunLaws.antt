@@ -35,7 +35,7 @@ use Rattle.sweep.specs.SweepLaws.{may_rise_lem}
 use Rattle.sweep.specs.Operations.{at, unless_refused, linked_at, passed_high, start_tests, tell_start, Starts, step_tests, passes, top, tell_step, Steps}
 use Rattle.sweep.specs.Operations.{risen_passed, risen_table, risen_section, layering, tell_layer, Rises}
 use Rattle.sweep.specs.Places.{InOrder, RiseTested}
-use Rattle.sweep.specs.RiseLaws.{rise_section}
+use Rattle.sweep.proofs.RiseLaws.{rise_section}
 use Rattle.all_heights.specs.HeightLaws.{RisingHeights}
 use Rattle.demand_three.specs.Claim.{Call, step, rise, refused, given, passed_after, ring_after, Run, done, taken, Move, up, to, move_of, moved, fed}
 use Rattle.demand_three.specs.FileClaim.{right_tests}

@@ -26,7 +26,7 @@ use Rattle.cut_points.proofs.RoundedLaws.{points_in_lem}
 use Rattle.cut.specs.declared.CutAnswer.{CutAnswer}
 use Rattle.cut.specs.declared.CutAnswer.TheVariants.{Layer, Refused}
 use Rattle.cut.specs.Cut.{CutTables, used, section, contours_of, counts_of, tables_after_cut, tell_cut}
-use Rattle.cut.specs.CutLaws.{one_each}
+use Rattle.cut.proofs.CutLaws.{one_each}
 use Rattle.cut.specs.OutlineLaws.{used_fine}
 use Rattle.cut.specs.Outlines.{Traces}
 use Rattle.cut.specs.SolidLaws.{crossing_climbs}

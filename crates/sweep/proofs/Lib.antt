@@ -1,3 +1,5 @@
 -- Lemmas that belong to no one function.
 pub mod Moves
 pub mod Operating
+pub mod AnswerLaws
+pub mod RiseLaws

@@ -28,7 +28,7 @@ use Rattle.sweep.specs.SweepLaws.{entry_same, passed_under}
 use Rattle.sweep.specs.Operations.{at, unless_refused, start_tests, Starts, step_tests, passes, top, Steps}
 use Rattle.sweep.specs.SweepTests.{sweep_condition}
 use Rattle.sweep.specs.Places.{StepTested}
-use Rattle.sweep.specs.AnswerLaws.{step_tested}
+use Rattle.sweep.proofs.AnswerLaws.{step_tested}
 
 -- a test by name is the test of its condition
 pub sweep_test_as : (s : Sweep) (h : ℤ) {which named : SweepTest} {f : Finding Told} → which ≡ named → f ≡ test (sweep_condition named s h)

@@ -4,5 +4,3 @@ pub mod Operations
 pub mod SweepLaws
 pub mod Places
 pub mod SweepTests
-pub mod AnswerLaws
-pub mod RiseLaws

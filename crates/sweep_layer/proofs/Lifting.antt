@@ -36,8 +36,8 @@ use Rattle.sweep.specs.Sweep.{Sweep, mesh_of, sweep_pairing}
 use Rattle.sweep.specs.SweepLaws.{count_few, risen_is}
 use Rattle.sweep.specs.Operations.{at, unless_refused, state_tests, risen_passed, risen_table, risen_section, rise_tests, Rises}
 use Rattle.sweep.specs.Places.{Placed, RiseTested, Lifts}
-use Rattle.sweep.specs.AnswerLaws.{rise_passed}
-use Rattle.sweep.specs.RiseLaws.{rise_from}
+use Rattle.sweep.proofs.AnswerLaws.{rise_passed}
+use Rattle.sweep.proofs.RiseLaws.{rise_from}
 
 -- what 8 and 10 establish on a right mesh
 pub placed_of : (m : OrderedMesh) (n : ℕ) → Right m.paired → {f : Finding Told} → f ≡ verdict (state_tests m.paired.mesh.coords m.order n) → f ≡ fine

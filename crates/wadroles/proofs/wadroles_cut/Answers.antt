@@ -1,5 +1,5 @@
 -- `wadroles_cut` meets its contract.
-use Rattle.cut.specs.CutLaws.{at_height}
+use Rattle.cut.proofs.CutLaws.{at_height}
 use Rattle.wadroles.specs.ExportLaws.{exports_told}
 use borrow.Author.Rules.{rules}
 use Rattle.wadroles.proofs.wadroles_cut.Goals as goal

@@ -30,7 +30,7 @@ use Rattle.cut_points.proofs.RoundedLaws.{rounded_neg}
 use Rattle.cut.specs.declared.CutAnswer.{CutAnswer}
 use Rattle.cut.specs.declared.CutAnswer.TheVariants.{Layer, Refused}
 use Rattle.cut.specs.Cut.{CutTables, lent, lengths_of, room, used, section, contours_of, counts_of, tables_after_cut, cutting, tell_cut, Cuts}
-use Rattle.cut.specs.CutLaws.{cut_only}
+use Rattle.cut.proofs.CutLaws.{cut_only}
 use Rattle.cut.specs.Mirrors.{mirrored_at, mirrored_row, mirrored_mesh, mirrored_tables}
 
 -- ---- rows

@@ -18,7 +18,7 @@ use Rattle.sweep.specs.Sweep.{Sweep, sweep, mesh_of, sweep_pairing, passed_at, R
 use Rattle.sweep.specs.SweepLaws.{entry_same, count_few, passed_below, passed_count, risen_to_lem, risen_right}
 use Rattle.sweep.specs.Operations.{unless_refused, risen_passed, risen_table, risen_section, rise_tests, layering, tell_layer, Rises}
 use Rattle.sweep.specs.Places.{RiseTested}
-use Rattle.sweep.specs.AnswerLaws.{rise_passed}
+use Rattle.sweep.proofs.AnswerLaws.{rise_passed}
 
 -- ---- what a tested rise comes to
 
