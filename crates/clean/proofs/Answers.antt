@@ -18,7 +18,7 @@ use Rattle.polygons.proofs.FlatLaws.{layer_tested}
 use Rattle.clean_layers.specs.Layers.{Fills, CleanTables}
 use Rattle.clean.specs.declared.CleanAnswer.TheVariants.{Layer, Refused}
 use Rattle.clean.specs.Clean.{clean_room_for, no_clean_room, cleaned_of, Cleans}
-use Rattle.clean.specs.CleanLaws.{tested_tables}
+use Rattle.clean.proofs.CleanLaws.{tested_tables}
 
 room_parts : (t u : FlatLayer) → clean_room_for t u ≡ true → (length t.points ≤ length u.points) × (length t.ends ≤ length u.ends)
 unfolding clean_room_for

@@ -1,2 +1,3 @@
 -- Lemmas that belong to no one function.
 pub mod Answers
+pub mod CleanLaws

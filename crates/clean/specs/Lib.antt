@@ -1,4 +1,3 @@
 -- Clean: its contract, what it promises, and worked values.
 pub mod Clean
-pub mod CleanLaws
 pub mod Worked

@@ -18,7 +18,7 @@ use Rattle.file_formats.specs.LayerRules.{LayerRules}
 use Rattle.file_formats.specs.LayerRuleLaws.{ruled_tested}
 use Rattle.read_layer.specs.Reading.{layer_at, layer_counts}
 use Rattle.read_layer.specs.ReadingLaws.{read_written}
-use Rattle.clean.specs.CleanLaws.{clean_passes}
+use Rattle.clean.proofs.CleanLaws.{clean_passes}
 use Rattle.section.specs.Section.{Right}
 use Rattle.cut.proofs.CutLaws.{cut_right}
 use Rattle.all_sweep.specs.CutLayerLaws.{layer_rules}

@@ -15,7 +15,7 @@ use Rattle.cleaning.specs.Cleaning.{cleaned}
 use Rattle.cleaning.specs.declared.Profile.{Profile}
 use Rattle.cleaning.specs.declared.Profile.TheVariants.{Full, Clean}
 use Rattle.clean_layers.specs.Layers.{layer_front}
-use Rattle.clean.specs.CleanLaws.{clean_holds}
+use Rattle.clean.proofs.CleanLaws.{clean_holds}
 use Rattle.cut.specs.declared.CutAnswer.{CutAnswer}
 use Rattle.cut_points.specs.Points.{point_of}
 use Rattle.cut.specs.Cut.{CutTables, section, contours_of, tell_cut, Cuts}
