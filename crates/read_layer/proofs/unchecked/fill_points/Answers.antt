@@ -1,6 +1,6 @@
 -- `fill_points` meets its contract.
 use mathlib.Core.Path.{◌≡◌, sym, ◌∙◌}
-use Prim.Native.Nat.{◌+◌}
+use Prim.Native.Nat.{◌+◌, ◌<◌}
 use native.Mathlib.Omega.{arith}
 use lib.Seq.{lt-length-set}
 use borrow.Author.Rules.{rules}
@@ -25,7 +25,7 @@ shape_of-points-in_default c = c.loop-left.invariant.table.size
 
 pub returns-in_default : goal.returns-in_default
 returns-in_default c = record {
-  outcome = absurd (x_there c.loop-left.invariant c.loop-left-test.true (sym c.read_coordinate-a.ensures.value ∙ c.in_default.is));
+  outcome = absurd (x_there c.loop-left.invariant (omega (arith, c.loop-left-test.true)) (sym c.read_coordinate-a.ensures.value ∙ c.in_default.is));
 }
 
 -- the first coordinate read
@@ -45,17 +45,17 @@ shape_of-points-in_default-b c =
 
 pub returns-in_default-b : goal.returns-in_default-b
 returns-in_default-b c = record {
-  outcome = absurd (y_there c.loop-left.invariant c.loop-left-test.true (first (goal.at.returns-in_default-b c).In-At)
+  outcome = absurd (y_there c.loop-left.invariant (omega (arith, c.loop-left-test.true)) (first (goal.at.returns-in_default-b c).In-At)
       (sym c.read_coordinate-b.ensures.value ∙ c.in_default-b.is));
 }
 
 pub bounds-points-k : goal.bounds-points-k
 bounds-points-k c =
-    x_fits c.loop-left.invariant c.loop-left-test.true
+    x_fits c.loop-left.invariant (omega (arith, c.loop-left-test.true))
 
 pub bounds-points-k-in-loop-left : goal.bounds-points-k-in-loop-left
 bounds-points-k-in-loop-left c =
-    lt-length-set c.loop-left.points c.loop-left.k _ {i = c.loop-left.k + 1} (y_fits c.loop-left.invariant c.loop-left-test.true)
+    lt-length-set c.loop-left.points c.loop-left.k _ {i = c.loop-left.k + 1} (y_fits c.loop-left.invariant (omega (arith, c.loop-left-test.true)))
 
 -- the second coordinate read
 second : (c : In-At-b)
@@ -67,7 +67,7 @@ second c = sym c.read_coordinate-b.ensures.value ∙ c.in-At-b.is
 pub loop-left-preserved : goal.loop-left-preserved
 loop-left-preserved c =
     let w = c.loop-left.invariant in
-    let some = c.loop-left-test.true in
+    let some : 0 < c.loop-left.left = omega (arith, c.loop-left-test.true) in
     let at = goal.at.loop-left-preserved c in
     let f = first at.In-At in
     let s = second at.In-At-b in
