@@ -1,6 +1,6 @@
 -- Swept is cut: up strictly rising heights, from a start, Layer gives at each height what Cut gives there, so that All layers' file is the layer file of Cut
 -- at each height, in either profile, and 16 is met at none.
-use Rattle.std.specs.Prelude.{ℕ, suc, ◌≤◌, ◌<◌, ◌≡◌, true, List, [], ◌∷◌, map, ltb, get_or, ℤ, pos, ◌<ℤ◌}
+use Rattle.std.specs.Prelude.{ℕ, suc, ◌≤◌, ◌≡◌, true, List, [], ◌∷◌, map, ltb, ℤ, ◌<ℤ◌}
 use Rattle.std.proofs.Math.Path.{refl, ap}
 use Rattle.std.proofs.Common.{sym, ◌∙◌, subst}
 use native.Mathlib.Omega.{arith}
@@ -19,7 +19,7 @@ use Rattle.section.proofs.LayerLaws.{trace_layer}
 use Rattle.cleaning.specs.declared.Profile.{Profile}
 use Rattle.file_formats.specs.LayerFile.{Layer, layer_in, layer_file}
 use Rattle.cut.specs.Cut.{met_at, contours_of}
-use Rattle.sweep.specs.Sweep.{Sweep, sweep, mesh_of, passed_at, RingAt, fresh_ring, may_rise, count_below}
+use Rattle.sweep.specs.Sweep.{Sweep, sweep, mesh_of, passed_at, RingAt, fresh_ring, may_rise}
 use Rattle.sweep.specs.SweepLaws.{may_rise_lem, count_few}
 use Rattle.sweep.specs.Operations.{risen_table}
 use Rattle.sweep.specs.Places.{InOrder, RiseTested}
