@@ -111,5 +111,5 @@ module _ {file : List ℕ} {t : Part} where
         let is : part_at file l ≡ part_in file = sym (held_part file k.is) in
         does_give refl (fine_verdict file (part_sizes_of t) k.is (same_room k (part_sizes_of t) r ∙ e))
         ((λ i. gives ((sym (same_sizes k) i).coords / 3, (sym (same_sizes k) i).corners / 3, (sym (same_sizes k) i).heights))
-            ∙ (λ i. gives (part_counts (is i))))
+        ∙ (λ i. gives (part_counts (is i))))
         ((λ i. part (a i) (b i) (c i)) ∙ fills_fine (part_at file l) t ∙ (λ i. fills_part (is i) t fine))
