@@ -193,4 +193,6 @@ module _ (profile : Profile) (m : PairedMesh) {t : TakenHeights} (listed : Liste
     pub wrote_next : {q : ℕ} {u : List ℕ} → Puts o p (layer_bytes (layer_of (held r) points ends j)) q u → LayersPut profile m t l first u q (k + 1)
     wrote_next {q} {u} v =
         subst (LayersPut profile m t l first u q) (sym (add-one k))
-        (record { bytes = each_put layer_bytes (cut_in profile m (taken_at t k)) others going (subst (λ (y : Layer). Puts o p (layer_bytes y) q u) layer_is v) })
+        (record {
+          bytes = each_put layer_bytes (cut_in profile m (taken_at t k)) others going (subst (λ (y : Layer). Puts o p (layer_bytes y) q u) layer_is v);
+        })

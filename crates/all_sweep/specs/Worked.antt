@@ -48,17 +48,22 @@ w = work (replicate 12 7) (replicate 24 (pos 7)) (replicate 12 7) (replicate 12 
 file : swept_file Full p ring (heights_taken coords heights)
     ≡ 0x04 ∷ 0x00 ∷ 0x00 ∷ 0x0A ∷ 0x01 ∷ 0x03 ∷ 0x0A ∷ 0x00 ∷ 0x09 ∷ 0x0A ∷ 0x00 ∷ 0x09 ∷ 0x14 ∷ 0x01 ∷ 0x03 ∷ 0x00 ∷ 0x00 ∷ 0x00 ∷ 0x00 ∷ 0x00 ∷ 0x00 ∷ 0x16
     ∷ 0x00 ∷ []
-unfolding heights_taken swept_layer climb fresh_ring tabulate overwrite may_rise risen_to risen_ring step_ring relinked touches ring_entry passed_at below rising
-    rising_in successor member walk trace_at flatten trace_to trace_links has_link numerator denominator rounded exact_over exact_under point_at encode_all groups
+unfolding heights_taken swept_layer climb fresh_ring tabulate overwrite may_rise risen_to risen_ring step_ring relinked touches ring_entry passed_at below
+    rising
+    rising_in successor member walk trace_at flatten trace_to trace_links has_link numerator denominator rounded exact_over exact_under point_at encode_all
+    groups
     encode_number coordinate_format point_format contour_format contour_list_in height_above layer_format_in layer_file_in
 file = refl
 
 -- in the clean profile the layer at 10 stays, without its contour of three equal points
 clean_file_lem : swept_file Clean p ring (heights_taken coords heights)
     ≡ 0x04 ∷ 0x00 ∷ 0x00 ∷ 0x0A ∷ 0x01 ∷ 0x03 ∷ 0x0A ∷ 0x00 ∷ 0x09 ∷ 0x0A ∷ 0x00 ∷ 0x09 ∷ 0x14 ∷ 0x00 ∷ 0x16 ∷ 0x00 ∷ []
-unfolding heights_taken swept_layer climb fresh_ring tabulate overwrite may_rise risen_to risen_ring step_ring relinked touches ring_entry passed_at below rising
-    rising_in successor member walk trace_at flatten trace_to trace_links has_link numerator denominator rounded exact_over exact_under point_at cleaned kept neat
-    unrepeated trimmed same_point variety among encode_all groups encode_number coordinate_format point_format contour_format contour_list_in height_above layer_format_in
+unfolding heights_taken swept_layer climb fresh_ring tabulate overwrite may_rise risen_to risen_ring step_ring relinked touches ring_entry passed_at below
+    rising
+    rising_in successor member walk trace_at flatten trace_to trace_links has_link numerator denominator rounded exact_over exact_under point_at cleaned kept
+    neat
+    unrepeated trimmed same_point variety among encode_all groups encode_number coordinate_format point_format contour_format contour_list_in height_above
+    layer_format_in
     layer_file_in
 clean_file_lem = refl
 
@@ -69,24 +74,31 @@ none = refl
 
 -- an output of 23 bytes is enough; one of 22 is not
 enough : answer_of (filing (Full, p, heights, w, replicate 23 7)) ≡ gives 23
-unfolding verdict ◌then◌ test some least sizes_fit work_room_for cut_room_for out_of_range names_none names_twice reverse paired_at ordered_at before place order_up_to
+unfolding verdict ◌then◌ test some least sizes_fit work_room_for cut_room_for out_of_range names_none names_twice reverse paired_at ordered_at before place
+    order_up_to
     order_of
-    met_at not_above_last heights_taken swept_layer climb fresh_ring tabulate overwrite may_rise risen_to risen_ring step_ring relinked touches ring_entry passed_at
-    below rising rising_in successor member walk trace_at flatten trace_to trace_links has_link numerator denominator rounded exact_over exact_under point_at encode_all
+    met_at not_above_last heights_taken swept_layer climb fresh_ring tabulate overwrite may_rise risen_to risen_ring step_ring relinked touches ring_entry
+    passed_at
+    below rising rising_in successor member walk trace_at flatten trace_to trace_links has_link numerator denominator rounded exact_over exact_under point_at
+    encode_all
     groups encode_number coordinate_format point_format contour_format contour_list_in height_above layer_format_in layer_file_in
 enough = refl
 
 short : verdict (filing (Full, p, heights, w, replicate 22 7)).refusals ≡ refuses (refusal 14 0)
-unfolding verdict ◌then◌ test some least sizes_fit work_room_for cut_room_for out_of_range names_none names_twice reverse paired_at ordered_at before place order_up_to
+unfolding verdict ◌then◌ test some least sizes_fit work_room_for cut_room_for out_of_range names_none names_twice reverse paired_at ordered_at before place
+    order_up_to
     order_of
-    met_at not_above_last heights_taken swept_layer climb fresh_ring tabulate overwrite may_rise risen_to risen_ring step_ring relinked touches ring_entry passed_at
-    below rising rising_in successor member walk trace_at flatten trace_to trace_links has_link numerator denominator rounded exact_over exact_under point_at encode_all
+    met_at not_above_last heights_taken swept_layer climb fresh_ring tabulate overwrite may_rise risen_to risen_ring step_ring relinked touches ring_entry
+    passed_at
+    below rising rising_in successor member walk trace_at flatten trace_to trace_links has_link numerator denominator rounded exact_over exact_under point_at
+    encode_all
     groups encode_number coordinate_format point_format contour_format contour_list_in height_above layer_format_in layer_file_in
 short = refl
 
 -- a height that is not above its forerunner is refused at its position
 falling : verdict (filing (Full, p, pos 0 ∷ pos 5 ∷ pos 5 ∷ [], w, [])).refusals ≡ refuses (refusal 12 2)
-unfolding verdict ◌then◌ test some least sizes_fit work_room_for cut_room_for out_of_range names_none names_twice reverse paired_at ordered_at before place order_up_to
+unfolding verdict ◌then◌ test some least sizes_fit work_room_for cut_room_for out_of_range names_none names_twice reverse paired_at ordered_at before place
+    order_up_to
     order_of
     not_above_last heights_taken
 falling = refl

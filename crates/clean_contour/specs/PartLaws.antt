@@ -33,7 +33,8 @@ module _ (points : List ℤ) where
   pub part_length : (i end : ℕ) → i ≤ end → HasPoints points end → length (contour_part points i end) ≡ end - i
   part_length i end h w = length_part (end - i) i end (omega arith) w
 
-  last_part : (n i end : ℕ) → end ≡ i + n → HasPoints points (end + 1) → contour_part points i (end + 1) ≡ contour_part points i end ++ (point_in points end ∷ [])
+  last_part : (n i end : ℕ) → end ≡ i + n → HasPoints points (end + 1)
+      → contour_part points i (end + 1) ≡ contour_part points i end ++ (point_in points end ∷ [])
   last_part zero i end e w =
       let q : i ≡ end = omega arith in
       part_next i (end + 1) (omega arith) w

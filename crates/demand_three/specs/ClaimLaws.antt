@@ -266,7 +266,8 @@ module _ (m : OrderedMesh) where
             traced = b.is;
           }
 
-      pub ring_one : (c : ℕ) → c < length corners → rising (passed_at order n) corners c ≡ true → rising (passed_at order n) corners (pair_of pairing c) ≡ true → ⊥
+      pub ring_one : (c : ℕ) → c < length corners → rising (passed_at order n) corners c ≡ true → rising (passed_at order n) corners (pair_of pairing c) ≡ true
+          → ⊥
       ring_one c l p q = ⊎_elim (λ f. at_none f c p) (λ r. right_one r c l p q) tested
 
       pub ring_rings : (c d : ℕ) → c < length corners → (d ≡ c) ⊎ (d ≡ pair_of pairing c) → rising (passed_at order n) corners d ≡ true

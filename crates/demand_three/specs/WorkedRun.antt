@@ -76,7 +76,8 @@ wrong = record { answers = refl; leaves = refl }
 
 -- the first vertex
 first : Steps (sweep p ring0 0) (Stepped (at 1)) ring1
-unfolding verdict ◌then◌ test some least sizes_fit out_of_range names_none names_twice reverse paired_at ordered_at order_of order_up_to place before unless_refused
+unfolding verdict ◌then◌ test some least sizes_fit out_of_range names_none names_twice reverse paired_at ordered_at order_of order_up_to place before
+    unless_refused
     step_ring relinked touches passed_at member ring_entry rising rising_in successor tabulate overwrite
 first = record { answers = refl; leaves = refl }
 
@@ -88,26 +89,30 @@ abbrev layer5 : CutTables
 layer5 = lent (4 ∷ 10 ∷ 6 ∷ replicate 9 7) (pos 5 ∷ pos 0 ∷ pos 0 ∷ pos 5 ∷ pos 0 ∷ pos 0 ∷ replicate 18 (pos 7)) (3 ∷ replicate 11 7) (replicate 12 0)
 
 risen : Rises (sweep p ring1 1) (pos 5) tables (Layer (at 3) 1 3) ring3 layer5
-unfolding verdict ◌then◌ test some least sizes_fit cut_room_for out_of_range names_none names_twice reverse paired_at ordered_at order_of order_up_to place before linked_at
+unfolding verdict ◌then◌ test some least sizes_fit cut_room_for out_of_range names_none names_twice reverse paired_at ordered_at order_of order_up_to place
+    before linked_at
     passed_high met_at unless_refused after may_rise risen_to risen_ring step_ring relinked touches passed_at member ring_entry rising rising_in successor below
     tabulate overwrite trace_links trace_to trace_at flatten walk has_link ends_from numbers_of point_at exact_over exact_under numerator denominator rounded
 risen = record { answers = refl; leaves = refl }
 
 -- no rise goes down: at height 0 refusal 12, place 0
 low : Rises (sweep p ring3 3) (pos 0) tables (LayerRefused (Height 0)) ring3 tables
-unfolding verdict ◌then◌ test some least sizes_fit cut_room_for out_of_range names_none names_twice reverse paired_at ordered_at order_of order_up_to place before linked_at
+unfolding verdict ◌then◌ test some least sizes_fit cut_room_for out_of_range names_none names_twice reverse paired_at ordered_at order_of order_up_to place
+    before linked_at
     passed_high unless_refused after passed_at member ring_entry rising rising_in successor below
 low = record { answers = refl; leaves = refl }
 
 -- the last vertex
 last : Steps (sweep p ring3 3) (Stepped (at 4)) ring0
-unfolding verdict ◌then◌ test some least sizes_fit out_of_range names_none names_twice reverse paired_at ordered_at order_of order_up_to place before unless_refused
+unfolding verdict ◌then◌ test some least sizes_fit out_of_range names_none names_twice reverse paired_at ordered_at order_of order_up_to place before
+    unless_refused
     step_ring relinked touches passed_at member ring_entry rising rising_in successor tabulate overwrite
 last = record { answers = refl; leaves = refl }
 
 -- the top
 at_top : Steps (sweep p ring0 4) Top ring0
-unfolding verdict ◌then◌ test some least sizes_fit out_of_range names_none names_twice reverse paired_at ordered_at order_of order_up_to place before unless_refused
+unfolding verdict ◌then◌ test some least sizes_fit out_of_range names_none names_twice reverse paired_at ordered_at order_of order_up_to place before
+    unless_refused
 at_top = record { answers = refl; leaves = refl }
 
 -- ---- the list

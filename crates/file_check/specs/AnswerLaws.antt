@@ -13,7 +13,8 @@ use Rattle.file_formats.specs.NumberLaws.{zigzag_unzigzag, sent_word}
 use Rattle.file_formats.specs.Positions.{number_at}
 use Rattle.file_formats.specs.PositionLaws.{place_drop, Tails, sequence_tails, ParsedAt, parsed_at, took}
 use Rattle.file_formats.specs.SequenceLaws.{state_after}
-use Rattle.file_formats.specs.LayerFile.{Point, Layer, most_points, coordinate_format, contour_in, room_after, contour_list_in, height_above, layer_format_in, height_of}
+use Rattle.file_formats.specs.LayerFile.{Point, Layer, most_points, coordinate_format, contour_in, room_after, contour_list_in, height_above, layer_format_in}
+use Rattle.file_formats.specs.LayerFile.{height_of}
 use Rattle.file_formats.specs.LayerFileLaws.{coordinate_tails, coordinate_single, contour_in_lem, contour_in_tails, contour_within, contour_list_tails}
 use Rattle.file_formats.specs.LayerFileLaws.{height_above_tails, height_single, layer_tails, layer_bad, layer_contours}
 use Rattle.file_formats.specs.LayerRules.{point_total}
@@ -243,7 +244,8 @@ module _ (p : Profile) (file : List ℕ) (at n : ℕ) (low : ℤ) where
       (sequence_tails (layer_format_in p) height_of (layer_tails p) n low) h z next e
 
   pub levels_off : (i : ℕ) → levels_at p n low file at ≡ LevelsRefused i → Off (sequence (layer_format_in p) height_of n low) file at i
-  levels_off i e = from_off levels_kinds (state_after (layer_format_in p) height_of low) (sequence (layer_format_in p) height_of n low) file at (λ j k f. cc) i e
+  levels_off i e =
+      from_off levels_kinds (state_after (layer_format_in p) height_of low) (sequence (layer_format_in p) height_of n low) file at (λ j k f. cc) i e
 
 -- ---- a value with which the file ends
 

@@ -18,7 +18,8 @@ use Rattle.file_formats.specs.FormatLaws.{Bytes, true_T, decode_there, decode_ba
 use Rattle.file_formats.specs.Numbers.{largest_word, encode_number, number, zigzag}
 use Rattle.file_formats.specs.NumberLaws.{number_laws}
 use Rattle.file_formats.specs.StopLaws.{Stops, through_stops, pair_stops, headed_stops, valid_split, state_alike, sequence_stops}
-use Rattle.file_formats.specs.LayerFile.{Point, Layer, layer_in, contour_format, contour_in, room_after, contour_list, contour_list_in, most_points, layer_format}
+use Rattle.file_formats.specs.LayerFile.{Point, Layer, layer_in, contour_format, contour_in, room_after, contour_list, contour_list_in, most_points}
+use Rattle.file_formats.specs.LayerFile.{layer_format}
 use Rattle.file_formats.specs.LayerFile.{most_layers, height_above, layer_format_in, lowest, height_of, layer_file, layer_file_in, layers_of, layers_of_in}
 use Rattle.file_formats.specs.LayerFileLaws.{contour_laws, contour_in_laws, height_above_laws, layer_laws, layer_file_laws, layer_file_within}
 use Rattle.file_formats.specs.LayerFileLaws.{contour_alike, layer_alike, encode_in}
@@ -242,7 +243,8 @@ contour_stops room c v u =
 contours_stop : (before : List (List Point)) (c : List Point) (after : List (List Point)) → contour_list.valid (before ++ (c ∷ after))
     → AllClean before → is_clean c ≡ false
     → Stops (contour_list_in Clean) ((contour_list_in Clean).encode (before ++ (c ∷ after)))
-    (encode_number (length (before ++ (c ∷ after))) ++ (encode_all (contour_in Clean) room_after most_points before ++ [])) ((contour_format most_points).encode c)
+    (encode_number (length (before ++ (c ∷ after))) ++ (encode_all (contour_in Clean) room_after most_points before ++ []))
+    ((contour_format most_points).encode c)
 unfolding contour_list_in
 contours_stop before c after v clean u =
     let n = length (before ++ (c ∷ after)) in
@@ -297,7 +299,8 @@ module _ (ls : List Layer) (q : InLayers ls) where
       let inside = sequence_stops (layer_format_in Clean) height_of (layer_laws Clean) lowest q.front q.layer q.back front-valid
       (layer_stops (state_after (layer_format_in Clean) height_of lowest q.front) q.layer here q.found) in
       headed_stops (number most_layers) (number_laws most_layers) (length ls) v.0 length (λ n. sequence (layer_format_in Clean) height_of n lowest)
-      (subst (λ (ms : List Layer). Stops (sequence (layer_format_in Clean) height_of (length ms) lowest) (encode_all (layer_format_in Clean) height_of lowest ms)
+      (subst (λ (ms : List Layer). Stops (sequence (layer_format_in Clean) height_of (length ms) lowest)
+      (encode_all (layer_format_in Clean) height_of lowest ms)
       (encode_all (layer_format_in Clean) height_of lowest q.front ++ (encode_number (zigzag q.layer.height)
       ++ (encode_number (length q.layer.contours) ++ (encode_all (contour_in Clean) room_after most_points q.found.before ++ [])))) contour_bytes)
       (sym q.is) inside)

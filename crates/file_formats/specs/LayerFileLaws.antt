@@ -22,7 +22,8 @@ use Rattle.file_formats.specs.NumberLaws.{number_laws, signed_laws, zigzag_abs}
 use Rattle.file_formats.specs.PositionLaws.{Tails, number_tails, signed_tails, through_tails, ruled_tails, obeying_tails, pair_tails, counted_tails}
 use Rattle.file_formats.specs.SequenceLaws.{parsed_length}
 use Rattle.file_formats.specs.LayerFile.{Point, Layer, most_layers, most_points, fewest_points, in_range, coordinate_format, point_format, origin, latest}
-use Rattle.file_formats.specs.LayerFile.{contour_format, contour_in, room_after, contour_list, contour_list_in, height_above, layer_format, layer_format_in, lowest}
+use Rattle.file_formats.specs.LayerFile.{contour_format, contour_in, room_after, contour_list, contour_list_in, height_above, layer_format, layer_format_in}
+use Rattle.file_formats.specs.LayerFile.{lowest}
 use Rattle.file_formats.specs.LayerFile.{height_of, layer_file, layer_file_in}
 
 -- ---- each format is lawful, and what is left after a value is a part of the file

@@ -1,5 +1,6 @@
 -- Numbers are lawful; their bytes group by group; signed numbers by plain ones.
-use Rattle.std.specs.Prelude.{◌≡◌, refl, Bool, true, false, List, [], ◌∷◌, ◌++◌, ℕ, zero, suc, ◌+◌, ◌*◌, ◌-◌, ◌/◌, ◌%◌, ◌<◌, ◌≤◌, ◌^◌, eqb, ltb, leb, length, ℤ, pos, negsuc, nat_abs, ◌-ℤ◌, ◌≤ℤ◌, ◌<ℤ◌}
+use Rattle.std.specs.Prelude.{◌≡◌, refl, Bool, true, false, List, [], ◌∷◌, ◌++◌, ℕ, zero, suc, ◌+◌, ◌*◌, ◌-◌, ◌/◌, ◌%◌, ◌<◌, ◌≤◌, ◌^◌, eqb, ltb, leb, length, ℤ}
+use Rattle.std.specs.Prelude.{pos, negsuc, nat_abs, ◌-ℤ◌, ◌≤ℤ◌, ◌<ℤ◌}
 use Rattle.std.proofs.Common.{ap, arith, lt-ltb, le-ltb, le-leb, eq-eqb, ne_eqb, ltb-true, ltb-false, leb-true, eqb-true}
 use Rattle.std.proofs.lemmas.Bool.{eqb-false}
 use Rattle.laws.specs.Integers.{ext, diff, lt_in}
@@ -79,7 +80,8 @@ unfolding parse_number
 groups_back [] n r bs e = not_refused e
 groups_back (b ∷ l) n r bs e = by (ltb b 128) refl (parse_number l) refl (λ v s. groups_back l v s (bytes_tail b l bs))
   where
-    by : (t : Bool) → ltb b 128 ≡ t → (d : Parse ℕ) → parse_number l ≡ d → ((v : ℕ) (s : List ℕ) → parse_number l ≡ parsed v s → Wrote v l s) → Wrote n (b ∷ l) r
+    by : (t : Bool) → ltb b 128 ≡ t → (d : Parse ℕ) → parse_number l ≡ d → ((v : ℕ) (s : List ℕ) → parse_number l ≡ parsed v s → Wrote v l s)
+        → Wrote n (b ∷ l) r
     by true p d q f =
         let e' : parsed b l ≡ parsed n r = simp p at e in
         let x : n ≡ b = cc in

@@ -4,7 +4,8 @@ use Rattle.cleaning.specs.Cleaning.{same_point, unrepeated, trimmed, neat, among
 use Rattle.cleaning.specs.declared.Profile.TheVariants.{Clean}
 use Rattle.file_formats.specs.Formats.{holds, broken, encode_all, parse_all}
 use Rattle.file_formats.specs.Numbers.{groups, encode_number, parse_number}
-use Rattle.file_formats.specs.LayerFile.{Point, Layer, coordinate_format, point_format, contour_format, contour_list_in, height_above, layer_format_in, layer_file}
+use Rattle.file_formats.specs.LayerFile.{Point, Layer, coordinate_format, point_format, contour_format, contour_list_in, height_above, layer_format_in}
+use Rattle.file_formats.specs.LayerFile.{layer_file}
 use Rattle.file_formats.specs.LayerFile.{layer_file_in}
 use Rattle.file_formats.specs.LayerFile.{layers_of, layers_of_in}
 use Rattle.file_formats.specs.PartFile.{Part, signed_run, plain_run, signed_list, counts_format, tables_for, part_file, part_of}
@@ -28,11 +29,13 @@ file =
     0x00 ∷ []
 
 written : layer_file.encode layers ≡ file
-unfolding layers file at layer_file_in layer_format_in height_above contour_list_in contour_format point_format coordinate_format encode_number groups encode_all
+unfolding layers file at layer_file_in layer_format_in height_above contour_list_in contour_format point_format coordinate_format encode_number groups
+    encode_all
 written = refl
 
 read : layers_of file ≡ holds layers
-unfolding layers file at layers_of_in layer_file_in layer_format_in height_above contour_list_in contour_format point_format coordinate_format parse_number parse_all
+unfolding layers file at layers_of_in layer_file_in layer_format_in height_above contour_list_in contour_format point_format coordinate_format parse_number
+    parse_all
 read = refl
 
 -- in the clean profile it breaks at the contour at height 10, which is (0, 0) three times; without that it is read

@@ -28,7 +28,8 @@ unfolding points ends five layer_of contours_in points_in
 held = refl
 
 written : layer_bytes (layer_of (pos 5) points ends 1) ≡ 0x0A ∷ 0x01 ∷ 0x03 ∷ 0x0A ∷ 0x00 ∷ 0x09 ∷ 0x0A ∷ 0x00 ∷ 0x09 ∷ []
-unfolding points ends layer_of contours_in points_in layer_bytes layer_format_in height_above contour_list_in contour_format point_format coordinate_format encode_number
+unfolding points ends layer_of contours_in points_in layer_bytes layer_format_in height_above contour_list_in contour_format point_format coordinate_format
+    encode_number
     groups
     encode_all
 written = refl
@@ -45,7 +46,8 @@ its_ends = refl
 -- ---- no contours
 
 none : layer_bytes (layer_of (pos 11) points ends 0) ≡ 0x16 ∷ 0x00 ∷ []
-unfolding points ends layer_of contours_in points_in layer_bytes layer_format_in height_above contour_list_in contour_format point_format coordinate_format encode_number
+unfolding points ends layer_of contours_in points_in layer_bytes layer_format_in height_above contour_list_in contour_format point_format coordinate_format
+    encode_number
     groups
     encode_all
 none = refl
@@ -54,6 +56,7 @@ none = refl
 
 two : layer_bytes (layer_of (negsuc 2) (pos 1 ∷ negsuc 0 ∷ negsuc 63 ∷ pos 64 ∷ pos 7 ∷ pos 7 ∷ pos 7 ∷ pos 7 ∷ []) (2 ∷ 4 ∷ []) 2)
     ≡ 0x05 ∷ 0x02 ∷ 0x02 ∷ 0x02 ∷ 0x01 ∷ 0x81 ∷ 0x01 ∷ 0x82 ∷ 0x01 ∷ 0x02 ∷ 0x0E ∷ 0x0E ∷ 0x00 ∷ 0x00 ∷ []
-unfolding layer_of contours_in points_in layer_bytes layer_format_in height_above contour_list_in contour_format point_format coordinate_format encode_number groups
+unfolding layer_of contours_in points_in layer_bytes layer_format_in height_above contour_list_in contour_format point_format coordinate_format encode_number
+    groups
     encode_all
 two = refl

@@ -77,18 +77,21 @@ file : List ℕ
 file = 0x02 ∷ 0x00 ∷ 0x00 ∷ 0x0A ∷ 0x01 ∷ 0x03 ∷ 0x0A ∷ 0x00 ∷ 0x09 ∷ 0x0A ∷ 0x00 ∷ 0x09 ∷ []
 
 charged : answer_of (inking (file, 1000)) ≡ gives 1
-unfolding verdict ◌then◌ test some least broken_at held_or thickness_fits job_charge layer_charge layer_area contour_area area_from cross_points file layers_of_in
+unfolding verdict ◌then◌ test some least broken_at held_or thickness_fits job_charge layer_charge layer_area contour_area area_from cross_points file
+    layers_of_in
     layer_file_in layer_format_in height_above contour_list_in contour_format point_format coordinate_format parse_number parse_all
 charged = refl
 
 -- too thin, too thick
 too_thin : answer_of (inking (file, 0)) ≡ refuses (refusal 19 0)
-unfolding verdict ◌then◌ test some least broken_at thickness_fits file layers_of_in layer_file_in layer_format_in height_above contour_list_in contour_format point_format
+unfolding verdict ◌then◌ test some least broken_at thickness_fits file layers_of_in layer_file_in layer_format_in height_above contour_list_in contour_format
+    point_format
     coordinate_format parse_number parse_all
 too_thin = refl
 
 too_thick : answer_of (inking (file, 1001)) ≡ refuses (refusal 19 0)
-unfolding verdict ◌then◌ test some least broken_at thickness_fits file layers_of_in layer_file_in layer_format_in height_above contour_list_in contour_format point_format
+unfolding verdict ◌then◌ test some least broken_at thickness_fits file layers_of_in layer_file_in layer_format_in height_above contour_list_in contour_format
+    point_format
     coordinate_format parse_number parse_all
 too_thick = refl
 

@@ -3,7 +3,8 @@
 -- One combinator for each operation makes the `Rd` of its result (`mul r s tt`), and another answers the need that the result fits (`mul_ok r s tt`).
 -- The `tt` is the bound's comparison with the width, which computes. A proof mirrors the code:  `dx = sub x1 x0 tt`.
 -- The combinators are `abbrev`, so that the bits compute to the term that a need shows. Assumes nothing.
-use Rattle.std.specs.Prelude.{◌≡◌, Bool, true, false, not, ℕ, zero, suc, ◌+◌, ◌*◌, ◌/◌, ◌<◌, ◌≤◌, ◌^◌, T, leb, ltb, ℤ, pos, negsuc, nat_abs, ◌+ℤ◌, ◌-ℤ◌, ◌*ℤ◌, ◌≤ℤ◌, ◌<ℤ◌}
+use Rattle.std.specs.Prelude.{◌≡◌, Bool, true, false, not, ℕ, zero, suc, ◌+◌, ◌*◌, ◌/◌, ◌<◌, ◌≤◌, ◌^◌, T, leb, ltb, ℤ, pos, negsuc, nat_abs, ◌+ℤ◌, ◌-ℤ◌, ◌*ℤ◌}
+use Rattle.std.specs.Prelude.{◌≤ℤ◌, ◌<ℤ◌}
 use Rattle.std.proofs.Common.{sym, ap, ◌∙◌, subst, mul-le-mul, le_trans, le_refl, le_of_eq, lt_of_le_of_lt, div-le_self, arith, pow_pos, ltb→lt}
 use Rattle.std.proofs.Math.Facts.{sfits_widen}
 use Rattle.std.specs.Int.Signed.{mag, le_z, lt_z, le_z_yes, lt_z_yes, lt_z_no, quot_z, <ℤ_irrefl, nat_abs-le, non_neg, yes_non_neg, pos-nat_abs}

@@ -92,7 +92,8 @@ module _ {input : List ℕ} {t t' : Part} {result : ReadPartAnswer} (k : ReadsPa
       }
 
   -- a refusal of Read part, by what the file holds
-  pub read_stop : (q : Refusal) {r : Told} → part_sizes_of t ≡ held_sizes → tell_read_part result ≡ refuses r → told_of q ≡ limited r → Takes input (Refused q) t'
+  pub read_stop : (q : Refusal) {r : Told} → part_sizes_of t ≡ held_sizes → tell_read_part result ≡ refuses r → told_of q ≡ limited r
+      → Takes input (Refused q) t'
   unfolding Takes limited
   read_stop q {r} sizes e f = by (part_of input) refl ∙ ap refuses (sym f)
     where

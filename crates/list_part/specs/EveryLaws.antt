@@ -53,7 +53,8 @@ layers_but14 p =
 
 -- the size of the input, 13, the limits, the refusals of Check, and those of All layers but 14 (LIST-5)
 abbrev pub every_refusal : List ℕ → List (Condition Told)
-every_refusal input = long_input input ∷ form input (part_of input) ∷ limits (part_in input) ∷ (part_check_tests (part_in input) ++ layers_but14 (part_in input))
+every_refusal input =
+    long_input input ∷ form input (part_of input) ∷ limits (part_in input) ∷ (part_check_tests (part_in input) ++ layers_but14 (part_in input))
 
 -- ---- two lists that begin alike answer the same if they do so where the beginning refuses nothing
 

@@ -42,7 +42,8 @@ five_lines : listed ((0x04 ∷ 0x04 ∷ vertices) ++ (three ++ (last ++ (0x04 �
     ++ (108 ∷ 97 ∷ 121 ∷ 101 ∷ 114 ∷ 32 ∷ 49 ∷ 49 ∷ 32 ∷ 48 ∷ 32 ∷ 48 ∷ 32 ∷ 48 ∷ 10 ∷ []))))
 unfolding vertices three last listed verdict ◌then◌ test some least beyond
     broken_at held_or part_of part_file tables_for counts_format signed_list plain_run signed_run parse_number parse_all
-    heights_taken not_above_last sizes_fit check_room_for out_of_range names_none names_twice open_at partners reverse uses count stands_for partner_of pairing_of tabulate
+    heights_taken not_above_last sizes_fit check_room_for out_of_range names_none names_twice open_at partners reverse uses count stands_for partner_of
+    pairing_of tabulate
     below trace trace_to trace_at walk member rising rising_in successor numbers_of point_at exact_over exact_under numerator denominator rounded
     cross_of next_point sum_of area_of layers_line layer_line area_sum line_of line_at listing flatten signed_decimal decimal digits
 five_lines = refl
@@ -77,6 +78,7 @@ equal_heights : listed ((0x04 ∷ 0x04 ∷ vertices) ++ (three ++ (last ++ (0x03
     ≡ 114 ∷ 101 ∷ 102 ∷ 117 ∷ 115 ∷ 101 ∷ 100 ∷ 32 ∷ 49 ∷ 50 ∷ 32 ∷ 50 ∷ 10 ∷ []
 unfolding vertices three last listed verdict ◌then◌ test some least beyond
     broken_at held_or part_of part_file tables_for counts_format signed_list plain_run signed_run parse_number parse_all
-    heights_taken sizes_fit check_room_for out_of_range names_none names_twice open_at partners reverse uses count stands_for not_above_last refused_line flatten decimal
+    heights_taken sizes_fit check_room_for out_of_range names_none names_twice open_at partners reverse uses count stands_for not_above_last refused_line
+    flatten decimal
     digits
 equal_heights = refl

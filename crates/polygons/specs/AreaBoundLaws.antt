@@ -7,7 +7,8 @@ use Rattle.polygons.specs.Flat.{Point, PointNear, point_total, Each}
 use Rattle.polygons.specs.ContourAreas.{cross_points, area_from, contour_area, layer_area, largest_cross}
 
 -- a cross product of four coordinates
-pub cross_le : (x y u v : ℤ) → nat_abs x ≤ largest → nat_abs y ≤ largest → nat_abs u ≤ largest → nat_abs v ≤ largest → nat_abs (x *ℤ v -ℤ u *ℤ y) ≤ largest_cross
+pub cross_le : (x y u v : ℤ) → nat_abs x ≤ largest → nat_abs y ≤ largest → nat_abs u ≤ largest → nat_abs v ≤ largest
+    → nat_abs (x *ℤ v -ℤ u *ℤ y) ≤ largest_cross
 cross_le x y u v hx hy hu hv =
     let a : nat_abs x * nat_abs v ≤ largest * largest = mul-le-mul hx hv in
     let b : nat_abs u * nat_abs y ≤ largest * largest = mul-le-mul hu hy in

@@ -78,7 +78,8 @@ unfolding put_calls
 puts_later n [] k a b u = refl
 puts_later n (c ∷ calls) k a b u = ap (put_calls (suc (suc n)) calls) (put_later n c k a b u) ∙ puts_later (suc n) calls k a b (put_call n c u)
 
-put_first : (c : PathCall) (k : ℕ) (a b : Float) (u : CallTables) → put_call 0 c (behind_one k a b u) ≡ behind_one (kind_of c) (first_float c a) (second_float c b) u
+put_first : (c : PathCall) (k : ℕ) (a b : Float) (u : CallTables)
+    → put_call 0 c (behind_one k a b u) ≡ behind_one (kind_of c) (first_float c a) (second_float c b) u
 put_first (Move x y) k a b u = refl
 put_first (Line x y) k a b u = refl
 put_first Close k a b u = refl
@@ -113,7 +114,8 @@ module _ (o : Origin) (points : List ℤ) where
   lines_more i zero = ap (λ (k : ℕ). drawn_call o (line (table_point points k)) ∷ []) (add-zero i)
   lines_more i (suc n) =
       ap (λ (l : List PathCall). drawn_call o (line (table_point points i)) ∷ l)
-      (ap (λ (k : ℕ). lines_from o points (suc i) n ++ (drawn_call o (line (table_point points k)) ∷ [])) (add-suc i n ∙ sym (suc-add i n)) ∙ lines_more (suc i) n)
+      (ap (λ (k : ℕ). lines_from o points (suc i) n ++ (drawn_call o (line (table_point points k)) ∷ [])) (add-suc i n ∙ sym (suc-add i n)) ∙ lines_more
+      (suc i) n)
 
   pub here_close : (s e i : ℕ) → i ≡ e → call_here o points s e i ≡ Close
   unfolding call_here

@@ -1,7 +1,9 @@
 -- Laws of floats that are whole numbers: where a cast and a sum of them round nothing.
-use Rattle.std.specs.Prelude.{◌≡◌, ℕ, zero, suc, ◌+◌, ◌-◌, ◌*◌, ◌^◌, ◌<◌, ◌≤◌, Bool, true, false, cond, not, ◌&&◌, ℤ, pos, negsuc, ◌+ℤ◌, ◌-ℤ◌, ◌*ℤ◌, neg_ℤ, ◌==◌, ◌≢◌, nat_lt, unsigned_abs, Float}
+use Rattle.std.specs.Prelude.{◌≡◌, ℕ, zero, suc, ◌+◌, ◌-◌, ◌*◌, ◌^◌, ◌<◌, ◌≤◌, Bool, true, false, cond, not, ◌&&◌, ℤ, pos, negsuc, ◌+ℤ◌, ◌-ℤ◌, ◌*ℤ◌, neg_ℤ}
+use Rattle.std.specs.Prelude.{◌==◌, ◌≢◌, nat_lt, unsigned_abs, Float}
 use Rattle.std.proofs.Math.Path.{refl, ap}
-use Rattle.std.proofs.Common.{sym, ◌∙◌, subst, zero-lt-suc, zero-mul, mul-one, mul_comm, mul_assoc, mul-pos, add-mul, le_of_mul-le-mul_right, lt_of_mul-lt-mul_right, arith, ltb-true, ltb-false, eqb-true, eq-eqb}
+use Rattle.std.proofs.Common.{sym, ◌∙◌, subst, zero-lt-suc, zero-mul, mul-one, mul_comm, mul_assoc, mul-pos, add-mul, le_of_mul-le-mul_right}
+use Rattle.std.proofs.Common.{lt_of_mul-lt-mul_right, arith, ltb-true, ltb-false, eqb-true, eq-eqb}
 use Rattle.std.proofs.Math.Bool.{false≢true}
 use Rattle.std.proofs.Math.Nat.{mul-sub, eq_of_mul-eq-mul_right}
 use Rattle.std.proofs.Math.IntN.{neg_ℤ-neg_ℤ}

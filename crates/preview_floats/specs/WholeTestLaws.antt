@@ -1,6 +1,8 @@
 -- Laws of the test for whole numbers of coordinate range: what passes it, and that two comparisons and a cast there and back decide it.
-use Rattle.std.specs.Prelude.{◌≡◌, ℕ, suc, ◌+◌, ◌-◌, ◌*◌, ◌/◌, ◌%◌, ◌^◌, ◌<◌, ◌≤◌, min, Bool, true, false, cond, ◌&&◌, ◌||◌, ◌⊎◌, ◌↔◌, ℤ, pos, neg_ℤ, ◌==◌, nat_eq, nat_le, nat_lt, unsigned_abs, refl, Float}
-use Rattle.std.proofs.Common.{sym, ap, ◌∙◌, subst, zero-mul, mul-div_cancel, div-add-mod', div-lt_iff_lt-mul, mul_right_comm, mul-le-mul_right, arith, ltb-true, lt-ltb, eqb-true, eq-eqb, leb-true, le-leb, inl, inr, ⊎_elim}
+use Rattle.std.specs.Prelude.{◌≡◌, ℕ, suc, ◌+◌, ◌-◌, ◌*◌, ◌/◌, ◌%◌, ◌^◌, ◌<◌, ◌≤◌, min, Bool, true, false, cond, ◌&&◌, ◌||◌, ◌⊎◌, ◌↔◌, ℤ, pos, neg_ℤ, ◌==◌}
+use Rattle.std.specs.Prelude.{nat_eq, nat_le, nat_lt, unsigned_abs, refl, Float}
+use Rattle.std.proofs.Common.{sym, ap, ◌∙◌, subst, zero-mul, mul-div_cancel, div-add-mod', div-lt_iff_lt-mul, mul_right_comm, mul-le-mul_right, arith, ltb-true}
+use Rattle.std.proofs.Common.{lt-ltb, eqb-true, eq-eqb, leb-true, le-leb, inl, inr, ⊎_elim}
 use Rattle.std.specs.Bool.{beq}
 use Rattle.std.proofs.lemmas.Bool.{false≢true}
 use Rattle.std.proofs.Math.Nat.{mul-mod_left, eq_of_mul-eq-mul_right}
@@ -175,7 +177,9 @@ module _ (t s : Bool) (n m : ℕ) (d e : ℤ) (z : ℤ) (y_is : Parts t n d z) w
       let p = and_parts (n * up d * down e == m * up e * down d) (beq t s || n * up d * down e == 0) q in
       let cross : n * up d * down e ≡ m * up e * down d = eqb-true (n * up d * down e) (m * up e * down d) p.0 in
       record {
-        is = ⊎_elim (λ k. subst (λ (u : Bool). with_sign u (unsigned_abs z) ≡ z) (beq_same t s k) y_is.is) (λ k. any_sign s t (unsigned_abs z) z (no_size k) y_is.is)
+        is =
+            ⊎_elim (λ k. subst (λ (u : Bool). with_sign u (unsigned_abs z) ≡ z) (beq_same t s k) y_is.is)
+            (λ k. any_sign s t (unsigned_abs z) z (no_size k) y_is.is)
             (or_cases (beq t s) (n * up d * down e == 0) p.1);
         size = eq_of_mul-eq-mul_right (down d) (down_pos d) (m * up e) (unsigned_abs z * down e) (sym cross ∙ left);
       }

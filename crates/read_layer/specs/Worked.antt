@@ -12,7 +12,8 @@ use Rattle.cleaning.specs.declared.Profile.{Profile}
 use Rattle.cleaning.specs.declared.Profile.TheVariants.{Full, Clean}
 use Rattle.file_formats.specs.Formats.{parse_all}
 use Rattle.file_formats.specs.Numbers.{parse_number}
-use Rattle.file_formats.specs.LayerFile.{coordinate_format, point_format, contour_format, contour_list_in, height_above, layer_format_in, layer_file_in, layers_of_in}
+use Rattle.file_formats.specs.LayerFile.{coordinate_format, point_format, contour_format, contour_list_in, height_above, layer_format_in, layer_file_in}
+use Rattle.file_formats.specs.LayerFile.{layers_of_in}
 use Rattle.file_formats.specs.WholeFiles.{broken_at, held_or}
 use Rattle.read_layer.specs.Reading.{read_layer_room_for, layer_reading}
 

@@ -20,7 +20,8 @@ use Rattle.nesting.specs.Nesting.{NestTables, contour_nesting}
 use Rattle.read_part.specs.Parts.{part_reading}
 use Rattle.preview_floats.specs.declared.Origin.{Origin}
 use Rattle.preview.specs.Preview.{previewing, CallTables, preview_running}
-use Rattle.out_words.specs.Words.{no_words, one_word, signed_word, cut_words, step_words, layer_words, read_layer_words, read_part_words, preview_words, xy_after}
+use Rattle.out_words.specs.Words.{no_words, one_word, signed_word, cut_words, step_words, layer_words, read_layer_words, read_part_words, preview_words}
+use Rattle.out_words.specs.Words.{xy_after}
 use Rattle.wadroles.specs.Exports.{Exports}
 
 -- What each function is handed, `out` before, the number returned, the tables and `out` after

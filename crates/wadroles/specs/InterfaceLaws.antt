@@ -106,7 +106,8 @@ module _ {a b c d n : ℕ} {out' : List ℕ} where
 
   pub area_said : {points : List ℤ} → AreaC points (four_words a b c d) n out'
       → said_by (λ out. signed_from_word (get_or out 0 0)) n out' ≡ answer_of (measuring points)
-  area_said {points} = exports_said (λ out. signed_from_word (get_or out 0 0)) (λ e. signed_back (area_of points) (area_small points e)) (has_one, (has_one, tt))
+  area_said {points} =
+      exports_said (λ out. signed_from_word (get_or out 0 0)) (λ e. signed_back (area_of points) (area_small points e)) (has_one, (has_one, tt))
 
   pub start_said : {m : Mesh} {ring ring' : List ℕ} → StartC m ring (four_words a b c d) n ring' out'
       → said_by (λ out. get_or out 0 0) n out' ≡ answer_of (starting (m, ring))

@@ -34,16 +34,22 @@ twins = flat (square 0 0 9 ++ square 0 0 9 ++ square 3 3 3) (4 ∷ 8 ∷ 12 ∷ 
 -- ---- by computation
 
 pub touching_nests : nested_as touching ≡ nests (0 ∷ 0 ∷ []) (no_parent ∷ no_parent ∷ [])
-unfolding nested_as verdict ◌then◌ test some least unless_refused overwrite tabulate is_layer run_fits ends_rise last_end out_of_range nest_room_for contours_in points_in
-    depth_of parent_of smallest size_of contour_area area_from cross_points count held_by lies_in is_odd counts_for passes_up meets_right numerator denominator next_point
+unfolding nested_as verdict ◌then◌ test some least unless_refused overwrite tabulate is_layer run_fits ends_rise last_end out_of_range nest_room_for
+    contours_in points_in
+    depth_of parent_of smallest size_of contour_area area_from cross_points count held_by lies_in is_odd counts_for passes_up meets_right numerator denominator
+    next_point
 touching_nests = refl
 
 pub within_nests : nested_as squares_within ≡ nests (0 ∷ 2 ∷ 0 ∷ 1 ∷ []) (no_parent ∷ 3 ∷ no_parent ∷ 0 ∷ [])
-unfolding nested_as verdict ◌then◌ test some least unless_refused overwrite tabulate is_layer run_fits ends_rise last_end out_of_range nest_room_for contours_in points_in
-    depth_of parent_of smallest size_of contour_area area_from cross_points count held_by lies_in is_odd counts_for passes_up meets_right numerator denominator next_point
+unfolding nested_as verdict ◌then◌ test some least unless_refused overwrite tabulate is_layer run_fits ends_rise last_end out_of_range nest_room_for
+    contours_in points_in
+    depth_of parent_of smallest size_of contour_area area_from cross_points count held_by lies_in is_odd counts_for passes_up meets_right numerator denominator
+    next_point
 within_nests = refl
 
 pub twins_nest : nested_as twins ≡ nests (1 ∷ 1 ∷ 2 ∷ []) (1 ∷ 0 ∷ 0 ∷ [])
-unfolding nested_as verdict ◌then◌ test some least unless_refused overwrite tabulate is_layer run_fits ends_rise last_end out_of_range nest_room_for contours_in points_in
-    depth_of parent_of smallest size_of contour_area area_from cross_points count held_by lies_in is_odd counts_for passes_up meets_right numerator denominator next_point
+unfolding nested_as verdict ◌then◌ test some least unless_refused overwrite tabulate is_layer run_fits ends_rise last_end out_of_range nest_room_for
+    contours_in points_in
+    depth_of parent_of smallest size_of contour_area area_from cross_points count held_by lies_in is_odd counts_for passes_up meets_right numerator denominator
+    next_point
 twins_nest = refl

@@ -62,7 +62,8 @@ uneven =
 -- ---- by computation
 
 pub cubes_accepted : checked_as cubes ≡ paired cubes_pairing
-unfolding checked_as verdict ◌then◌ test some least after overwrite tabulate sizes_fit check_room_for out_of_range names_none names_twice open_at partners reverse
+unfolding checked_as verdict ◌then◌ test some least after overwrite tabulate sizes_fit check_room_for out_of_range names_none names_twice open_at partners
+    reverse
     uses count stands_for pairing_of partner_of
 cubes_accepted = refl
 
@@ -74,13 +75,15 @@ abbrev ready : OrderedMesh
 ready = ordered coords corners cubes_pairing (0 ∷ 1 ∷ 2 ∷ 3 ∷ 8 ∷ 9 ∷ 10 ∷ 4 ∷ 5 ∷ 6 ∷ 7 ∷ 11 ∷ 12 ∷ 13 ∷ [])
 
 tables : with_tables cubes ≡ ready
-unfolding with_tables verdict ◌then◌ test some least after overwrite tabulate sizes_fit check_room_for out_of_range names_none names_twice open_at partners reverse
+unfolding with_tables verdict ◌then◌ test some least after overwrite tabulate sizes_fit check_room_for out_of_range names_none names_twice open_at partners
+    reverse
     uses count stands_for pairing_of partner_of order_of order_up_to place before
 tables = refl
 
 cut_ready : cut_as ready (pos 5) ≡ layer cubes_at_five
 unfolding cut_as verdict ◌then◌ test some least after overwrite sizes_fit cut_room_for out_of_range names_none names_twice reverse paired_at met_at
-    trace trace_to trace_at flatten walk member rising rising_in successor below ends_from numbers_of point_at exact_over exact_under numerator denominator rounded
+    trace trace_to trace_at flatten walk member rising rising_in successor below ends_from numbers_of point_at exact_over exact_under numerator denominator
+    rounded
 cut_ready = refl
 
 pub cubes_cut : cut_as (with_tables cubes) (pos 5) ≡ layer cubes_at_five

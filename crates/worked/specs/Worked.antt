@@ -25,7 +25,8 @@ use Rattle.sweep.specs.Sweep.{passed_at, fresh_ring, touches, relinked, step_rin
 use Rattle.sweep.specs.Operations.{unless_refused}
 use Rattle.file_formats.specs.Formats.{encode_all, parse_all}
 use Rattle.file_formats.specs.Numbers.{groups, encode_number, parse_number}
-use Rattle.file_formats.specs.LayerFile.{coordinate_format, point_format, contour_format, contour_list_in, height_above, layer_format_in, layer_file_in, layers_of_in}
+use Rattle.file_formats.specs.LayerFile.{coordinate_format, point_format, contour_format, contour_list_in, height_above, layer_format_in, layer_file_in}
+use Rattle.file_formats.specs.LayerFile.{layers_of_in}
 use Rattle.file_formats.specs.WholeFiles.{broken_at, held_or, layers_in}
 use Rattle.polygons.specs.ContourAreas.{cross_points, area_from, contour_area, layer_area}
 use Rattle.ink.specs.Charges.{layer_charge, job_charge}
@@ -158,7 +159,8 @@ unfolding checked_as verdict ◌then◌ test some least after overwrite tabulate
 P-accepted = refl
 
 P-opened : checked_as opened ≡ refused 6 1
-unfolding checked_as verdict ◌then◌ test some least sizes_fit check.check_room_for out_of_range names_none names_twice open_at partners reverse uses count stands_for
+unfolding checked_as verdict ◌then◌ test some least sizes_fit check.check_room_for out_of_range names_none names_twice open_at partners reverse uses count
+    stands_for
 P-opened = refl
 
 one_passed : passed_as ready 1 ≡ rings ((0 ∷ 6 ∷ 3 ∷ []) ∷ [])
@@ -171,12 +173,14 @@ two_passed = refl
 
 at_5 : cut_as ready (pos 5) ≡ layered at_five
 unfolding cut_as verdict ◌then◌ test some least after overwrite sizes_fit cut_room_for out_of_range names_none names_twice reverse paired_at met_at
-    trace trace_to trace_at flatten walk member rising rising_in successor below ends_from numbers_of point_at exact_over exact_under numerator denominator rounded
+    trace trace_to trace_at flatten walk member rising rising_in successor below ends_from numbers_of point_at exact_over exact_under numerator denominator
+    rounded
 at_5 = refl
 
 at_10 : cut_as ready (pos 10) ≡ layered at_ten
 unfolding cut_as verdict ◌then◌ test some least after overwrite sizes_fit cut_room_for out_of_range names_none names_twice reverse paired_at met_at
-    trace trace_to trace_at flatten walk member rising rising_in successor below ends_from numbers_of point_at exact_over exact_under numerator denominator rounded
+    trace trace_to trace_at flatten walk member rising rising_in successor below ends_from numbers_of point_at exact_over exact_under numerator denominator
+    rounded
 at_10 = refl
 
 at_0 : cut_as ready (pos 0) ≡ layered no_contour
@@ -194,18 +198,25 @@ unfolding area_as verdict ◌then◌ test some least run_fits out_of_range areas
 area_5 = refl
 
 file_P : filed_as Full ready heights 23 ≡ bytes file
-unfolding filed_as verdict ◌then◌ test some least overwrite tabulate sizes_fit cut_room_for work_room_for out_of_range names_none names_twice reverse paired_at ordered_at
-    before place order_up_to order_of met_at not_above_last heights_taken unless_refused swept_layer climb fresh_ring may_rise risen_to risen_ring step_ring relinked touches
-    passed_at ring_entry has_link trace_links below rising rising_in successor member walk trace_at flatten trace_to point_at exact_over exact_under numerator denominator
+unfolding filed_as verdict ◌then◌ test some least overwrite tabulate sizes_fit cut_room_for work_room_for out_of_range names_none names_twice reverse paired_at
+    ordered_at
+    before place order_up_to order_of met_at not_above_last heights_taken unless_refused swept_layer climb fresh_ring may_rise risen_to risen_ring step_ring
+    relinked touches
+    passed_at ring_entry has_link trace_links below rising rising_in successor member walk trace_at flatten trace_to point_at exact_over exact_under numerator
+    denominator
     rounded encode_all groups encode_number coordinate_format point_format contour_format contour_list_in height_above layer_format_in layer_file_in
 file_P = refl
 
 -- its layer at 10 stays, without the contour of three equal points
 clean_P : filed_as Clean ready heights 16 ≡ bytes clean_file
-unfolding filed_as verdict ◌then◌ test some least overwrite tabulate sizes_fit cut_room_for work_room_for out_of_range names_none names_twice reverse paired_at ordered_at
-    before place order_up_to order_of met_at not_above_last heights_taken unless_refused swept_layer climb fresh_ring may_rise risen_to risen_ring step_ring relinked touches
-    passed_at ring_entry has_link trace_links below rising rising_in successor member walk trace_at flatten trace_to point_at exact_over exact_under numerator denominator
-    rounded cleaned kept neat unrepeated trimmed same_point variety among encode_all groups encode_number coordinate_format point_format contour_format contour_list_in
+unfolding filed_as verdict ◌then◌ test some least overwrite tabulate sizes_fit cut_room_for work_room_for out_of_range names_none names_twice reverse paired_at
+    ordered_at
+    before place order_up_to order_of met_at not_above_last heights_taken unless_refused swept_layer climb fresh_ring may_rise risen_to risen_ring step_ring
+    relinked touches
+    passed_at ring_entry has_link trace_links below rising rising_in successor member walk trace_at flatten trace_to point_at exact_over exact_under numerator
+    denominator
+    rounded cleaned kept neat unrepeated trimmed same_point variety among encode_all groups encode_number coordinate_format point_format contour_format
+    contour_list_in
     height_above layer_format_in layer_file_in
 clean_P = refl
 
@@ -218,7 +229,8 @@ unfolding edge_as point_at exact_over exact_under numerator denominator rounded
 minus_half = refl
 
 too_long : read_file_as Full (0x80 ∷ 0x00 ∷ []) ≡ refused 13 0
-unfolding read_file_as verdict ◌then◌ test some least broken_at held_or read_layer_room_for layers_of_in layer_file_in layer_format_in height_above contour_list_in
+unfolding read_file_as verdict ◌then◌ test some least broken_at held_or read_layer_room_for layers_of_in layer_file_in layer_format_in height_above
+    contour_list_in
     contour_format
     point_format coordinate_format parse_number
     parse_all
@@ -226,7 +238,8 @@ too_long = refl
 
 -- the contour of three equal points at height 10 (WORKED-19)
 unclean_P : read_file_as Clean file ≡ refused 18 14
-unfolding read_file_as verdict ◌then◌ test some least broken_at held_or read_layer_room_for layers_of_in layer_file_in layer_format_in height_above contour_list_in
+unfolding read_file_as verdict ◌then◌ test some least broken_at held_or read_layer_room_for layers_of_in layer_file_in layer_format_in height_above
+    contour_list_in
     contour_format
     point_format coordinate_format parse_number parse_all is_clean same_points kept neat unrepeated trimmed same_point variety among
 unclean_P = refl
@@ -238,7 +251,8 @@ unfolding held_or layers_of_in layer_file_in layer_format_in height_above contou
 areas_P = refl
 
 ink_P : inked_as file 1000 ≡ number (pos 1)
-unfolding inked_as verdict ◌then◌ test some least broken_at held_or layers_of_in layer_file_in layer_format_in height_above contour_list_in contour_format point_format
+unfolding inked_as verdict ◌then◌ test some least broken_at held_or layers_of_in layer_file_in layer_format_in height_above contour_list_in contour_format
+    point_format
     coordinate_format parse_number parse_all thickness_fits job_charge layer_charge layer_area contour_area area_from cross_points
 ink_P = refl
 

@@ -14,7 +14,11 @@ returns-then-ends_fit c = record {
 }
 
 pub returns-else-ends_fit : goal.returns-else-ends_fit
-returns-else-ends_fit c = record { told = ends_refused (layer_of (goal.at.returns-else-ends_fit c).Start) c.run_fits.ensures.value c.if-run_fits.true c.ends_fit.ensures.value c.if-ends_fit.false }
+returns-else-ends_fit c = record {
+  told =
+      ends_refused (layer_of (goal.at.returns-else-ends_fit c).Start) c.run_fits.ensures.value c.if-run_fits.true c.ends_fit.ensures.value
+      c.if-ends_fit.false;
+}
 
 pub returns-else-run_fits : goal.returns-else-run_fits
 returns-else-run_fits c = record { told = run_refused (layer_of (goal.at.returns-else-run_fits c).Start) c.run_fits.ensures.value c.if-run_fits.false }

@@ -6,4 +6,9 @@ use Rattle.wadroles.proofs.wadroles_contour.Goals as goal
 
 pub returns : goal.returns
 returns c =
-    let out = c.args.out.now in record { outcome = record { returns = refl; writes = λ i. set (set out 0 (c.contour_part-p.ensures.result.0 i)) 1 (c.contour_part-p.ensures.result.1 i) } }
+    let out = c.args.out.now in record {
+      outcome = record {
+        returns = refl;
+        writes = λ i. set (set out 0 (c.contour_part-p.ensures.result.0 i)) 1 (c.contour_part-p.ensures.result.1 i);
+      };
+    }

@@ -37,7 +37,9 @@ overflow_add-charge c =
     omega (arith, sum_small c.loop-left.invariant (omega (arith, c.loop-left-test.true)) (told (goal.at.overflow_add-charge c).In-End) (charged c))
 
 pub returns-in-Refused : goal.returns-in-Refused
-returns-in-Refused c = record { value = run_stops c.loop-left.invariant (omega (arith, c.loop-left-test.true)) (sym c.check_layer-l.ensures.value ∙ c.in-Refused.is) }
+returns-in-Refused c = record {
+  value = run_stops c.loop-left.invariant (omega (arith, c.loop-left-test.true)) (sym c.check_layer-l.ensures.value ∙ c.in-Refused.is);
+}
 
 pub loop-left-preserved : goal.loop-left-preserved
 loop-left-preserved c =

@@ -30,7 +30,8 @@ pub overflow_add-k : goal.overflow_add-k
 overflow_add-k c = omega (arith, (neg (goal.at.overflow_add-k c).Then-z-lt0).small, ap nat_abs (below_is (neg (goal.at.overflow_add-k c).Then-z-lt0)))
 
 pub write_decimal-requires : goal.write_decimal-requires
-write_decimal-requires c = below_room (neg (goal.at.write_decimal-requires c).Then-z-lt0) (ap nat_abs (below_is (neg (goal.at.write_decimal-requires c).Then-z-lt0))) c.requires _
+write_decimal-requires c =
+    below_room (neg (goal.at.write_decimal-requires c).Then-z-lt0) (ap nat_abs (below_is (neg (goal.at.write_decimal-requires c).Then-z-lt0))) c.requires _
 
 pub shape_of-output-then-z-lt0 : goal.shape_of-output-then-z-lt0
 shape_of-output-then-z-lt0 c =
@@ -44,7 +45,8 @@ pub overflow_cast-z : goal.overflow_cast-z
 overflow_cast-z c = plain_ok (not_neg (goal.at.overflow_cast-z c).Else-z-lt0).is (not_neg (goal.at.overflow_cast-z c).Else-z-lt0).small
 
 pub write_decimal-requires-2 : goal.write_decimal-requires-2
-write_decimal-requires-2 c = above_room (not_neg (goal.at.write_decimal-requires-2 c).Else-z-lt0) (ap nat_abs (not_neg (goal.at.write_decimal-requires-2 c).Else-z-lt0).is) c.requires
+write_decimal-requires-2 c =
+    above_room (not_neg (goal.at.write_decimal-requires-2 c).Else-z-lt0) (ap nat_abs (not_neg (goal.at.write_decimal-requires-2 c).Else-z-lt0).is) c.requires
 
 pub returns : goal.returns
 returns c =

@@ -16,7 +16,8 @@ use Rattle.list_lines.proofs.unchecked_lines.list_lines.Given as goal
 
 abbrev pub invariant-loop-k : goal.invariant-loop-k
 invariant-loop-k l =
-    LinesPut (paired l.coords l.corners l.pairing) l.heights l.initial.output l.at l.output l.p l.k × SameLengths (lent l.initial.names l.initial.points l.initial.ends l.initial.marks) (lent l.names l.points l.ends l.marks)
+    LinesPut (paired l.coords l.corners l.pairing) l.heights l.initial.output l.at l.output l.p l.k × SameLengths
+    (lent l.initial.names l.initial.points l.initial.ends l.initial.marks) (lent l.names l.points l.ends l.marks)
 
 abbrev pub decreases-loop-k : goal.decreases-loop-k
 decreases-loop-k l =
