@@ -20,7 +20,7 @@ module _ (start : Start) where
 
 -- what is known of the two points, which were handed on
 module _ (c : After-same_point) where
-  same-told : c.same_point.result ≡ same_point (before c.before.before.before) (next c.before.before.before)
+  same-told : c.same_point.result ≡ same_point (point c.args.px c.args.py) (point c.args.x c.args.y)
   same-told =
       let f = c.ranges in
       simp (
@@ -30,9 +30,7 @@ module _ (c : After-same_point) where
         to_z-of_z w32 c.args.y f.y,
       ) at c.same_point.ensures.value
 
-known-told : (c : After-is_known)
-    →
-    c.is_known.result ≡ is_known c.args.s (next c.before.before.before.before.before)
+known-told : (c : After-is_known) → c.is_known.result ≡ is_known c.args.s (point c.args.x c.args.y)
 known-told c =
     simp (to_z-of_z w32 c.args.x c.ranges.x, to_z-of_z w32 c.args.y c.ranges.y) at c.is_known.ensures.value
 

@@ -221,8 +221,10 @@ impl Sources {
             let parts: Vec<_> = path.split('/').collect();
             let stem = parts[parts.len() - 1].split('.').next().expect("a name");
             match parts[..] {
-                ["crates", name, "specs", _] => {
-                    all.definitions.insert(format!("{name}/{stem}"), text);
+                // what rests on a definition that an edit turns stands in proofs/
+                ["crates", name, "specs" | "proofs", file] if file.ends_with(".antt") => {
+                    let place = format!("{name}/{stem}");
+                    all.definitions.entry(place).or_default().push_str(&text);
                 }
                 ["crates", name, "must-fail", _] => {
                     all.edits.insert(format!("{name}/{stem}"));
