@@ -53,6 +53,6 @@ fn main(rt: HostRuntime) -> io::Result<()> {
     let a = read_input(&mut rt.stdin(), &mut input);
     match a {
         ReadInputAnswer::Bytes(n) => write_listing(&rt, &input[..n]),
-        ReadInputAnswer::Failed => Err(io::Error::other("standard input")),
+        ReadInputAnswer::Failed => eprintln!(rt; "standard input: it cannot be read"),
     }
 }
