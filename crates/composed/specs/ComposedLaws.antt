@@ -28,7 +28,7 @@ use Rattle.all_sweep.specs.LayersLaws.{file_tested}
 use Rattle.demand_three.specs.FileClaim.{right_tests}
 use Rattle.demand_three.specs.ClaimLaws.{start_keeps, run_keeps}
 use Rattle.demand_three.specs.RunLaws.{mesh_tested, start_tests_lem, step_fine, rise_fine, never_used}
-use Rattle.demand_three.specs.FileLaws.{cut_given_room, linked_none, work_parts}
+use Rattle.demand_three.proofs.FileLaws.{cut_given_room, linked_none, work_parts}
 use Rattle.composed.specs.Composed.{RefusedOnly, with_left, Composed, AfterCheck}
 use Rattle.composed.specs.PairLaws.{another_corner}
 

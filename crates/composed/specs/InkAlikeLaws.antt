@@ -24,7 +24,7 @@ use Rattle.all_heights.specs.HeightLaws.{ranged_words}
 use Rattle.all_sweep.specs.AllLayers.{cut_layer, cut_file}
 use Rattle.all_sweep.specs.CutLayerLaws.{cut_in}
 use Rattle.all_sweep.specs.LayersLaws.{all_layers_tested, cuts_read_back}
-use Rattle.demand_three.specs.FileLaws.{file_claim}
+use Rattle.demand_three.proofs.FileLaws.{file_claim}
 use Rattle.composed.specs.InkAlike.{InkAlike}
 
 -- ---- areas in a profile

@@ -29,7 +29,7 @@ use Rattle.all_heights.specs.HeightLaws.{ranged_words}
 use Rattle.all_sweep.specs.AllLayers.{drawn, cut_layer}
 use Rattle.all_sweep.specs.CutLayerLaws.{cut_in, drawn_points, drawn_ends, drawn_total}
 use Rattle.all_sweep.specs.LayersLaws.{all_layers_tested, all_layers_cut, all_layers_reads_back}
-use Rattle.demand_three.specs.FileLaws.{file_claim}
+use Rattle.demand_three.proofs.FileLaws.{file_claim}
 use Rattle.composed.specs.ReadBack.{ReadsSame, layer_left, MadeByCut, MadeByClean, MadeIn, ReadBack}
 
 -- ---- one layer

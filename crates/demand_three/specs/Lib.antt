@@ -4,4 +4,3 @@ pub mod ClaimLaws
 pub mod FileClaim
 pub mod RunLaws
 pub mod WorkedRun
-pub mod FileLaws
