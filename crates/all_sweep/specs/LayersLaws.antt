@@ -77,7 +77,7 @@ module _ (m : OrderedMesh) (heights : List ℤ) (w : WorkTables) where
   file_tested e = go (fine_none tests e)
     where
       go : None (layers_tests m heights (lengths_of w.cut) (length w.ring)) → FileTested m heights w
-      go (more s (more n (more u (more r (more x (more t (more p (more o (more a none))))))))) =
+      go (more s (more n (more u (more r (more x (more t (more p (more o (more a _))))))))) =
           let room = and_parts _ _ (not-false _ (u 0 (omega arith))) in
           record {
             right = right_of m.paired (not-false _ (s 0 (omega arith))) r x t p;
