@@ -25,7 +25,7 @@ use Rattle.file_formats.specs.WholeFiles.{form}
 use Rattle.file_formats.specs.WholeFileLaws.{form_refused, form_fine}
 use Rattle.read_part.specs.declared.ReadPartAnswer.{ReadPartAnswer}
 use Rattle.read_part.specs.Parts.{part, PartSizes, part_sizes_of, read_part_room_for, part_in, part_counts, part_tests, tell_read_part, ReadsPart}
-use Rattle.read_part.specs.PartLaws.{room_of, part_broken_inside, broken_verdict, held_part, short_verdict, fine_verdict, read_written}
+use Rattle.read_part.proofs.PartLaws.{room_of, part_broken_inside, broken_verdict, held_part, short_verdict, fine_verdict, read_written}
 use Rattle.all_heights.specs.Heights.{heights_taken}
 use Rattle.all_heights.specs.HeightLaws.{taken_given}
 use Rattle.list_decimals.specs.Texts.{PutsText}

@@ -24,7 +24,7 @@ use Rattle.read_part.specs.declared.unchecked.FindPartAnswer.TheVariants.{Whole,
 use Rattle.read_part.specs.declared.ReadPartAnswer.TheVariants.{Counts, Refused}
 use Rattle.read_part.specs.Layouts.{values_of, TablesStand, FitsTable, part_at, Laid, Finds}
 use Rattle.read_part.specs.Parts.{part, PartSizes, part_sizes, part_sizes_of, read_part_room_for, part_in, part_counts, fills_part, ReadsPart}
-use Rattle.read_part.specs.PartLaws.{room_parts, held_part, broken_verdict, short_verdict, fine_verdict, fills_fine, refused_keeps}
+use Rattle.read_part.proofs.PartLaws.{room_parts, held_part, broken_verdict, short_verdict, fine_verdict, fills_fine, refused_keeps}
 
 -- ---- 9
 

@@ -3,3 +3,4 @@ pub mod Runs
 pub mod Words
 pub mod Finding
 pub mod Answers
+pub mod PartLaws
