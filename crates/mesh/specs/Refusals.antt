@@ -1,11 +1,9 @@
 -- Refusals by number and place (CALL-4, REFUSAL-1 to REFUSAL-19), and what an enum's cases tell (FORM-8).
-use Rattle.std.specs.Prelude.{ℕ, Bool, false, ◌||◌, List, [], ◌∷◌, eqb}
+use Rattle.std.specs.Prelude.{ℕ, Bool, false, ◌||◌, List, [], ◌∷◌, eqb, Result, Ok, Err}
 use Rattle.mesh.specs.Operation.{Answer, gives, refuses}
 use Rattle.mesh.specs.declared.Refusal.{Refusal}
 use Rattle.mesh.specs.declared.Refusal.TheVariants.{Size, Range, Vertex, Triangle, Open, Pairing, Order, Room, Passed, Ring, Height, File}
 use Rattle.mesh.specs.declared.Refusal.TheVariants.{Output, Layer, Used, Origin, Unclean, Thickness}
-use Rattle.mesh.specs.declared.Verdict.{Verdict}
-use Rattle.mesh.specs.declared.Verdict.TheVariants.{Fine, Refused}
 
 -- a refusal's number and place (CALL-4)
 pub record Told : Type 0 where
@@ -48,10 +46,14 @@ number_of r = (told_of r).number
 abbrev pub place_of : Refusal → ℕ
 place_of r = (told_of r).place
 
+-- what a result tells: its values, or the refusal
+abbrev pub tell : {V G : Type 0} → (V → G) → Result V Refusal → Answer Told G
+tell values (Ok v) = gives (values v)
+tell values (Err r) = refuses (told_of r)
+
 -- what tests answer
-abbrev pub tell_verdict : Verdict → Answer Told Unit
-tell_verdict Fine = gives tt
-tell_verdict (Refused r) = refuses (told_of r)
+abbrev pub tell_verdict : Result Unit Refusal → Answer Told Unit
+tell_verdict = tell (λ _. tt)
 
 -- ---- an answer's number: 0 for a result
 

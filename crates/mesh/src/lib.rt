@@ -9,7 +9,7 @@ pub mod tests;
 pub mod unchecked;
 
 // Why a call is refused: case n is REFUSAL-n, with the place inside (FORM-7).
-#[derive(Clone, Copy)]
+#[derive(Clone, Copy, Debug, PartialEq, Eq)]
 pub enum Refusal {
     // 1: a length or a count does not fit.
     Size(usize),
@@ -47,11 +47,4 @@ pub enum Refusal {
     Unclean(usize),
     // 19: a layer is too thin or too thick.
     Thickness(usize),
-}
-
-// What tests find: no refusal, or the first that fits.
-#[derive(Drop)]
-pub enum Verdict {
-    Fine,
-    Refused(Refusal),
 }

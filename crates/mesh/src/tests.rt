@@ -1,4 +1,4 @@
-// The tests of tables that several operations share. Each answers a verdict, the least place first.
+// The tests of tables that several operations share. Each answers with the refusal that it finds, at its least place.
 ghost use Rattle.std.specs.Prelude.{◌≡◌, true, ◌+◌, ◌*◌, ◌/◌, ◌<◌, length};
 ghost use Rattle.laws.specs.Least.{least};
 ghost use Rattle.mesh.specs.Corners.{triangle_count};
@@ -9,7 +9,7 @@ ghost use Rattle.mesh.specs.Tests.{sizes_fit, size, out_of_range, range, names_n
 
 use crate::limits::{MOST_TRIANGLES, MOST_VERTICES};
 use crate::unchecked::{names_none, names_twice, out_of_range};
-use crate::{Refusal, Verdict};
+use crate::Refusal;
 
 // Whether tables of these lengths hold whole vertices and triangles, within the limits.
 fn sizes_fit(coords: usize, corners: usize) -> bool
@@ -28,13 +28,13 @@ fn sizes_fit(coords: usize, corners: usize) -> bool
 }
 
 // Refusal 1 (CHECK-5).
-pub fn size_test(coords: &[i32], corners: &[u32]) -> Verdict
+pub fn size_test(coords: &[i32], corners: &[u32]) -> Result<(), Refusal>
     ensures told { tell_verdict result ≡ test (size (mesh coords.now corners.now)) }
 {
     if sizes_fit(coords.len(), corners.len()) {
-        return Verdict::Fine;
+        return Ok(());
     }
-    Verdict::Refused(Refusal::Size(0))
+    Err(Refusal::Size(0))
 }
 
 // Whether every number is a coordinate: a pass that returns at its end only, and so tests several at once.
@@ -42,10 +42,8 @@ fn all_in_range(coords: &[i32]) -> bool
     ensures sound { result ≡ true → Nowhere (range coords.now) }
 {
     let mut fine = true;
-    let mut i: usize = 0;
-    while i < coords.len() {
+    for i in 0..coords.len() {
         fine = fine & !out_of_range(coords, i);
-        i += 1;
     }
     fine
 }
@@ -54,28 +52,26 @@ fn all_in_range(coords: &[i32]) -> bool
 fn first_out(coords: &[i32]) -> usize
     ensures value { result ≡ least (length coords.now) (out_of_range coords.now) }
 {
-    let mut i: usize = 0;
-    while i < coords.len() {
+    for i in 0..coords.len() {
         if out_of_range(coords, i) {
             return i;
         }
-        i += 1;
     }
-    i
+    coords.len()
 }
 
 // Refusal 2 (CHECK-7, AREA-4).
-pub fn range_test(coords: &[i32]) -> Verdict
+pub fn range_test(coords: &[i32]) -> Result<(), Refusal>
     ensures told { tell_verdict result ≡ test (range coords.now) }
 {
     if all_in_range(coords) {
-        return Verdict::Fine;
+        return Ok(());
     }
     let i = first_out(coords);
     if i < coords.len() {
-        return Verdict::Refused(Refusal::Range(i));
+        return Err(Refusal::Range(i));
     }
-    Verdict::Fine
+    Ok(())
 }
 
 // Whether each corner names one of at most 32,768 vertices: a pass that returns at its end only, and so tests several at once.
@@ -110,17 +106,17 @@ fn first_stray(vertices: usize, corners: &[u32]) -> usize
 }
 
 // Refusal 3 (CHECK-8).
-pub fn vertex_test(vertices: usize, corners: &[u32]) -> Verdict
+pub fn vertex_test(vertices: usize, corners: &[u32]) -> Result<(), Refusal>
     ensures told { tell_verdict result ≡ test (vertex vertices corners.now) }
 {
     if all_named(vertices, corners) {
-        return Verdict::Fine;
+        return Ok(());
     }
     let c = first_stray(vertices, corners);
     if c < corners.len() {
-        return Verdict::Refused(Refusal::Vertex(c));
+        return Err(Refusal::Vertex(c));
     }
-    Verdict::Fine
+    Ok(())
 }
 
 // The least triangle that names a vertex twice, else the number of triangles.
@@ -128,38 +124,30 @@ fn first_degenerate(corners: &[u32]) -> usize
     ensures value { result ≡ least (triangle_count corners.now) (names_twice corners.now) }
 {
     let n = corners.len() / 3;
-    let mut t: usize = 0;
-    while t < n {
+    for t in 0..n {
         if names_twice(corners, t) {
             return t;
         }
-        t += 1;
     }
-    t
+    n
 }
 
 // Refusal 4 (CHECK-9).
-pub fn triangle_test(corners: &[u32]) -> Verdict
+pub fn triangle_test(corners: &[u32]) -> Result<(), Refusal>
     ensures told { tell_verdict result ≡ test (triangle corners.now) }
 {
     let t = first_degenerate(corners);
     if t < corners.len() / 3 {
-        return Verdict::Refused(Refusal::Triangle(3 * t));
+        return Err(Refusal::Triangle(3 * t));
     }
-    Verdict::Fine
+    Ok(())
 }
 
 // Refusals 2, 3 and 4.
-pub fn mesh_test(coords: &[i32], corners: &[u32]) -> Verdict
+pub fn mesh_test(coords: &[i32], corners: &[u32]) -> Result<(), Refusal>
     ensures told { tell_verdict result ≡ verdict (mesh_tests (mesh coords.now corners.now)) }
 {
-    let a = range_test(coords);
-    if let Verdict::Refused(_) = a {
-        return a;
-    }
-    let b = vertex_test(coords.len() / 3, corners);
-    if let Verdict::Refused(_) = b {
-        return b;
-    }
+    range_test(coords)?;
+    vertex_test(coords.len() / 3, corners)?;
     triangle_test(corners)
 }

@@ -53,11 +53,7 @@ pub fn fill(t: &mut [u32], n: usize, x: u32)
     requires { n ≤ length t.old }
     ensures left { t.new ≡ overwrite (replicate n x) t.old }
 {
-    let mut i: usize = 0;
-    while i < n {
-        t[i] = x;
-        i += 1;
-    }
+    t[..n].fill(x);
 }
 
 // Whether the number at position i is no coordinate.

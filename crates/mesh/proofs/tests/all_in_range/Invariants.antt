@@ -10,5 +10,3 @@ use Rattle.mesh.proofs.tests.all_in_range.Given as goal
 abbrev pub invariant-loop-i : goal.invariant-loop-i
 invariant-loop-i l = (l.i ≤ length l.coords) × (l.fine ≡ true → Scanned (length l.coords) (out_of_range l.coords) l.i)
 
-abbrev pub decreases-loop-i : goal.decreases-loop-i
-decreases-loop-i l = length l.coords - l.i

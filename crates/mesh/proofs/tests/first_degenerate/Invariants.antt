@@ -9,5 +9,3 @@ use Rattle.mesh.proofs.tests.first_degenerate.Given as goal
 abbrev pub invariant-loop-t : goal.invariant-loop-t
 invariant-loop-t l = Scanned (triangle_count l.corners) (names_twice l.corners) l.t × (l.n ≡ triangle_count l.corners)
 
-abbrev pub decreases-loop-t : goal.decreases-loop-t
-decreases-loop-t l = triangle_count l.corners - l.t

@@ -8,5 +8,3 @@ use Rattle.mesh.proofs.tests.first_out.Given as goal
 abbrev pub invariant-loop-i : goal.invariant-loop-i
 invariant-loop-i l = Scanned (length l.coords) (out_of_range l.coords) l.i
 
-abbrev pub decreases-loop-i : goal.decreases-loop-i
-decreases-loop-i l = length l.coords - l.i
