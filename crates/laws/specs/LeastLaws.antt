@@ -99,3 +99,7 @@ module _ {n : ℕ} {fits : ℕ → Bool} {i : ℕ} (s : Scanned n fits i) where
 
   pub scan_end : n ≤ i → i ≡ least n fits
   scan_end h = let q : i ≡ n = omega (arith, s.upto) in q ∙ sym (least_none n fits (λ k l. s.clear k (omega arith)))
+
+  -- the same, where a `for` over the first n has ended
+  pub scan_over : n ≤ i → n ≡ least n fits
+  scan_over h = sym (least_none n fits (λ k l. s.clear k (omega arith)))

@@ -5,7 +5,8 @@ use Rattle.std.proofs.Math.Path.{refl, sym, ap}
 use Rattle.std.proofs.Common.{◌∙◌, ⊎_elim, add-one, not-suc-le-zero, le_of_suc-le-suc, add-zero, length-append, length-drop, drop-cons, ext_get_or}
 use mathlib.Core.List.{List, [], ◌∷◌, ◌++◌, append-nil}
 use native.Mathlib.Omega.{arith}
-use Rattle.std.proofs.Math.ListN.{length, get_or, set, drop, get_or-append}
+use Rattle.std.proofs.Math.ListN.{length, get_or, set, drop, get_or-append, drop_of_length-le}
+use Rattle.std.proofs.lemmas.List.{length-take-le, length-replicate}
 use Rattle.std.proofs.lemmas.List.Edits.{sets}
 use Rattle.std.proofs.Math.Seq.{get_or-append-add, get_or-drop, append_snoc, set_at, take_at, drop_at}
 use Rattle.laws.specs.Booleans.{split_lt}
@@ -149,3 +150,13 @@ module _ {A : Type 0} where
   unfolding tabulate
   tabulate_const zero z = refl
   tabulate_const (suc n) z = ap (λ (l : List A). z ∷ l) (tabulate_const n z)
+
+  -- the first n entries filled with x, in a part of the table, and those behind it
+  pub filled_front : (n : ℕ) (x : A) (t l : List A) → n ≤ length t → l ≡ refill n (λ k. x) (take n t) → l ++ drop n t ≡ overwrite (replicate n x) t
+  unfolding overwrite
+  filled_front n x t l h e =
+      let r : length (replicate n x) ≡ n = length-replicate n x in
+      ap (λ (m : List A). m ++ drop n t) (e ∙ ap (λ (m : List A). overwrite m (take n t)) (tabulate_const n x)
+          ∙ ap (λ (m : List A). replicate n x ++ m) (drop_of_length-le (take n t) (omega (arith, r, length-take-le n t h)))
+          ∙ append-nil (replicate n x))
+      ∙ ap (λ (k : ℕ). replicate n x ++ drop k t) (sym r)

@@ -9,9 +9,9 @@ pub const LEAST_COORDINATE: i32 = -1048576;
 
 pub const LARGEST_COORDINATE: i32 = 1048576;
 
-pub const LEAST_COORDINATE_64: i64 = -1048576;
+pub const LEAST_COORDINATE_64: i64 = LEAST_COORDINATE as i64;
 
-pub const LARGEST_COORDINATE_64: i64 = 1048576;
+pub const LARGEST_COORDINATE_64: i64 = LARGEST_COORDINATE as i64;
 
 pub const LEAST_COORDINATE_F32: f32 = -1048576.0;
 
@@ -20,4 +20,4 @@ pub const LARGEST_COORDINATE_F32: f32 = 1048576.0;
 // The points of a run whose area is asked (LIMIT-6), of a layer of a file (LIMIT-7), and of one that is handed in (LIMIT-12).
 pub const MOST_POINTS: usize = 98304;
 
-pub const MOST_POINTS_64: u64 = 98304;
+pub const MOST_POINTS_64: u64 = MOST_POINTS as u64;

@@ -7,9 +7,9 @@ ghost use Rattle.mesh.specs.Operation.{Nowhere, test, verdict};
 ghost use Rattle.mesh.specs.Refusals.{tell_verdict};
 ghost use Rattle.mesh.specs.Tests.{sizes_fit, size, out_of_range, range, names_none, vertex, names_twice, triangle, mesh_tests};
 
+use crate::Refusal;
 use crate::limits::{MOST_TRIANGLES, MOST_VERTICES};
 use crate::unchecked::{names_none, names_twice, out_of_range};
-use crate::Refusal;
 
 // Whether tables of these lengths hold whole vertices and triangles, within the limits.
 fn sizes_fit(coords: usize, corners: usize) -> bool
@@ -83,10 +83,8 @@ fn all_named(vertices: usize, corners: &[u32]) -> bool
     }
     let end = vertices as u32;
     let mut fine = true;
-    let mut c: usize = 0;
-    while c < corners.len() {
-        fine = fine & (corners[c] < end);
-        c += 1;
+    for c in corners {
+        fine = fine & (*c < end);
     }
     fine
 }
@@ -95,14 +93,12 @@ fn all_named(vertices: usize, corners: &[u32]) -> bool
 fn first_stray(vertices: usize, corners: &[u32]) -> usize
     ensures value { result ≡ least (length corners.now) (names_none vertices corners.now) }
 {
-    let mut c: usize = 0;
-    while c < corners.len() {
+    for c in 0..corners.len() {
         if names_none(vertices, corners, c) {
             return c;
         }
-        c += 1;
     }
-    c
+    corners.len()
 }
 
 // Refusal 3 (CHECK-8).

@@ -49,11 +49,13 @@ pub fn comes_before(coords: &[i32], u: usize, v: usize) -> bool
 }
 
 // Sets the first n entries to x.
-pub fn fill(t: &mut [u32], n: usize, x: u32)
+pub fn fill<T: Copy>(t: &mut [T], n: usize, x: T)
     requires { n ≤ length t.old }
     ensures left { t.new ≡ overwrite (replicate n x) t.old }
 {
-    t[..n].fill(x);
+    for e in &mut t[..n] {
+        *e = x;
+    }
 }
 
 // Whether the number at position i is no coordinate.

@@ -11,14 +11,10 @@ pub returns-then-vertices-gt-MOST_VERTICES : goal.returns-then-vertices-gt-MOST_
 returns-then-vertices-gt-MOST_VERTICES c = record { sound = λ e. absurd (clash e refl) }
 
 pub loop-c-init : goal.loop-c-init
-loop-c-init c = (omega arith, λ e. scan_start)
+loop-c-init c = λ e. scan_start
 
 pub loop-c-preserved : goal.loop-c-preserved
-loop-c-preserved c = (
-  omega arith,
-  λ e. let p = and_parts _ _ e in scan_miss (c.loop-c.invariant.1 p.0) c.loop-c-test.true
-      (names_one _ _ _ (ltb-true _ _ p.1)),
-)
+loop-c-preserved c = λ e. let p = and_parts _ _ e in scan_miss (c.loop-c.invariant p.0) c.loop-c-test.true (names_one _ _ _ (ltb-true _ _ p.1))
 
 pub returns : goal.returns
-returns c = record { sound = λ e i l. (c.loop-c.invariant.1 e).clear i (omega arith) }
+returns c = record { sound = λ e i l. (c.loop-c.invariant e).clear i (omega arith) }

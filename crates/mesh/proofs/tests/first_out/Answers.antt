@@ -1,7 +1,7 @@
 -- `tests::first_out` meets its contract. The invariant: nothing that fits was passed.
 use mathlib.Core.Path.{sym, ◌∙◌}
 use native.Mathlib.Omega.{arith}
-use Rattle.laws.specs.LeastLaws.{scan_start, scan_hit, scan_miss, scan_end}
+use Rattle.laws.specs.LeastLaws.{scan_start, scan_hit, scan_miss, scan_over}
 use Rattle.mesh.proofs.tests.first_out.Goals as goal
 
 pub loop-i-init : goal.loop-i-init
@@ -14,4 +14,4 @@ pub loop-i-preserved : goal.loop-i-preserved
 loop-i-preserved c = scan_miss c.loop-i.invariant (omega arith) (sym c.out_of_range.ensures.value ∙ c.if-out_of_range.false)
 
 pub returns : goal.returns
-returns c = record { value = scan_end c.loop-i.invariant (omega arith) }
+returns c = record { value = scan_over c.loop-i.invariant (omega arith) }
