@@ -18,9 +18,9 @@ use Rattle.polygons.specs.Flat.{FlatLayer, run_fits, ends_rise, last_end, is_lay
 
 -- ---- run_fits
 
-pub run_odd : (n : ℕ) → (n % 2 ≡ 0 → ⊥) → false ≡ run_fits n
+pub run_odd : (n : ℕ) → (n % 2 ≡ 0 → ⊥) → eqb (n % 2) 0 ≡ run_fits n
 unfolding run_fits
-run_odd n h = sym (ap (λ (b : Bool). b && leb (n / 2) most_points) (ne_eqb (n % 2) 0 h))
+run_odd n h = let odd = ne_eqb (n % 2) 0 h in odd ∙ sym (ap (λ (b : Bool). b && leb (n / 2) most_points) odd)
 
 pub run_even : (n : ℕ) → n % 2 ≡ 0 → leb (n / 2) most_points ≡ run_fits n
 unfolding run_fits

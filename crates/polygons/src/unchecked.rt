@@ -2,8 +2,6 @@
 ghost use Rattle.std.specs.Prelude.{◌≡◌, ◌<◌, length};
 ghost use Rattle.polygons.specs.Flat.{end_before};
 
-use mesh::numbers::wide;
-
 // The end before that of contour j, 0 for the first (CONTOUR-2).
 pub fn prior_end(ends: &[u32], j: usize) -> usize
     requires { j < length ends.now }
@@ -12,6 +10,5 @@ pub fn prior_end(ends: &[u32], j: usize) -> usize
     if j == 0 {
         return 0;
     }
-    let i = j - 1;
-    wide(ends[i])
+    ends[j - 1] as usize
 }

@@ -2,23 +2,25 @@
 use Rattle.polygons.specs.Flat.{FlatLayer, flat}
 use Rattle.polygons.proofs.Testing.{run_refused, ends_refused, layer_passed}
 use Rattle.polygons.proofs.layer_test.Goals as goal
-use Rattle.polygons.proofs.layer_test.Goals.{Start}
+use Rattle.polygons.proofs.layer_test.Goals.{Start, then-not-run_fits-via-then-not-run_fits}
+use Rattle.polygons.proofs.layer_test.Goals.{then-not-run_fits-via-else-not-run_fits+then-not-ends_fit}
 
 abbrev layer_of : Start → FlatLayer
 layer_of start = flat start.args.points.now start.args.ends.now
 
-pub returns-then-ends_fit : goal.returns-then-ends_fit
-returns-then-ends_fit c = record {
-  told = layer_passed (layer_of (goal.at.returns-then-ends_fit c).Start) c.run_fits.ensures.value c.if-run_fits.true c.ends_fit.ensures.value c.if-ends_fit.true
-      c.range_test.ensures.told;
-}
+pub returns-then-not-run_fits : goal.returns-then-not-run_fits
+returns-then-not-run_fits c =
+    let t = layer_of (goal.at.returns-then-not-run_fits c).Start in
+    record {
+      told = elim c.then-not-run_fits.branch [
+        | then-not-run_fits-via-then-not-run_fits w ↦ run_refused t c.run_fits.ensures.value w.if-not-run_fits.true
+        | then-not-run_fits-via-else-not-run_fits+then-not-ends_fit w ↦
+            ends_refused t c.run_fits.ensures.value w.if-not-run_fits.false w.ends_fit.ensures.value w.if-not-ends_fit.true
+      ];
+    }
 
-pub returns-else-ends_fit : goal.returns-else-ends_fit
-returns-else-ends_fit c = record {
-  told =
-      ends_refused (layer_of (goal.at.returns-else-ends_fit c).Start) c.run_fits.ensures.value c.if-run_fits.true c.ends_fit.ensures.value
-      c.if-ends_fit.false;
+pub returns : goal.returns
+returns c = record {
+  told = layer_passed (layer_of (goal.at.returns c).Start) c.run_fits.ensures.value c.if-not-run_fits.false c.ends_fit.ensures.value
+      c.if-not-ends_fit.false c.range_test.ensures.told;
 }
-
-pub returns-else-run_fits : goal.returns-else-run_fits
-returns-else-run_fits c = record { told = run_refused (layer_of (goal.at.returns-else-run_fits c).Start) c.run_fits.ensures.value c.if-run_fits.false }
