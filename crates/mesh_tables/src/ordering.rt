@@ -7,31 +7,29 @@ ghost use Rattle.mesh.specs.Refusals.{tell_verdict};
 ghost use Rattle.mesh.specs.Tests.{orders};
 
 use crate::unchecked_order::{first_misplaced, goes_on};
-use mesh::{Refusal, Verdict};
+use mesh::Refusal;
 
 // How many leading entries are vertices, each before the next.
 fn rising_prefix(coords: &[i32], order: &[u32]) -> usize
     ensures value { result ≡ rising_count coords.now order.now }
 {
     let n = coords.len() / 3;
-    let mut m: usize = 0;
-    while m < n {
+    for m in 0..n {
         if !goes_on(coords, order, m) {
             return m;
         }
-        m += 1;
     }
-    m
+    n
 }
 
 // Refusal 8: the least position where the order table is missing an entry or wrong (STEP-7).
-pub fn order_test(coords: &[i32], order: &[u32]) -> Verdict
+pub fn order_test(coords: &[i32], order: &[u32]) -> Result<(), Refusal>
     ensures told { tell_verdict result ≡ test (orders coords.now order.now) }
 {
     let n = coords.len() / 3;
     let m = rising_prefix(coords, order);
     if m == n {
-        return Verdict::Fine;
+        return Ok(());
     }
-    Verdict::Refused(Refusal::Order(first_misplaced(coords, order, m)))
+    Err(Refusal::Order(first_misplaced(coords, order, m)))
 }

@@ -7,7 +7,7 @@ ghost use Rattle.mesh_tables.specs.MeshTests.{opening_tests};
 
 use crate::MeshTest;
 use crate::unchecked_tests::{content_test, one_mesh_test};
-use mesh::{Refusal, Verdict};
+use mesh::Refusal;
 
 // Refusals 1, 9, 2, 3, 4 and 7: 1 also unless `few`, 9 unless `room`.
 pub fn opening_test(
@@ -16,19 +16,16 @@ pub fn opening_test(
     pairing: &[u32],
     few: bool,
     room: bool,
-) -> Verdict
+) -> Result<(), Refusal>
     ensures told { tell_verdict result
         ≡ verdict (opening_tests (paired coords.now corners.now pairing.now) few room) }
 {
-    let a = one_mesh_test(MeshTest::Size, coords, corners, pairing, pairing);
-    if let Verdict::Refused(_) = a {
-        return a;
-    }
+    one_mesh_test(MeshTest::Size, coords, corners, pairing, pairing)?;
     if !few {
-        return Verdict::Refused(Refusal::Size(0));
+        return Err(Refusal::Size(0));
     }
     if !room {
-        return Verdict::Refused(Refusal::Room(0));
+        return Err(Refusal::Room(0));
     }
     content_test(coords, corners, pairing)
 }

@@ -5,7 +5,6 @@ ghost use Rattle.mesh.specs.Corners.{vertex_count};
 ghost use Rattle.mesh.specs.Order.{rank, RisingPrefix};
 ghost use Rattle.mesh_tables.specs.Rising.{rises_at, misplaced_at};
 
-use mesh::numbers::wide;
 use mesh::unchecked::comes_before;
 
 // How many vertices stand before vertex v.
@@ -14,13 +13,11 @@ pub fn rank_of(coords: &[i32], v: usize) -> usize
     ensures value { result ≡ rank coords.now v }
 {
     let n = coords.len() / 3;
-    let mut r: usize = 0;
-    let mut u: usize = 0;
-    while u < n {
+    let mut r = 0;
+    for u in 0..n {
         if comes_before(coords, u, v) {
             r += 1;
         }
-        u += 1;
     }
     r
 }
@@ -34,15 +31,8 @@ pub fn goes_on(coords: &[i32], order: &[u32], i: usize) -> bool
     if i >= order.len() {
         return false;
     }
-    let v = wide(order[i]);
-    if v >= n {
-        return false;
-    }
-    if i == 0 {
-        return true;
-    }
-    let u = wide(order[i - 1]);
-    comes_before(coords, u, v)
+    let v = order[i] as usize;
+    v < n && (i == 0 || comes_before(coords, order[i - 1] as usize, v))
 }
 
 // The first of m rising entries whose rank is not its place, and m where none is: once one is wrong, so is each after it.
@@ -50,11 +40,11 @@ pub fn first_misplaced(coords: &[i32], order: &[u32], m: usize) -> usize
     requires { (m ≤ length order.now) × RisingPrefix coords.now order.now m }
     ensures value { result ≡ least m (misplaced_at coords.now order.now) }
 {
-    let mut lo: usize = 0;
+    let mut lo = 0;
     let mut hi = m;
     while lo < hi {
         let mid = lo + (hi - lo) / 2;
-        let v = wide(order[mid]);
+        let v = order[mid] as usize;
         if rank_of(coords, v) == mid {
             lo = mid + 1;
         } else {

@@ -7,9 +7,8 @@ ghost use Rattle.mesh.specs.Refusals.{tell_verdict};
 ghost use Rattle.mesh.specs.Tests.{WholeTriangles, reverse, paired_at, unpaired, pairs};
 ghost use Rattle.mesh_tables.specs.Meeting.{MeetsVertex, Thrice};
 
-use mesh::numbers::wide;
+use mesh::Refusal;
 use mesh::unchecked::next_corner;
-use mesh::{Refusal, Verdict};
 
 // Whether corners c and d stand for reverse edges.
 fn is_reverse(corners: &[u32], c: usize, d: usize) -> bool
@@ -19,10 +18,7 @@ fn is_reverse(corners: &[u32], c: usize, d: usize) -> bool
 {
     let i = next_corner(c);
     let j = next_corner(d);
-    if corners[d] != corners[i] {
-        return false;
-    }
-    corners[j] == corners[c]
+    corners[d] == corners[i] && corners[j] == corners[c]
 }
 
 // Whether corner c has an entry that is a corner with the reverse edge and is paired back.
@@ -34,7 +30,7 @@ fn is_paired(corners: &[u32], pairing: &[u32], c: usize) -> bool
     if pairing.len() <= c {
         return false;
     }
-    let d = wide(pairing[c]);
+    let d = pairing[c] as usize;
     if corners.len() <= d {
         return false;
     }
@@ -44,7 +40,7 @@ fn is_paired(corners: &[u32], pairing: &[u32], c: usize) -> bool
     if pairing.len() <= d {
         return false;
     }
-    wide(pairing[d]) == c
+    pairing[d] as usize == c
 }
 
 // The least corner that is not paired rightly, else the number of corners.
@@ -53,14 +49,12 @@ fn first_unpaired(corners: &[u32], pairing: &[u32]) -> usize
     ensures value { result ≡ least (length corners.now)
         (unpaired corners.now pairing.now) }
 {
-    let mut c: usize = 0;
-    while c < corners.len() {
+    for c in 0..corners.len() {
         if !is_paired(corners, pairing, c) {
             return c;
         }
-        c += 1;
     }
-    c
+    corners.len()
 }
 
 // Whether corner c is paired with a corner that starts at vertex v and is paired back.
@@ -68,14 +62,8 @@ fn corner_meets(corners: &[u32], pairing: &[u32], c: usize, v: u32) -> bool
     requires { (c < length corners.now) × (length corners.now ≤ length pairing.now) }
     ensures sound { result ≡ true → MeetsVertex corners.now pairing.now c v }
 {
-    let d = wide(pairing[c]);
-    if corners.len() <= d {
-        return false;
-    }
-    if corners[d] != v {
-        return false;
-    }
-    c == wide(pairing[d])
+    let d = pairing[c] as usize;
+    d < corners.len() && corners[d] == v && c == pairing[d] as usize
 }
 
 // Whether each corner of triangle t is paired with one that starts where it ends and is paired back.
@@ -86,13 +74,9 @@ fn triangle_meets(corners: &[u32], pairing: &[u32], t: usize) -> bool
     let i = 3 * t;
     let j = i + 1;
     let k = i + 2;
-    if !corner_meets(corners, pairing, i, corners[j]) {
-        return false;
-    }
-    if !corner_meets(corners, pairing, j, corners[k]) {
-        return false;
-    }
-    corner_meets(corners, pairing, k, corners[i])
+    corner_meets(corners, pairing, i, corners[j])
+        && corner_meets(corners, pairing, j, corners[k])
+        && corner_meets(corners, pairing, k, corners[i])
 }
 
 // Whether every corner is so paired. Then each is paired rightly: that its partner ends where it starts is the partner's own test.
@@ -104,27 +88,25 @@ fn all_meet(corners: &[u32], pairing: &[u32]) -> bool
         return false;
     }
     let n = corners.len() / 3;
-    let mut t: usize = 0;
-    while t < n {
+    for t in 0..n {
         if !triangle_meets(corners, pairing, t) {
             return false;
         }
-        t += 1;
     }
     true
 }
 
 // Refusal 7 (CUT-10).
-pub fn pairing_test(corners: &[u32], pairing: &[u32]) -> Verdict
+pub fn pairing_test(corners: &[u32], pairing: &[u32]) -> Result<(), Refusal>
     requires { WholeTriangles (length corners.now) }
     ensures told { tell_verdict result ≡ test (pairs corners.now pairing.now) }
 {
     if all_meet(corners, pairing) {
-        return Verdict::Fine;
+        return Ok(());
     }
     let c = first_unpaired(corners, pairing);
     if c < corners.len() {
-        return Verdict::Refused(Refusal::Pairing(c));
+        return Err(Refusal::Pairing(c));
     }
-    Verdict::Fine
+    Ok(())
 }

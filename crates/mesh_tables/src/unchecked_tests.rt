@@ -9,7 +9,7 @@ ghost use Rattle.mesh_tables.specs.MeshTests.{mesh_condition, MeshAskable, conte
 use crate::MeshTest;
 use crate::ordering::order_test;
 use crate::unchecked_pairing::pairing_test;
-use mesh::Verdict;
+use mesh::Refusal;
 use mesh::tests::{range_test, size_test, triangle_test, vertex_test};
 
 // One test, by name.
@@ -19,7 +19,7 @@ pub fn one_mesh_test(
     corners: &[u32],
     pairing: &[u32],
     order: &[u32],
-) -> Verdict
+) -> Result<(), Refusal>
     requires { MeshAskable which (length corners.now) }
     ensures told { tell_verdict result ≡ test (mesh_condition which
         (ordered coords.now corners.now pairing.now order.now)) }
@@ -35,22 +35,13 @@ pub fn one_mesh_test(
 }
 
 // Refusals 2, 3, 4 and 7.
-pub fn content_test(coords: &[i32], corners: &[u32], pairing: &[u32]) -> Verdict
+pub fn content_test(coords: &[i32], corners: &[u32], pairing: &[u32]) -> Result<(), Refusal>
     requires { WholeTriangles (length corners.now) }
     ensures told { tell_verdict result ≡ verdict
         (content_tests (paired coords.now corners.now pairing.now)) }
 {
-    let a = one_mesh_test(MeshTest::Range, coords, corners, pairing, pairing);
-    if let Verdict::Refused(_) = a {
-        return a;
-    }
-    let b = one_mesh_test(MeshTest::Vertex, coords, corners, pairing, pairing);
-    if let Verdict::Refused(_) = b {
-        return b;
-    }
-    let d = one_mesh_test(MeshTest::Triangle, coords, corners, pairing, pairing);
-    if let Verdict::Refused(_) = d {
-        return d;
-    }
+    one_mesh_test(MeshTest::Range, coords, corners, pairing, pairing)?;
+    one_mesh_test(MeshTest::Vertex, coords, corners, pairing, pairing)?;
+    one_mesh_test(MeshTest::Triangle, coords, corners, pairing, pairing)?;
     one_mesh_test(MeshTest::Pairing, coords, corners, pairing, pairing)
 }

@@ -1,5 +1,4 @@
 -- `ordering::order_test` meets its contract.
-use borrow.Author.Rules.{rules}
 use Rattle.mesh_tables.proofs.OrderTest.{risen_prefix, order_fine, order_refused}
 use Rattle.mesh_tables.proofs.ordering.order_test.Goals as goal
 

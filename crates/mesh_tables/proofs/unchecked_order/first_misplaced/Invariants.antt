@@ -1,10 +1,6 @@
 -- `unchecked_order::first_misplaced` meets its contract: a search by halves, since an entry that is right has all in front of it right.
-use Prim.Native.Nat.{ℕ, ◌+◌, ◌-◌, ◌/◌}
-use mathlib.Core.Path.{◌≡◌, sym, ap, ◌∙◌}
-use native.Mathlib.Omega.{arith}
-use lib.ListN.{get_or}
-use Rattle.mesh.specs.RankLaws.{rank}
-use Rattle.mesh_tables.proofs.OrderTest.{Search, search_start, search_right, search_wrong, search_end}
+use Prim.Native.Nat.{◌-◌}
+use Rattle.mesh_tables.proofs.OrderTest.{Search}
 use Rattle.mesh_tables.proofs.unchecked_order.first_misplaced.Given as goal
 
 abbrev pub invariant-loop-lo : goal.invariant-loop-lo

@@ -1,5 +1,5 @@
 -- `unchecked_order::rank_of` meets its contract: r counts the vertices below u that stand before v.
-use Prim.Native.Nat.{ℕ, ◌≤◌, ◌-◌}
+use Prim.Native.Nat.{ℕ}
 use mathlib.Core.Path.{◌≡◌, sym, ap, ◌∙◌}
 use Rattle.mesh_tables.proofs.unchecked_order.rank_of.Goals.{then-comes_before, else-comes_before}
 use mathlib.Core.Bool.{Bool}
@@ -25,5 +25,5 @@ loop-u-preserved c =
 pub returns : goal.returns
 returns c =
     let a = c.args in
-    let e : c.loop-u.u ≡ vertex_count a.coords.now = omega (arith, c.loop-u-test.false) in
+    let e : c.loop-u.u ≡ vertex_count a.coords.now = omega arith in
     record { value = c.loop-u.invariant.2 ∙ ap (λ (n : ℕ). count n (λ w. before a.coords.now w a.v)) e }

@@ -1,10 +1,6 @@
 -- `unchecked_pairing::first_unpaired` meets its contract. The invariant: nothing that fits was passed.
-use mathlib.Core.Path.{◌≡◌, refl, sym, ◌∙◌}
-use Prim.Native.Nat.{◌-◌}
 use native.Mathlib.Omega.{arith}
-use lib.ListN.{length}
-use Rattle.laws.specs.LeastLaws.{Scanned, scan_start, scan_hit, scan_miss, scan_end}
-use Rattle.mesh.specs.Tests.{unpaired}
+use Rattle.laws.specs.LeastLaws.{scan_start, scan_hit, scan_miss, scan_over}
 use Rattle.mesh.specs.TestLaws.{unpaired_is}
 use Rattle.mesh_tables.proofs.unchecked_pairing.first_unpaired.Goals as goal
 
@@ -14,7 +10,7 @@ loop-c-init c = scan_start
 pub is_paired-requires : goal.is_paired-requires
 is_paired-requires c = record {
   fact_1 = c.requires;
-  fact_2 = c.loop-c-test.true;
+  fact_2 = omega arith;
 }
 
 pub returns-then-not-is_paired : goal.returns-then-not-is_paired
@@ -26,4 +22,4 @@ pub loop-c-preserved : goal.loop-c-preserved
 loop-c-preserved c = scan_miss c.loop-c.invariant (omega arith) (unpaired_is _ _ _ c.is_paired.ensures.value c.if-not-is_paired.false-raw)
 
 pub returns : goal.returns
-returns c = record { value = scan_end c.loop-c.invariant (omega arith) }
+returns c = record { value = scan_over c.loop-c.invariant (omega arith) }

@@ -1,6 +1,5 @@
 -- `unchecked_pairing::pairing_test` meets its contract.
 use Rattle.mesh.specs.OperationLaws.{test_refused, test_fine, nowhere_fine}
-use borrow.Author.Rules.{rules}
 use Rattle.mesh_tables.proofs.unchecked_pairing.pairing_test.Goals as goal
 
 pub returns-then-all_meet : goal.returns-then-all_meet

@@ -1,21 +1,20 @@
 -- `unchecked_pairing::triangle_meets` meets its contract.
-use mathlib.Core.Path.{refl}
-use borrow.Author.Tests.{not-false}
+use mathlib.Core.Path.{sym, ◌∙◌}
 use Rattle.laws.specs.Booleans.{clash}
-use borrow.Author.Rules.{rules}
 use Rattle.mesh_tables.proofs.unchecked_pairing.triangle_meets.Goals as goal
+use Rattle.mesh_tables.proofs.unchecked_pairing.triangle_meets.Goals.{then-corner_meets, else-corner_meets}
 
-pub returns-then-not-corner_meets : goal.returns-then-not-corner_meets
-returns-then-not-corner_meets c = record { sound = λ e. absurd (clash e refl) }
-
-pub returns-then-not-corner_meets-2 : goal.returns-then-not-corner_meets-2
-returns-then-not-corner_meets-2 c = record { sound = λ e. absurd (clash e refl) }
-
-pub returns : goal.returns
-returns c = record {
-  sound = λ e. record {
-    first = c.corner_meets.ensures.sound (not-false _ c.if-not-corner_meets.false-raw);
-    second = c.corner_meets-2.ensures.sound (not-false _ c.if-not-corner_meets-2.false-raw);
-    third = c.corner_meets-3.ensures.sound e;
-  };
+pub returns-then-corner_meets-2 : goal.returns-then-corner_meets-2
+returns-then-corner_meets-2 c = record {
+  sound = λ e. elim c.if-corner_meets.branch [
+    | then-corner_meets w ↦ record {
+      first = c.corner_meets.ensures.sound w.if-corner_meets.true;
+      second = w.corner_meets-then-corner_meets.ensures.sound (sym w.value-is ∙ c.if-corner_meets-2.true);
+      third = c.corner_meets-then-corner_meets-2.ensures.sound e;
+    }
+    | else-corner_meets w ↦ absurd (clash c.if-corner_meets-2.true (w.value-is ∙ w.if-corner_meets.false))
+  ];
 }
+
+pub returns-else-corner_meets-2 : goal.returns-else-corner_meets-2
+returns-else-corner_meets-2 c = record { sound = λ e. absurd (clash e c.if-corner_meets-2.false) }

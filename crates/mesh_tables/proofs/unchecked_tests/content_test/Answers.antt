@@ -2,33 +2,38 @@
 use mathlib.Core.Path.{ap, ◌∙◌}
 use Rattle.mesh.specs.OperationLaws.{verdict_stop, verdict_next, verdict_one}
 use Rattle.mesh.specs.Refusals.{tell_verdict}
-use borrow.Author.Rules.{rules}
+use Rattle.mesh.proofs.Raising.{handed_on}
 use Rattle.mesh_tables.proofs.unchecked_tests.content_test.Goals as goal
 
-pub returns-in-Refused : goal.returns-in-Refused
-returns-in-Refused c = record { told = verdict_stop _ _ c.one_mesh_test-a.ensures.told (ap tell_verdict c.in-Refused.is) }
-
-pub returns-in-Refused-b : goal.returns-in-Refused-b
-returns-in-Refused-b c = record {
-  told = verdict_next _ _ c.one_mesh_test-a.ensures.told (ap tell_verdict c.in_default.is)
-      (verdict_stop _ _ c.one_mesh_test-b.ensures.told (ap tell_verdict c.in-Refused-b.is));
+pub returns-in_err-one_mesh_test : goal.returns-in_err-one_mesh_test
+returns-in_err-one_mesh_test c = record {
+  told = ap tell_verdict (handed_on c.in_err-one_mesh_test.was c.from_residual.ensures.1)
+      ∙ verdict_stop _ _ c.one_mesh_test.ensures.told (ap tell_verdict c.in_err-one_mesh_test.was);
 }
 
-pub returns-in-Refused-d : goal.returns-in-Refused-d
-returns-in-Refused-d c = record {
-  told = verdict_next _ _ c.one_mesh_test-a.ensures.told (ap tell_verdict c.in_default.is)
-      (verdict_next _ _ c.one_mesh_test-b.ensures.told (ap tell_verdict c.in_default-b.is)
-      (verdict_stop _ _ c.one_mesh_test-d.ensures.told (ap tell_verdict c.in-Refused-d.is)));
+pub returns-in_err-one_mesh_test-2 : goal.returns-in_err-one_mesh_test-2
+returns-in_err-one_mesh_test-2 c = record {
+  told = ap tell_verdict (handed_on c.in_err-one_mesh_test-2.was c.from_residual-in_err-one_mesh_test-2.ensures.1)
+      ∙ verdict_next _ _ c.one_mesh_test.ensures.told (ap tell_verdict c.in_ok-one_mesh_test.was)
+      (verdict_stop _ _ c.one_mesh_test-2.ensures.told (ap tell_verdict c.in_err-one_mesh_test-2.was));
 }
 
-pub one_mesh_test-requires : goal.one_mesh_test-requires
-one_mesh_test-requires c =
+pub returns-in_err-one_mesh_test-3 : goal.returns-in_err-one_mesh_test-3
+returns-in_err-one_mesh_test-3 c = record {
+  told = ap tell_verdict (handed_on c.in_err-one_mesh_test-3.was c.from_residual-in_err-one_mesh_test-3.ensures.1)
+      ∙ verdict_next _ _ c.one_mesh_test.ensures.told (ap tell_verdict c.in_ok-one_mesh_test.was)
+      (verdict_next _ _ c.one_mesh_test-2.ensures.told (ap tell_verdict c.in_ok-one_mesh_test-2.was)
+      (verdict_stop _ _ c.one_mesh_test-3.ensures.told (ap tell_verdict c.in_err-one_mesh_test-3.was)));
+}
+
+pub one_mesh_test-requires-4 : goal.one_mesh_test-requires-4
+one_mesh_test-requires-4 c =
     c.requires
 
 pub returns : goal.returns
 returns c = record {
-  told = verdict_next _ _ c.one_mesh_test-a.ensures.told (ap tell_verdict c.in_default.is)
-      (verdict_next _ _ c.one_mesh_test-b.ensures.told (ap tell_verdict c.in_default-b.is)
-      (verdict_next _ _ c.one_mesh_test-d.ensures.told (ap tell_verdict c.in_default-d.is)
-      (c.one_mesh_test.ensures.told ∙ verdict_one _)));
+  told = verdict_next _ _ c.one_mesh_test.ensures.told (ap tell_verdict c.in_ok-one_mesh_test.was)
+      (verdict_next _ _ c.one_mesh_test-2.ensures.told (ap tell_verdict c.in_ok-one_mesh_test-2.was)
+      (verdict_next _ _ c.one_mesh_test-3.ensures.told (ap tell_verdict c.in_ok-one_mesh_test-3.was)
+      (c.one_mesh_test-4.ensures.told ∙ verdict_one _)));
 }

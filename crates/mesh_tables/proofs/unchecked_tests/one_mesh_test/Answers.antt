@@ -5,7 +5,6 @@ use Rattle.mesh.specs.Meshes.{OrderedMesh, ordered}
 use Rattle.mesh_tables.specs.declared.MeshTest.{MeshTest}
 use Rattle.mesh_tables.specs.MeshTests.{MeshAskable}
 use Rattle.mesh_tables.proofs.Openings.{mesh_test_as}
-use borrow.Author.Rules.{rules}
 use Rattle.mesh_tables.proofs.unchecked_tests.one_mesh_test.Goals as goal
 use Rattle.mesh_tables.proofs.unchecked_tests.one_mesh_test.Goals.{Start}
 
