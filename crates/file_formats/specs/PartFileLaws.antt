@@ -1,5 +1,5 @@
 -- The part file's formats are lawful, and stay in the file.
-use Rattle.std.specs.Prelude.{◌≡◌, refl, List, [], ◌∷◌, ℕ, zero, suc, ◌*◌, ◌/◌, ◌≤◌, drop, ℤ}
+use Rattle.std.specs.Prelude.{◌≡◌, refl, List, [], ◌∷◌, ℕ, zero, suc, ◌*◌, ◌/◌, ◌≤◌, drop, ℤ, Ok, Err}
 use Rattle.std.proofs.Common.{◌∙◌, subst, arith}
 use Rattle.std.proofs.Math.ListN.{length}
 use Rattle.file_formats.specs.Formats.{parsed, refused, Format, pair, valid_all, alike, stay, Each}
@@ -8,9 +8,8 @@ use Rattle.file_formats.specs.Numbers.{largest_word, number, signed, Word}
 use Rattle.file_formats.specs.NumberLaws.{number_laws, signed_laws, word_sent, sent_word}
 use Rattle.file_formats.specs.PositionLaws.{place_drop, Tails, number_tails, signed_tails, through_tails, pair_tails, headed_tails, sequence_tails}
 use Rattle.file_formats.specs.PositionLaws.{passed}
-use Rattle.file_formats.specs.Positions.{extent_at}
+use Rattle.file_formats.specs.Positions.{breaks_at, extent_at}
 use Rattle.file_formats.specs.SequenceLaws.{through_extent, pair_next, pair_stop, pair_bad, headed_stop}
-use Rattle.file_formats.specs.declared.Extent.TheVariants.{End, Refused}
 use Rattle.file_formats.specs.PartFile.{Part, signed_run, plain_run, signed_list, mesh_counts, counts_format, tables_for, part_file, PartRules}
 
 -- ---- runs of numbers
@@ -155,12 +154,12 @@ part_valid_rules p e =
 -- ---- how far a part file goes, by its values and tables
 
 module _ (file : List ℕ) where
-  pub no_vertices : (number largest_word).parse file ≡ refused file → extent_at part_file file 0 ≡ Refused 0
+  pub no_vertices : (number largest_word).parse file ≡ refused file → extent_at part_file file 0 ≡ Err (breaks_at 0)
   unfolding part_file counts_format
   no_vertices e = headed_stop mesh_counts counts_format tables_for file 0 0 (pair_bad (number largest_word) (λ v. number largest_word) file 0 (omega arith) e)
 
   module _ (v a : ℕ) (e : (number largest_word).parse file ≡ parsed v (drop a file)) where
-    pub no_triangles : a ≤ length file → (number largest_word).parse (drop a file) ≡ refused (drop a file) → extent_at part_file file 0 ≡ Refused a
+    pub no_triangles : a ≤ length file → (number largest_word).parse (drop a file) ≡ refused (drop a file) → extent_at part_file file 0 ≡ Err (breaks_at a)
     unfolding part_file counts_format extent_at
     no_triangles h f = simp (e, f, place_drop file a h)
 
@@ -170,11 +169,11 @@ module _ (file : List ℕ) where
     part_tables t b f = simp (e, f)
 
 module _ (n : ℕ × ℕ) (file : List ℕ) (at : ℕ) where
-  pub coords_stop : (i : ℕ) → extent_at (signed_run (3 * n.0)) file at ≡ Refused i → extent_at (tables_for n) file at ≡ Refused i
+  pub coords_stop : (i : ℕ) → extent_at (signed_run (3 * n.0)) file at ≡ Err (breaks_at i) → extent_at (tables_for n) file at ≡ Err (breaks_at i)
   unfolding tables_for
   coords_stop i e = through_extent _ _ (tables n) file at ∙ pair_stop (signed_run (3 * n.0)) (λ cs. pair (plain_run (3 * n.1)) (λ ks. signed_list)) file at i e
 
-  module _ (h : at ≤ length file) (b : ℕ) (e : extent_at (signed_run (3 * n.0)) file at ≡ End b) where
+  module _ (h : at ≤ length file) (b : ℕ) (e : extent_at (signed_run (3 * n.0)) file at ≡ Ok b) where
     after_coords : extent_at (tables_for n) file at ≡ extent_at (pair (plain_run (3 * n.1)) (λ ks. signed_list)) file b
     unfolding tables_for
     after_coords =
@@ -182,10 +181,10 @@ module _ (n : ℕ × ℕ) (file : List ℕ) (at : ℕ) where
         through_extent _ _ (tables n) file at
         ∙ pair_next (signed_run (3 * n.0)) (λ cs. pair (plain_run (3 * n.1)) (λ ks. signed_list)) file at q.0 b q.1.parses
 
-    pub corners_stop : (i : ℕ) → extent_at (plain_run (3 * n.1)) file b ≡ Refused i → extent_at (tables_for n) file at ≡ Refused i
+    pub corners_stop : (i : ℕ) → extent_at (plain_run (3 * n.1)) file b ≡ Err (breaks_at i) → extent_at (tables_for n) file at ≡ Err (breaks_at i)
     corners_stop i f = after_coords ∙ pair_stop (plain_run (3 * n.1)) (λ ks. signed_list) file b i f
 
-    pub part_heights : (c : ℕ) → extent_at (plain_run (3 * n.1)) file b ≡ End c → extent_at (tables_for n) file at ≡ extent_at signed_list file c
+    pub part_heights : (c : ℕ) → extent_at (plain_run (3 * n.1)) file b ≡ Ok c → extent_at (tables_for n) file at ≡ extent_at signed_list file c
     part_heights c f =
         let g = passed (signed_run (3 * n.0)) file at b (signed_run_tails (3 * n.0)) h e in
         let q = passed (plain_run (3 * n.1)) file b c (plain_run_tails (3 * n.1)) g.1.inside f in

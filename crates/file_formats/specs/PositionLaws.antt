@@ -1,5 +1,5 @@
 -- Values at a position, as parsing gives them: what was read lies in the file, and parsing goes on after it.
-use Rattle.std.specs.Prelude.{◌≡◌, refl, Bool, true, false, List, [], ◌∷◌, ltb, leb, length, drop}
+use Rattle.std.specs.Prelude.{◌≡◌, refl, Bool, true, false, List, [], ◌∷◌, ltb, leb, length, drop, Result, Ok, Err}
 use Rattle.std.proofs.Common.{sym, ap, ◌∙◌, arith, length-drop, drop_of_length-le, drop-drop, leb-true}
 use Rattle.std.proofs.Math.Path.{subst}
 use Prim.Native.Nat.{ℕ, zero, suc, ◌+◌, ◌*◌, ◌-◌, ◌<◌, ◌≤◌}
@@ -7,10 +7,9 @@ use Rattle.file_formats.specs.Formats.{Parse, parsed, refused, Format, mapped, t
 use Rattle.file_formats.specs.Formats.{holds, broken, decode}
 use Rattle.file_formats.specs.FormatLaws.{not_refused, tested_in, obeyed_in, mapped_in, then_in}
 use Rattle.file_formats.specs.Numbers.{parse_number, number, zigzag, unzigzag, signed}
-use Rattle.file_formats.specs.Positions.{number_at, extent_at}
+use Rattle.file_formats.specs.Positions.{breaks_at, number_at, extent_at}
 pub use Rattle.file_formats.specs.Positions.{ParsedAt}
-use Rattle.file_formats.specs.declared.Number.TheVariants.{Value, Bad}
-use Rattle.file_formats.specs.declared.Extent.TheVariants.{End, Refused}
+use Rattle.file_formats.specs.declared.Broken.{Broken}
 
 -- the place of what is left from a position on
 pub place_drop : (file : List ℕ) (at : ℕ) → at ≤ length file → length file - length (drop at file) ≡ at
@@ -117,16 +116,17 @@ pub record Took (top : ℕ) (file : List ℕ) (at v next : ℕ) : Type 0 where
   pub inside : next ≤ length file
   pub parses : (number top).parse (drop at file) ≡ parsed v (drop next file)
 
-pub took : {top : ℕ} {file : List ℕ} {at v next : ℕ} → number_at top file at ≡ Value v next → Took top file at v next
+pub took : {top : ℕ} {file : List ℕ} {at v next : ℕ} → number_at top file at ≡ Ok (v, next) → Took top file at v next
 unfolding number_at
 took {top} {file} {at} {v} {next} e = by ((number top).parse (drop at file)) refl
   where
     by : (d : Parse ℕ) → (number top).parse (drop at file) ≡ d → Took top file at v next
-    by (refused r) p = let e' : Bad ≡ Value v next = simp p at e in let z : ◌≡◌ {A = ℕ} 0 1 = cc in absurd (omega arith)
+    by (refused r) p = let e' : Err (breaks_at at) ≡ Ok (v, next) = simp p at e in let z : ◌≡◌ {A = ℕ} 0 1 = cc in absurd (omega arith)
     by (parsed w r) p =
-        let e' : Value w (length file - length r) ≡ Value v next = simp p at e in
-        let x : w ≡ v = cc in
-        let y : length file - length r ≡ next = cc in
+        let e' : Ok (w, length file - length r) ≡ Ok (v, next) = simp p at e in
+        let q : ◌≡◌ {A = ℕ × ℕ} (w, length file - length r) (v, next) = cc in
+        let x : w ≡ v = ap (λ (t : ℕ × ℕ). t.0) q in
+        let y : length file - length r ≡ next = ap (λ (t : ℕ × ℕ). t.1) q in
         let j = tested_in (λ n. leb n top) (drop at file) (parse_number (drop at file)) w r p in
         let i = number_tail (drop at file) w r j.0 in
         let z : r ≡ drop (at + suc i.0) file = i.2 ∙ drop-drop (suc i.0) at file in
@@ -139,9 +139,18 @@ took {top} {file} {at} {v} {next} e = by ((number top).parse (drop at file)) ref
           parses = p ∙ ap (λ (m : ℕ). parsed m r) x ∙ ap (parsed v) (z ∙ ap (λ (m : ℕ). drop m file) n);
         }
 
-pub not_took : (top : ℕ) (file : List ℕ) (at : ℕ) → number_at top file at ≡ Bad → (number top).parse (drop at file) ≡ refused (drop at file)
+-- where no number may stand, it breaks there
+pub number_breaks : (top : ℕ) (file : List ℕ) (at : ℕ) {b : Broken} → number_at top file at ≡ Err b → b ≡ breaks_at at
 unfolding number_at
-not_took top file at e = by (parse_number (drop at file)) refl
+number_breaks top file at {b} e = by ((number top).parse (drop at file)) refl
+  where
+    by : (d : Parse ℕ) → (number top).parse (drop at file) ≡ d → b ≡ breaks_at at
+    by (refused r) p = let e' : Err (breaks_at at) ≡ Err b = simp p at e in cc
+    by (parsed w r) p = let e' : Ok (w, length file - length r) ≡ Err b = simp p at e in cc
+
+pub not_took : (top : ℕ) (file : List ℕ) (at : ℕ) {b : Broken} → number_at top file at ≡ Err b → (number top).parse (drop at file) ≡ refused (drop at file)
+unfolding number_at
+not_took top file at {b} e = by (parse_number (drop at file)) refl
   where
     by : (d : Parse ℕ) → parse_number (drop at file) ≡ d → (number top).parse (drop at file) ≡ refused (drop at file)
     by (refused r) p = simp p
@@ -149,40 +158,44 @@ not_took top file at e = by (parse_number (drop at file)) refl
       where
         pick : (t : Bool) → leb w top ≡ t → (number top).parse (drop at file) ≡ refused (drop at file)
         pick false q = simp (p, q)
-        pick true q = let e' : Value w (length file - length r) ≡ Bad = simp (p, q) at e in let z : ◌≡◌ {A = ℕ} 0 1 = cc in absurd (omega arith)
+        pick true q = let e' : Ok (w, length file - length r) ≡ Err b = simp (p, q) at e in let z : ◌≡◌ {A = ℕ} 0 1 = cc in absurd (omega arith)
+
+-- a file that breaks here and there breaks at one position
+pub same_place : {A : Type 0} {i j : ℕ} → ◌≡◌ {A = Result A Broken} (Err (breaks_at i)) (Err (breaks_at j)) → i ≡ j
+same_place {A} {i} {j} e = let b : breaks_at i ≡ breaks_at j = cc in ap (λ (b : Broken). b.at) b
 
 -- the two answers of a check
-pub passed : {A : Type 0} (F : Format A) (file : List ℕ) (at next : ℕ) → Tails F → at ≤ length file → extent_at F file at ≡ End next
+pub passed : {A : Type 0} (F : Format A) (file : List ℕ) (at next : ℕ) → Tails F → at ≤ length file → extent_at F file at ≡ Ok next
     → (a : A) × ParsedAt F file at a next
 unfolding extent_at
 passed {A} F file at next T h e = by (F.parse (drop at file)) refl
   where
     by : (d : Parse A) → F.parse (drop at file) ≡ d → (a : A) × ParsedAt F file at a next
-    by (refused r) p = let e' : Refused (length file - length r) ≡ End next = simp p at e in let z : ◌≡◌ {A = ℕ} 0 1 = cc in absurd (omega arith)
+    by (refused r) p = let e' : Err (breaks_at (length file - length r)) ≡ Ok next = simp p at e in let z : ◌≡◌ {A = ℕ} 0 1 = cc in absurd (omega arith)
     by (parsed a r) p =
-        let e' : End (length file - length r) ≡ End next = simp p at e in
+        let e' : Ok (length file - length r) ≡ Ok next = simp p at e in
         let y : length file - length r ≡ next = cc in
         (a, subst (ParsedAt F file at a) y (parsed_at T file at h a r p))
 
-pub stopped : {A : Type 0} (F : Format A) (file : List ℕ) (at i : ℕ) → extent_at F file at ≡ Refused i
+pub stopped : {A : Type 0} (F : Format A) (file : List ℕ) (at i : ℕ) → extent_at F file at ≡ Err (breaks_at i)
     → (r : List ℕ) × (F.parse (drop at file) ≡ refused r) × (i ≡ length file - length r)
 unfolding extent_at
 stopped {A} F file at i e = by (F.parse (drop at file)) refl
   where
     by : (d : Parse A) → F.parse (drop at file) ≡ d → (r : List ℕ) × (F.parse (drop at file) ≡ refused r) × (i ≡ length file - length r)
-    by (parsed a r) p = let e' : End (length file - length r) ≡ Refused i = simp p at e in let z : ◌≡◌ {A = ℕ} 0 1 = cc in absurd (omega arith)
-    by (refused r) p = let e' : Refused (length file - length r) ≡ Refused i = simp p at e in (r, p, cc)
+    by (parsed a r) p = let e' : Ok (length file - length r) ≡ Err (breaks_at i) = simp p at e in let z : ◌≡◌ {A = ℕ} 0 1 = cc in absurd (omega arith)
+    by (refused r) p = let e' : Err (breaks_at (length file - length r)) ≡ Err (breaks_at i) = simp p at e in (r, p, same_place (sym e'))
 
 -- ---- a whole file, by how far it is in its format
 
 module _ {A : Type 0} (F : Format A) (file : List ℕ) (i : ℕ) where
-  pub file_refused : extent_at F file 0 ≡ Refused i → decode F file ≡ broken i
+  pub file_refused : extent_at F file 0 ≡ Err (breaks_at i) → decode F file ≡ broken i
   file_refused e =
       let s = stopped F file 0 i e in
       let p : F.parse file ≡ refused s.0 = s.1 in
       simp p (ap broken (sym s.2))
 
-  module _ (T : Tails F) (e : extent_at F file 0 ≡ End i) where
+  module _ (T : Tails F) (e : extent_at F file 0 ≡ Ok i) where
     pub file_left_over : i < length file → decode F file ≡ broken i
     file_left_over h =
         let q = passed F file 0 i T (omega arith) e in

@@ -1,5 +1,5 @@
 -- Sequences value by value: parsing and writing in a loop, and the first i values apart from the others.
-use Rattle.std.specs.Prelude.{◌≡◌, drop}
+use Rattle.std.specs.Prelude.{◌≡◌, drop, Result, Ok, Err}
 use Rattle.std.proofs.Math.Path.{refl, sym, ap}
 use Rattle.std.proofs.Common.{◌∙◌, suc-add, zero-add}
 use mathlib.Core.List.{List, [], ◌∷◌, ◌++◌, append_assoc}
@@ -9,10 +9,9 @@ use Rattle.std.proofs.Math.ListN.{length}
 use Rattle.file_formats.specs.Formats.{Parse, parsed, refused, Format, and_then, mapped, through, pair, headed, encode_all, parse_all, sequence}
 pub use Rattle.file_formats.specs.Formats.{state_after}
 use Rattle.file_formats.specs.FormatLaws.{then_in, mapped_in}
-use Rattle.file_formats.specs.Positions.{extent, extent_at}
+use Rattle.file_formats.specs.Positions.{breaks_at, extent, extent_at}
 use Rattle.file_formats.specs.PositionLaws.{place_drop, stopped}
-use Rattle.file_formats.specs.declared.Extent.{Extent}
-use Rattle.file_formats.specs.declared.Extent.TheVariants.{End, Refused}
+use Rattle.file_formats.specs.declared.Broken.{Broken}
 
 -- ---- how far a composite goes, by its parts
 
@@ -29,13 +28,13 @@ module _ {A B : Type 0} (F : Format A) (G : A → Format B) (file : List ℕ) (a
   unfolding extent_at
   pair_next a next e = simp (e, extent_mapped)
 
-  pub pair_stop : (i : ℕ) → extent_at F file at ≡ Refused i → extent_at (pair F G) file at ≡ Refused i
+  pub pair_stop : (i : ℕ) → extent_at F file at ≡ Err (breaks_at i) → extent_at (pair F G) file at ≡ Err (breaks_at i)
   unfolding extent_at
   pair_stop i e =
       let s = stopped F file at i e in
-      simp s.1 (ap Refused (sym s.2))
+      simp s.1 (ap (λ (k : ℕ). Err (breaks_at k)) (sym s.2))
 
-  pub pair_bad : at ≤ length file → F.parse (drop at file) ≡ refused (drop at file) → extent_at (pair F G) file at ≡ Refused at
+  pub pair_bad : at ≤ length file → F.parse (drop at file) ≡ refused (drop at file) → extent_at (pair F G) file at ≡ Err (breaks_at at)
   unfolding extent_at
   pair_bad h e = simp (e, place_drop file at h)
 
@@ -44,19 +43,19 @@ module _ {K A : Type 0} (key : A → K) (F : Format K) (G : K → Format A) (fil
   unfolding extent_at
   headed_next k next e = simp e
 
-  pub headed_stop : (i : ℕ) → extent_at F file at ≡ Refused i → extent_at (headed key F G) file at ≡ Refused i
+  pub headed_stop : (i : ℕ) → extent_at F file at ≡ Err (breaks_at i) → extent_at (headed key F G) file at ≡ Err (breaks_at i)
   unfolding extent_at
   headed_stop i e =
       let s = stopped F file at i e in
-      simp s.1 (ap Refused (sym s.2))
+      simp s.1 (ap (λ (k : ℕ). Err (breaks_at k)) (sym s.2))
 
-  pub headed_bad : at ≤ length file → F.parse (drop at file) ≡ refused (drop at file) → extent_at (headed key F G) file at ≡ Refused at
+  pub headed_bad : at ≤ length file → F.parse (drop at file) ≡ refused (drop at file) → extent_at (headed key F G) file at ≡ Err (breaks_at at)
   unfolding extent_at
   headed_bad h e = simp (e, place_drop file at h)
 
 -- ---- a loop that checks: what is left at i, in the state s, goes as far as the whole does
 
-module _ {S A : Type 0} (F : S → Format A) (step : S → A → S) (file : List ℕ) (total : Extent) where
+module _ {S A : Type 0} (F : S → Format A) (step : S → A → S) (file : List ℕ) (total : Result ℕ Broken) where
   pub record SequenceCheck (s : S) (i left : ℕ) : Type 0 where
     pub inside : i ≤ length file
     pub same : extent_at (sequence F step left s) file i ≡ total
@@ -65,17 +64,17 @@ pub sequence_check : {S A : Type 0} (F : S → Format A) (step : S → A → S) 
     → SequenceCheck F step file (extent_at (sequence F step count s) file at) s at count
 sequence_check F step file s at count h = record { inside = h; same = refl }
 
-module _ {S A : Type 0} {F : S → Format A} {step : S → A → S} {file : List ℕ} {total : Extent} {s : S} {i : ℕ} where
+module _ {S A : Type 0} {F : S → Format A} {step : S → A → S} {file : List ℕ} {total : Result ℕ Broken} {s : S} {i : ℕ} where
   -- a value that is refused from r on
   pub check_stop : (left : ℕ) → SequenceCheck F step file total s i left → 0 < left → (r : List ℕ) → (F s).parse (drop i file) ≡ refused r
-      → Refused (length file - length r) ≡ total
+      → Err (breaks_at (length file - length r)) ≡ total
   unfolding parse_all extent_at
   check_stop zero w h r e = absurd (omega arith)
   check_stop (suc left) w h r e = simp e at w.same
 
   -- a value that is refused from its first byte on
-  pub check_bad : (left : ℕ) → SequenceCheck F step file total s i left → 0 < left → (F s).parse (drop i file) ≡ refused (drop i file) → Refused i ≡ total
-  check_bad left w h e = ap Refused (sym (place_drop file i w.inside)) ∙ check_stop left w h (drop i file) e
+  pub check_bad : (left : ℕ) → SequenceCheck F step file total s i left → 0 < left → (F s).parse (drop i file) ≡ refused (drop i file) → Err (breaks_at i) ≡ total
+  check_bad left w h e = ap (λ (k : ℕ). Err (breaks_at k)) (sym (place_drop file i w.inside)) ∙ check_stop left w h (drop i file) e
 
   pub check_next : (left : ℕ) → SequenceCheck F step file total s i left → 0 < left → (a : A) (j : ℕ) → (F s).parse (drop i file) ≡ parsed a (drop j file)
       → j ≤ length file
@@ -86,7 +85,7 @@ module _ {S A : Type 0} {F : S → Format A} {step : S → A → S} {file : List
       let n : suc left - 1 ≡ left = omega arith in
       rw n (record { inside = k; same = simp (e, extent_mapped) at w.same })
 
-  pub check_end : (left : ℕ) → SequenceCheck F step file total s i left → left ≤ 0 → End i ≡ total
+  pub check_end : (left : ℕ) → SequenceCheck F step file total s i left → left ≤ 0 → Ok i ≡ total
   unfolding parse_all extent_at
   check_end zero w h = simp (place_drop file i w.inside) at w.same
   check_end (suc left) w h = absurd (omega arith)

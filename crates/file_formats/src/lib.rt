@@ -2,6 +2,11 @@
 
 #![tactic(auto)]
 
+ghost use Rattle.std.specs.Prelude.{◌≡◌};
+ghost use Rattle.mesh.specs.declared.Refusal.TheVariants.{File};
+
+use mesh::Refusal;
+
 pub mod numbers;
 pub mod unchecked;
 
@@ -11,16 +16,17 @@ pub const MOST_LAYERS: usize = 4096;
 // The largest number of 32 bits.
 pub const LARGEST_WORD: u64 = 4294967295;
 
-// A number and the position after it, or no number that may stand there.
-#[derive(Drop)]
-pub enum Number {
-    Value(u64, usize),
-    Bad,
+// The position of the first value that may not stand there.
+#[derive(Clone, Copy, Debug, PartialEq, Eq)]
+pub struct Broken {
+    pub at: usize,
 }
 
-// How far a part of a file is as it should be: the position after it, or that of the first refused value.
-#[derive(Drop)]
-pub enum Extent {
-    End(usize),
-    Refused(usize),
+// A file that breaks there is refused (REFUSAL-13).
+impl From<Broken> for Refusal {
+    ghost from_gives = { λ b r. r ≡ File b.at };
+
+    fn from(b: Broken) -> Refusal {
+        Refusal::File(b.at)
+    }
 }

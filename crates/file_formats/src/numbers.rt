@@ -3,47 +3,38 @@ ghost use Rattle.std.specs.Prelude.{◌≡◌, length, ◌-ℤ◌};
 ghost use Rattle.file_formats.specs.Numbers.{encode_number, zigzag, unzigzag};
 ghost use Rattle.file_formats.specs.Positions.{number_at};
 
-use crate::Number;
-
-// A byte as a number.
-fn wide_byte(b: u8) -> u64
-    ensures value { result ≡ b }
-{
-    b as u64
-}
+use crate::Broken;
 
 // The number at a position of a file, if it is at most top. `value` is what the groups read so far make, `unit` what the next group counts,
 // `rest` the most that the groups to come may make, and `least` what the last group must reach: only a first group may be 0 at the end.
-pub fn read_number(file: &[u8], at: usize, top: u64) -> Number
+pub fn read_number(file: &[u8], at: usize, top: u64) -> Result<(u64, usize), Broken>
     ensures value { result ≡ number_at top file.now at }
 {
     let mut value: u64 = 0;
     let mut unit: u64 = 1;
     let mut rest = top;
     let mut least: u64 = 0;
-    let mut i = at;
-    while i < file.len() {
-        let b = wide_byte(file[i]);
+    for i in at..file.len() {
+        let b = u64::from(file[i]);
         if b < 128 {
             if b < least {
-                return Number::Bad;
+                return Err(Broken { at });
             }
             if rest < b {
-                return Number::Bad;
+                return Err(Broken { at });
             }
-            return Number::Value(value + unit * b, i + 1);
+            return Ok((value + unit * b, i + 1));
         }
         if rest < 128 {
-            return Number::Bad;
+            return Err(Broken { at });
         }
         let low = b - 128;
         value += unit * low;
-        unit = unit * 128;
+        unit *= 128;
         rest = (rest - low) / 128;
         least = 1;
-        i += 1;
     }
-    Number::Bad
+    Err(Broken { at })
 }
 
 // How many bytes a number takes.
