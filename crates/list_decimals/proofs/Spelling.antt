@@ -1,14 +1,15 @@
--- Counting digits, writing a number from its last digit to its first, and a text byte by byte.
+-- Counting digits, writing a number from its last digit to its first, a text, and a number with its sign.
 use Prim.Native.Nat.{ℕ, suc, ◌+◌, ◌-◌, ◌/◌, ◌%◌, ◌<◌, ◌≤◌}
-use mathlib.Core.Path.{◌≡◌, refl, sym, ap, ◌∙◌, subst}
+use mathlib.Core.Path.{◌≡◌, refl, sym, ap, ◌∙◌}
 use mathlib.Core.List.{List, [], ◌∷◌, ◌++◌, append_assoc, append-nil}
 use native.Mathlib.Omega.{arith}
 use native.Mathlib.Numerals.{add-one}
-use lib.ListN.{length, set, get_or, drop, length-set, length-append, drop_of_length-le}
-use lib.Seq.{sets, length-sets, set_comm, drop-cons}
-use Rattle.file_formats.specs.EmitLaws.{Emit, emit_start, emit_one_fits, emit_one, emit_end}
-use lib.IntN.{ℤ}
-use Rattle.laws.specs.SignLaws.{Negative, NonNegative}
+use lib.ListN.{length, set, take, drop, length-set, length-append}
+use lib.Seq.{sets, sets-eq, length-sets, set_comm, drop-drop}
+use borrow.Rule.Slice.PartMut.{put_mid}
+use lib.IntN.{ℤ, pos, negsuc, nat_abs}
+use lib.Signed.{◌<ℤ◌, ◌≤ℤ◌}
+use Rattle.laws.specs.Integers.{lt_in}
 use Rattle.list_decimals.specs.Decimals.{digit, minus, decimal, signed_decimal}
 use Rattle.list_decimals.proofs.DecimalLaws.{decimal_one, decimal_more, length_more, decimal_pos}
 use Rattle.list_decimals.specs.Texts.{TextRoom, PutsText}
@@ -87,56 +88,54 @@ module _ {l : List ℕ} {at n : ℕ} {m : List ℕ} {rest i : ℕ} (w : Spelling
 
 -- ---- a text
 
--- k bytes stand, and the others go to p
-pub record Copying (l : List ℕ) (at : ℕ) (text m : List ℕ) (p k : ℕ) : Type 0 where
-  pub upto : k ≤ length text
-  pub bytes : Emit l at text m p (drop k text)
-
-pub copying : {l : List ℕ} {at : ℕ} {text : List ℕ} → TextRoom l at text → Copying l at text l at 0
-copying h = record { upto = omega arith; bytes = emit_start _ _ _ h.within }
-
-module _ {l : List ℕ} {at : ℕ} {text m : List ℕ} {p k : ℕ} (w : Copying l at text m p k) where
-  module _ (h : k < length text) where
-    next : Emit l at text m p (get_or text k 0 ∷ drop (suc k) text)
-    next = subst (Emit l at text m p) (drop-cons text k 0 h) w.bytes
-
-    pub copying_room : p < length m
-    copying_room = emit_one_fits _ _ next
-
-    pub copying_next : Copying l at text (set m p (get_or text k 0)) (p + 1) (k + 1)
-    copying_next = record { upto = omega arith; bytes = rw (add-one k) (emit_one _ _ next) }
-
-  pub copying_end : length text ≤ k → PutsText l at text p m
-  copying_end h =
-      let e = emit_end (subst (Emit l at text m p) (drop_of_length-le text h) w.bytes) in
-      record { ends = e.0; within = omega (arith, e.0, w.bytes.room); is = e.1 }
+-- bytes copied onto as many of an output
+pub copied : {l : List ℕ} {at n : ℕ} {text bytes : List ℕ} → TextRoom l at text → n ≡ length text → bytes ≡ text
+    → PutsText l at text (at + length text) (put_mid at n l bytes)
+copied {l} {at} {n} {text} h k e =
+    record {
+      ends = refl;
+      within = h.within;
+      is =
+          (λ i. put_mid at (k i) l (e i))
+          ∙ ap (λ (m : List ℕ). take at l ++ (text ++ m)) (drop-drop (length text) at l)
+          ∙ sym (append_assoc (take at l) text (drop (at + length text) l))
+          ∙ sym (sets-eq text l at h.within);
+    }
 
 -- ---- a sign and then a number
 
-module _ {z : ℤ} (b : Negative z) {u : ℕ} (is : u ≡ b.k) where
-  below_text : signed_decimal z ≡ minus ∷ decimal (u + 1)
-  unfolding signed_decimal
-  below_text = ap signed_decimal b.from ∙ ap (λ (n : ℕ). minus ∷ decimal n) (let e : suc b.k ≡ u + 1 = omega arith in e)
+text_below : (z : ℤ) → z <ℤ pos 0 → signed_decimal z ≡ minus ∷ decimal (nat_abs z)
+unfolding signed_decimal
+text_below (pos n) h = absurd (omega (arith, lt_in h))
+text_below (negsuc k) h = refl
+
+text_above : (z : ℤ) → pos 0 ≤ℤ z → signed_decimal z ≡ decimal (nat_abs z)
+unfolding signed_decimal
+text_above (pos n) h = refl
+text_above (negsuc k) h = absurd h.le
+
+module _ {z : ℤ} (below : z <ℤ pos 0) {u : ℕ} (is : u ≡ nat_abs z) where
+  below_text : signed_decimal z ≡ minus ∷ decimal u
+  below_text = text_below z below ∙ ap (λ (n : ℕ). minus ∷ decimal n) (sym is)
 
   module _ {l : List ℕ} {at : ℕ} (h : TextRoom l at (signed_decimal z)) where
     pub sign_room : at < length l
-    sign_room = omega (arith, ap length below_text)
+    sign_room = omega (arith, h.within, ap length below_text)
 
-    pub below_room : (sign : ℕ) → TextRoom (set l at sign) (at + 1) (decimal (u + 1))
-    below_room sign = record { within = omega (arith, ap length below_text, length-set l at sign) }
+    pub below_room : (sign : ℕ) → TextRoom (set l at sign) (at + 1) (decimal u)
+    below_room sign = record { within = omega (arith, h.within, ap length below_text, length-set l at sign) }
 
-  pub below_put : {l : List ℕ} {at p : ℕ} {m : List ℕ} → PutsText (set l at minus) (at + 1) (decimal (u + 1)) p m → PutsText l at (signed_decimal z) p m
+  pub below_put : {l : List ℕ} {at p : ℕ} {m : List ℕ} → PutsText (set l at minus) (at + 1) (decimal u) p m → PutsText l at (signed_decimal z) p m
   below_put {l} {at} v =
       record {
         ends = omega (arith, v.ends, ap length below_text);
         within = omega (arith, v.within, length-set l at minus);
-        is = v.is ∙ ap (λ (k : ℕ). sets (set l at minus) k (decimal (u + 1))) (add-one at) ∙ ap (sets l at) (sym below_text);
+        is = v.is ∙ ap (λ (k : ℕ). sets (set l at minus) k (decimal u)) (add-one at) ∙ ap (sets l at) (sym below_text);
       }
 
-module _ {z : ℤ} (b : NonNegative z) {u : ℕ} (is : u ≡ b.k) where
+module _ {z : ℤ} (above : pos 0 ≤ℤ z) {u : ℕ} (is : u ≡ nat_abs z) where
   above_text : signed_decimal z ≡ decimal u
-  unfolding signed_decimal
-  above_text = ap signed_decimal b.from ∙ ap decimal (sym is)
+  above_text = text_above z above ∙ ap decimal (sym is)
 
   pub above_room : {l : List ℕ} {at : ℕ} → TextRoom l at (signed_decimal z) → TextRoom l at (decimal u)
   above_room h = record { within = omega (arith, h.within, ap length above_text) }

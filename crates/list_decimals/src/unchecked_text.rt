@@ -10,7 +10,7 @@ fn digit_count(n: u64) -> usize
     let mut rest = n;
     let mut k: usize = 1;
     while 10 <= rest {
-        rest = rest / 10;
+        rest /= 10;
         k += 1;
     }
     k
@@ -26,7 +26,7 @@ pub fn write_decimal(output: &mut [u8], at: usize, n: u64) -> usize
     let mut i = end - 1;
     while 10 <= rest {
         output[i] = (48 + rest % 10) as u8;
-        rest = rest / 10;
+        rest /= 10;
         i -= 1;
     }
     output[i] = (48 + rest) as u8;
@@ -39,22 +39,16 @@ pub fn write_signed(output: &mut [u8], at: usize, z: i64) -> usize
 {
     if z < 0 {
         output[at] = b'-';
-        let k = -1 - z;
-        return write_decimal(output, at + 1, (k as u64) + 1);
+        return write_decimal(output, at + 1, z.unsigned_abs());
     }
-    write_decimal(output, at, z as u64)
+    write_decimal(output, at, z.unsigned_abs())
 }
 
 pub fn write_text(output: &mut [u8], at: usize, text: &[u8]) -> usize
     requires { TextRoom output.old at text.now }
     ensures outcome { PutsText output.old at text.now result output.new }
 {
-    let mut p = at;
-    let mut k: usize = 0;
-    while k < text.len() {
-        output[p] = text[k];
-        p += 1;
-        k += 1;
-    }
-    p
+    let end = at + text.len();
+    output[at..end].copy_from_slice(text);
+    end
 }

@@ -1,7 +1,7 @@
 -- `unchecked_text::digit_count` meets its contract.
 use native.Mathlib.Omega.{arith}
 use Rattle.list_decimals.proofs.DecimalLaws.{decimal_pos, decimal_word}
-use Rattle.list_decimals.proofs.Spelling.{DigitCounting, digit_counting, counting_next, counting_end}
+use Rattle.list_decimals.proofs.Spelling.{digit_counting, counting_next, counting_end}
 use Rattle.list_decimals.proofs.unchecked_text.digit_count.Goals as goal
 
 pub loop-rest-init : goal.loop-rest-init

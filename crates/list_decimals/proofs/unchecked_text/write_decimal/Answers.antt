@@ -4,8 +4,7 @@ use native.Mathlib.Omega.{arith}
 use lib.ListN.{length-set}
 use Rattle.list_decimals.specs.Decimals.{digit}
 use Rattle.list_decimals.proofs.DecimalLaws.{decimal_pos}
-use Rattle.list_decimals.proofs.Spelling.{Spelling, spelling, spelling_size, spelling_room, spelling_back, spelling_next, spelling_last}
-use borrow.Author.Rules.{rules}
+use Rattle.list_decimals.proofs.Spelling.{spelling, spelling_size, spelling_room, spelling_back, spelling_next, spelling_last}
 use Rattle.list_decimals.proofs.unchecked_text.write_decimal.Goals as goal
 
 pub overflow_add-end : goal.overflow_add-end
