@@ -37,20 +37,14 @@ pub fn see_none() -> ContourSeen
 fn is_known(s: ContourSeen, x: i32, y: i32) -> bool
     ensures value { result ≡ is_known s (point x y) }
 {
-    if s.different == 3 {
-        return true;
-    }
-    same_point(s.x, s.y, x, y) | same_point(s.u, s.v, x, y)
+    s.different == 3 || same_point(s.x, s.y, x, y) || same_point(s.u, s.v, x, y)
 }
 
 // How many are different with one more than n, which is 1 or 2.
 fn one_more(n: u32) -> u32
     ensures value { result ≡ one_more n }
 {
-    if n == 1 {
-        return 2;
-    }
-    3
+    if n == 1 { 2 } else { 3 }
 }
 
 // After one more point, (x, y), where (px, py) came before.
@@ -60,8 +54,8 @@ pub fn see(s: ContourSeen, px: i32, py: i32, x: i32, y: i32) -> ContourSeen
     if s.different == 0 {
         return ContourSeen {
             different: 1,
-            x: x,
-            y: y,
+            x,
+            y,
             u: x,
             v: y,
             apart: true,
@@ -69,22 +63,14 @@ pub fn see(s: ContourSeen, px: i32, py: i32, x: i32, y: i32) -> ContourSeen
     }
     let apart = s.apart & !same_point(px, py, x, y);
     if is_known(s, x, y) {
-        return ContourSeen {
-            different: s.different,
-            x: s.x,
-            y: s.y,
-            u: s.u,
-            v: s.v,
-            apart: apart,
-        };
+        return ContourSeen { apart, ..s };
     }
     ContourSeen {
         different: one_more(s.different),
-        x: s.x,
-        y: s.y,
         u: x,
         v: y,
-        apart: apart,
+        apart,
+        ..s
     }
 }
 
@@ -92,5 +78,5 @@ pub fn see(s: ContourSeen, px: i32, py: i32, x: i32, y: i32) -> ContourSeen
 pub fn seen_clean(s: ContourSeen, x: i32, y: i32) -> bool
     ensures value { result ≡ seen_clean s (point x y) }
 {
-    (s.different == 3) & (s.apart & !same_point(s.x, s.y, x, y))
+    s.different == 3 && s.apart && !same_point(s.x, s.y, x, y)
 }

@@ -8,7 +8,7 @@ ghost use Rattle.polygons.specs.Flat.{point};
 ghost use Rattle.cleaning.specs.Cleaning.{same_point};
 
 // Layers as they are cut, or cleaned.
-#[derive(Clone, Copy)]
+#[derive(Clone, Copy, Debug, PartialEq, Eq)]
 pub enum Profile {
     Full,
     Clean,
