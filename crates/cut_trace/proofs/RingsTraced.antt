@@ -22,7 +22,9 @@ use Rattle.section.proofs.LayerLaws.{names_snoc, ends_snoc, starts_at, Begun, be
 use Rattle.section.proofs.LayerLaws.{fresh, begun_ring, ring_room_lem, begun_few}
 use Rattle.cut_trace.specs.Traces.{trace_answer, zeroed, names_after, ends_after}
 use Rattle.cut_trace.specs.Walks.{ring_of, strike, Walkable, Traceable, NoLinks, Sought}
-use Rattle.cut_trace.specs.declared.TraceAnswer.TheVariants.{Contours}
+use Rattle.std.specs.Prelude.{Result, Ok}
+use Rattle.polygons.specs.declared.LayerCounts.{LayerCounts}
+use Rattle.cut_trace.specs.declared.Met.{Met}
 use Rattle.cut_trace.proofs.Strikes.{length_strike, strike_join, strike_other, strike_same, strike_behind}
 use Rattle.cut_trace.proofs.RingWalking.{ring_is}
 
@@ -40,6 +42,10 @@ orbit_equal f g (suc m) c h =
     orbit_snoc f m c ∙ (λ k. orbit_equal f g m c (λ i l. h i (omega arith)) k ++ (h m (omega arith) k ∷ [])) ∙ sym (orbit_snoc g m c)
 
 -- ---- the pass
+
+-- so many contours with so many names together
+abbrev pub counted : ℕ → ℕ → Result LayerCounts Met
+counted j k = Ok (record { contours = j; points = k })
 
 pub record RingsTraced (n : ℕ) (links₀ names₀ ends₀ links names ends : List ℕ) (c k j : ℕ) : Type 0 where
   pub given : Traceable n links₀ names₀ ends₀
@@ -221,9 +227,9 @@ module _ {n : ℕ} {links₀ names₀ ends₀ links names ends : List ℕ} {c k 
     unfolding trace_links
     trace_is = let e : c ≡ n = omega (arith, w.upto) in subst (λ (i : ℕ). trace_to rises next n i ≡ contours w.rings) e w.begun.is
 
-    found_is : Contours j k ≡ trace_answer (trace_links n links₀)
+    found_is : counted j k ≡ trace_answer (trace_links n links₀)
     unfolding trace_answer
-    found_is = (λ i. Contours (w.at_j i) (w.at_k i)) ∙ ap trace_answer (sym trace_is)
+    found_is = (λ i. counted (w.at_j i) (w.at_k i)) ∙ ap trace_answer (sym trace_is)
 
     names_end : names ≡ names_after (trace_links n links₀) n names₀
     unfolding names_after
@@ -245,7 +251,7 @@ module _ {n : ℕ} {links₀ names₀ ends₀ links names ends : List ℕ} {c k 
 
     -- what the last corner leaves, once the links are zeroed
     pub traced : {t : List ℕ} → t ≡ zeroed n links
-        → (Contours j k ≡ trace_answer (trace_links n links₀))
+        → (counted j k ≡ trace_answer (trace_links n links₀))
         × ((names ≡ names_after (trace_links n links₀) n names₀) × ((ends ≡ ends_after (trace_links n links₀) n ends₀) × (t ≡ zeroed n links₀)))
     traced e = (found_is, (names_end, (ends_end, e ∙ links_end)))
 

@@ -1,15 +1,15 @@
 -- What the contours of a section leave: the counts (CUT-6), and
 -- the tables of names and ends (CUT-2, CUT-4, CUT-7, CUT-12).
-use Rattle.std.specs.Prelude.{ℕ, List, length, replicate}
+use Rattle.std.specs.Prelude.{ℕ, List, length, replicate, Result, Ok, Err}
 use Rattle.laws.specs.Tables.{overwrite}
 use Rattle.section.specs.Contours.{Traced, contours, stuck, names_of, ends_of}
-use Rattle.cut_trace.specs.declared.TraceAnswer.{TraceAnswer}
-use Rattle.cut_trace.specs.declared.TraceAnswer.TheVariants.{Contours, Stuck}
+use Rattle.polygons.specs.declared.LayerCounts.{LayerCounts}
+use Rattle.cut_trace.specs.declared.Met.{Met}
 
 -- the counts of contours and points, or the crossing of refusal 16
-unfoldable pub trace_answer : Traced → TraceAnswer
-trace_answer (contours rs) = Contours (length rs) (length (names_of rs))
-trace_answer (stuck p) = Stuck p
+unfoldable pub trace_answer : Traced → Result LayerCounts Met
+trace_answer (contours rs) = Ok (record { contours = length rs; points = length (names_of rs) })
+trace_answer (stuck p) = Err (record { at = p })
 
 -- the table with n entries zero
 abbrev pub zeroed : ℕ → List ℕ → List ℕ

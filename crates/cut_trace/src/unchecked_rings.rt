@@ -1,5 +1,5 @@
 // Tracing: the contours of a table of links, each `requires` saying that the links lead round rings.
-ghost use Rattle.std.specs.Prelude.{◌≡◌, true, ◌+◌, ◌≤◌, ◌<◌, length, get_or};
+ghost use Rattle.std.specs.Prelude.{◌≡◌, true, ◌+◌, ◌≤◌, ◌<◌, length, get_or, Ok};
 ghost use Rattle.std.proofs.lemmas.List.Edits.{sets};
 ghost use Rattle.section.specs.Section.{no_corner};
 ghost use Rattle.section.specs.Links.{trace_links};
@@ -7,31 +7,31 @@ ghost use Rattle.cut_trace.specs.Traces.{trace_answer, zeroed, names_after, ends
 ghost use Rattle.cut_trace.specs.Walks.{ring_of, strike, NoLinks, Sought, Seekable, Walkable, Traceable};
 ghost use Rattle.mesh.specs.Corners.{most_corners};
 
-use crate::{TraceAnswer, WalkAnswer};
-use mesh::numbers::wide;
+use crate::Met;
 use mesh::unchecked::fill;
+use polygons::LayerCounts;
 use section::NO_CORNER;
 
-// Writes the ring of `start` into names, from place `at` on, and takes its links out.
-fn walk(links: &mut [u32], names: &mut [u32], start: usize, at: usize) -> WalkAnswer
+// Writes the ring of `start` into names, from place `at` on, and takes its links out: the place after the last name.
+fn walk(links: &mut [u32], names: &mut [u32], start: usize, at: usize) -> Result<usize, Met>
     requires { Walkable links.old names.old start at }
-    ensures value { result ≡ WalkAnswer.Closed (at + length (ring_of links.old start)) }
+    ensures value { result ≡ Ok (at + length (ring_of links.old start)) }
     ensures names_left { names.new ≡ sets names.old at (ring_of links.old start) }
     ensures links_left { links.new ≡ strike links.old (ring_of links.old start) }
 {
     let mut c = start;
     let mut k = at;
+    // Follows links, so no `for` fits.
     loop {
-        let d = wide(links[c]);
-        let e = c as u32;
-        names[k] = e;
+        let d = links[c] as usize;
+        names[k] = c as u32;
         links[c] = NO_CORNER;
         k += 1;
         if d == start {
-            return WalkAnswer::Closed(k);
+            return Ok(k);
         }
         if links[d] == NO_CORNER {
-            return WalkAnswer::Met(d);
+            return Err(Met { at: d });
         }
         c = d;
     }
@@ -49,26 +49,23 @@ fn wipe(n: usize, marks: &mut [u32], names: &mut [u32], ends: &mut [u32])
     fill(ends, n, 0);
 }
 
-// Whether the four corners from c on have no link. A link is at most NO_CORNER.
+// Whether the four corners from c on have no link. A link is at most NO_CORNER, so one sum tests all four, with no branch between.
 fn no_links(links: &[u32], c: usize) -> bool
     requires { (c < most_corners) × (c + 3 < length links.now) }
     ensures sound { result ≡ true → NoLinks links.now c (c + 4) }
 {
-    let a = wide(links[c]) + wide(links[c + 1]);
-    let b = wide(links[c + 2]) + wide(links[c + 3]);
-    a + b == 17179869180
+    let a = links[c] as usize + links[c + 1] as usize;
+    let b = links[c + 2] as usize + links[c + 3] as usize;
+    a + b == 4 * (NO_CORNER as usize)
 }
 
-// A corner from c on, below n, with no link before it: by fours.
+// A corner from c on, at most n, with no link before it. Few corners have one, and by fours they are passed faster than one by one.
 fn leap(n: usize, links: &[u32], c: usize) -> usize
     requires { Seekable n links.now c }
     ensures sought { Sought n links.now c result }
 {
     let mut d = c;
-    while d + 4 <= n {
-        if !no_links(links, d) {
-            return d;
-        }
+    while d + 4 <= n && no_links(links, d) {
         d += 4;
     }
     d
@@ -80,18 +77,21 @@ fn seek(n: usize, links: &[u32], c: usize) -> usize
     ensures sought { Sought n links.now c result }
     ensures result { result < n → get_or links.now result 0 ≡ no_corner → ⊥ }
 {
-    let mut d = leap(n, links, c);
-    while d < n {
+    for d in leap(n, links, c)..n {
         if links[d] != NO_CORNER {
             return d;
         }
-        d += 1;
     }
-    d
+    n
 }
 
 // Takes the contours out of the first n links, by first corner, and leaves zeros there.
-pub fn trace(n: usize, links: &mut [u32], names: &mut [u32], ends: &mut [u32]) -> TraceAnswer
+pub fn trace(
+    n: usize,
+    links: &mut [u32],
+    names: &mut [u32],
+    ends: &mut [u32],
+) -> Result<LayerCounts, Met>
     requires { Traceable n links.old names.old ends.old }
     ensures value { result ≡ trace_answer (trace_links n links.old) }
     ensures names_left { names.new ≡ names_after (trace_links n links.old) n
@@ -102,21 +102,22 @@ pub fn trace(n: usize, links: &mut [u32], names: &mut [u32], ends: &mut [u32]) -
     let mut c = seek(n, links, 0);
     let mut k: usize = 0;
     let mut j: usize = 0;
+    // Goes from each corner with a link to the next one, so no `for` fits.
     while c < n {
-        let w = walk(links, names, c, k);
-        match w {
-            WalkAnswer::Closed(e) => {
-                ends[j] = e as u32;
-                j += 1;
-                k = e;
-            }
-            WalkAnswer::Met(p) => {
+        k = match walk(links, names, c, k) {
+            Ok(end) => end,
+            Err(met) => {
                 wipe(n, links, names, ends);
-                return TraceAnswer::Stuck(p);
+                return Err(met);
             }
-        }
+        };
+        ends[j] = k as u32;
+        j += 1;
         c = seek(n, links, c + 1);
     }
     fill(links, n, 0);
-    TraceAnswer::Contours(j, k)
+    Ok(LayerCounts {
+        contours: j,
+        points: k,
+    })
 }

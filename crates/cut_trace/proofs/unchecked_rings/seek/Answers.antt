@@ -23,20 +23,15 @@ returns-then-links-d c = record {
   result = λ l. c.if-links-d.true;
 }
 
-pub overflow_add-d : goal.overflow_add-d
-overflow_add-d c =
-    omega (arith, c.loop-d-test.true, c.requires.few)
-
-pub loop-d-smaller : goal.loop-d-smaller
-loop-d-smaller c = omega (arith, c.loop-d-test.true)
-
 pub loop-d-preserved : goal.loop-d-preserved
 loop-d-preserved c =
     sought_more c.loop-d.invariant (c.loop-d.d + 1) (omega arith) (omega (arith, c.loop-d-test.true))
     (one_none c.args.links.now c.loop-d.d c.if-links-d.false)
 
 pub returns : goal.returns
-returns c = record {
-  sought = c.loop-d.invariant;
-  result = λ l. absurd (omega (arith, l, c.loop-d-test.false));
-}
+returns c =
+    let s = c.loop-d.invariant in
+    record {
+      sought = sought_more s c.args.n s.upto (omega arith) (λ i a b. absurd (omega (arith, a, b, c.loop-d-test.false)));
+      result = λ l. absurd (omega (arith, l));
+    }

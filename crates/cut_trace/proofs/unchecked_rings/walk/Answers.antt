@@ -1,9 +1,9 @@
 -- `unchecked_rings::walk` meets its contract.
-use mathlib.Core.Path.{ap, ◌∙◌}
+use mathlib.Core.Path.{refl, ap, ◌∙◌}
 use native.Mathlib.Omega.{arith}
 use lib.ListN.{length-set}
+use Rattle.std.specs.Prelude.{Ok}
 use Rattle.section.specs.Section.{no_corner}
-use Rattle.cut_trace.specs.declared.WalkAnswer.TheVariants.{Closed}
 use Rattle.cut_trace.proofs.RingWalking.{walking_start, names_length, links_length, c_inside, c_small, k_inside, d_inside, d_small}
 use Rattle.cut_trace.proofs.RingWalking.{walking_next, walking_end, never_met}
 use Rattle.cut_trace.proofs.unchecked_rings.walk.Goals as goal
@@ -17,8 +17,8 @@ offset_bounds-links-c c = omega (arith, c_small c.loop-start.invariant)
 pub bounds-links-c : goal.bounds-links-c
 bounds-links-c c = c_inside c.loop-start.invariant
 
-pub overflow_cast-e : goal.overflow_cast-e
-overflow_cast-e c = omega (arith, c_small c.loop-start.invariant)
+pub overflow_cast-names : goal.overflow_cast-names
+overflow_cast-names c = omega (arith, c_small c.loop-start.invariant)
 
 pub offset_bounds-names-k : goal.offset_bounds-names-k
 offset_bounds-names-k c = let l = k_inside c.loop-start.invariant in omega arith
@@ -43,14 +43,14 @@ shape_of-names-then-d-start c = let l = c.loop-start in length-set l.names l.k l
 
 pub returns-then-d-start : goal.returns-then-d-start
 returns-then-d-start c =
-    let e = walking_end c.loop-start.invariant c.wide-d.ensures.value c.if-d-start.true in
-    record { value = ap Closed e.0; names_left = e.1.0; links_left = e.1.1 }
+    let e = walking_end c.loop-start.invariant refl c.if-d-start.true in
+    record { value = ap Ok e.0; names_left = e.1.0; links_left = e.1.1 }
 
 pub offset_bounds-links-d : goal.offset_bounds-links-d
-offset_bounds-links-d c = omega (arith, d_small c.loop-start.invariant c.wide-d.ensures.value)
+offset_bounds-links-d c = omega (arith, d_small c.loop-start.invariant refl)
 
 pub bounds-links-d : goal.bounds-links-d
-bounds-links-d c = d_inside c.loop-start.invariant c.wide-d.ensures.value
+bounds-links-d c = d_inside c.loop-start.invariant refl
 
 pub shape_of-links-then-links-d : goal.shape_of-links-then-links-d
 shape_of-links-then-links-d c =
@@ -64,7 +64,7 @@ shape_of-names-then-links-d c =
 
 pub returns-then-links-d : goal.returns-then-links-d
 returns-then-links-d c =
-    absurd (never_met (walking_next c.loop-start.invariant c.wide-d.ensures.value c.if-d-start.false) c.if-links-d.true)
+    absurd (never_met (walking_next c.loop-start.invariant refl c.if-d-start.false) c.if-links-d.true)
 
 pub loop-start-smaller : goal.loop-start-smaller
 loop-start-smaller c =
@@ -72,4 +72,4 @@ loop-start-smaller c =
 
 pub loop-start-preserved : goal.loop-start-preserved
 loop-start-preserved c =
-    walking_next c.loop-start.invariant c.wide-d.ensures.value c.if-d-start.false
+    walking_next c.loop-start.invariant refl c.if-d-start.false
