@@ -1,7 +1,7 @@
--- Points whose numbers were loaded, and what `equal_points` and `is_either` answer.
+-- Points whose numbers were loaded, and what `equal_points` answers.
 use Prim.Native.Nat.{ℕ, ◌<◌, ◌^◌}
-use mathlib.Core.Path.{◌≡◌, sym, ap, ◌∙◌}
-use mathlib.Core.Bool.{Bool, true, false, ◌||◌}
+use mathlib.Core.Path.{◌≡◌, ◌∙◌}
+use mathlib.Core.Bool.{Bool}
 use lib.Signed.{mag}
 use mir.Syntax.{w32}
 use mir.Val.{of_z, to_z}
@@ -23,10 +23,3 @@ module _ {p : Point} (fx : mag p.x < 2 ^ 31) (fy : mag p.y < 2 ^ 31) where
 
 pub same_held : {b : Bool} {p q p' q' : Point} → b ≡ same_point p q → p ≡ p' → q ≡ q' → b ≡ same_point p' q'
 same_held e f g = e ∙ (λ i. same_point (f i) (g i))
-
-module _ (s t : Bool) {a : Bool} (e : a ≡ s) where
-  pub either_first : a ≡ true → true ≡ (s || t)
-  either_first h = ap (λ (b : Bool). b || t) (sym h ∙ e)
-
-  pub either_second : {b : Bool} → a ≡ false → b ≡ t → b ≡ (s || t)
-  either_second h f = f ∙ ap (λ (b : Bool). b || t) (sym h ∙ e)

@@ -26,10 +26,7 @@ fn is_either(points: &[i32], a: usize, b: usize, i: usize) -> bool
     requires { Has points.now a × Has points.now b × Has points.now i }
     ensures value { result ≡ is_either points.now a b i }
 {
-    if equal_points(points, a, i) {
-        return true;
-    }
-    equal_points(points, b, i)
+    equal_points(points, a, i) || equal_points(points, b, i)
 }
 
 // The first point from `from` on that is neither point a nor point b, or the end.
@@ -38,14 +35,12 @@ fn first_other(points: &[i32], from: usize, end: usize, a: usize, b: usize) -> u
     requires fact_2 { (from ≤ end) × (a < end) × (b < end) }
     ensures found { Found points.now from end a b result }
 {
-    let mut i = from;
-    while i < end {
+    for i in from..end {
         if !is_either(points, a, b, i) {
             return i;
         }
-        i += 1;
     }
-    i
+    end
 }
 
 // Whether a contour is kept: it has three different points (CLEAN-3).
@@ -71,15 +66,12 @@ fn trimmed_end(points: &[i32], from: usize, end: usize) -> usize
     requires fact_2 { from < end }
     ensures found { Trimmed points.now from end result }
 {
-    let mut r = end;
-    while from + 1 < r {
-        let k = r - 1;
+    for k in (from + 1..end).rev() {
         if !equal_points(points, from, k) {
-            return r;
+            return k + 1;
         }
-        r = k;
     }
-    r
+    from + 1
 }
 
 // Where a contour ends once it is cleaned: `from` if it is dropped. What is left to drop are points that equal the one before.
@@ -116,12 +108,10 @@ fn copy_run(points: &[i32], from: usize, end: usize, table: &mut [i32], at: usiz
     let mut y = points[first + 1];
     write_point(table, at, x, y);
     let mut to = at + 1;
-    let mut i = from + 1;
-    while i < end {
+    for i in from + 1..end {
         let k = 2 * i;
         let u = points[k];
         let v = points[k + 1];
-        i += 1;
         if !same_point(x, y, u, v) {
             write_point(table, to, u, v);
             to += 1;
@@ -144,12 +134,10 @@ fn move_run(points: &mut [i32], from: usize, end: usize, at: usize) -> usize
     let mut y = points[first + 1];
     write_point(points, at, x, y);
     let mut to = at + 1;
-    let mut i = from + 1;
-    while i < end {
+    for i in from + 1..end {
         let k = 2 * i;
         let u = points[k];
         let v = points[k + 1];
-        i += 1;
         if !same_point(x, y, u, v) {
             write_point(points, to, u, v);
             to += 1;

@@ -1,4 +1,7 @@
 -- `unchecked::first_other` meets its contract. The loop's invariant: every point before i is one of the two.
+use mathlib.Core.Path.{◌≡◌, subst}
+use native.Mathlib.Omega.{arith}
+use Rattle.clean_contour.specs.Parts.{Found}
 use Rattle.clean_contour.proofs.Scanning.{seek_start, seek_end, seek_hit, seek_miss}
 use Rattle.clean_contour.proofs.unchecked.first_other.Goals as goal
 
@@ -17,4 +20,9 @@ loop-i-preserved c =
     c.is_either.ensures.value c.if-not-is_either.false
 
 pub returns : goal.returns
-returns c = record { found = seek_end c.requires.fact_1 c.loop-i.invariant c.loop-i-test.false }
+returns c =
+    let e : c.loop-i.i ≡ c.args.end = omega arith in
+    record {
+      found = subst (Found c.args.points.now c.args.from c.args.end c.args.a c.args.b) e
+          (seek_end c.requires.fact_1 c.loop-i.invariant c.loop-i-test.false);
+    }
