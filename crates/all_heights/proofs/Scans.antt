@@ -2,6 +2,8 @@
 use Prim.Native.Nat.{ℕ, zero, suc, ◌+◌, ◌-◌, ◌≤◌, ◌<◌}
 use mathlib.Core.Path.{◌≡◌, refl, sym, ap, ◌∙◌}
 use mathlib.Core.Bool.{Bool, true, false, not, cond}
+use Rattle.std.specs.Int.{int_min, int_max}
+use Rattle.std.proofs.lemmas.Int.{ints, clamps}
 use mathlib.Core.List.{List}
 use native.Mathlib.Omega.{arith}
 use native.Mathlib.Numerals.{add-one}
@@ -23,27 +25,19 @@ use Rattle.all_heights.specs.HeightLaws.{first_above, above_last}
 abbrev held : ℤ → ℤ
 held z = to_z w32 (of_z w32 z)
 
--- ---- the lower and the higher of two numbers
+-- ---- the lower and the higher of two numbers are the library's `min` and `max`
 
-module _ (a b : ℤ) (fa : SFits w32 a) (fb : SFits w32 b) where
-  compared : {t : Bool} → lt_z (held a) (held b) ≡ t → lt_z a b ≡ t
-  compared e = (λ i. lt_z (sym (to_z-of_z w32 a fa) i) (sym (to_z-of_z w32 b fb) i)) ∙ e
+pub lower_is_min : (a b : ℤ) → int_min a b ≡ lower a b
+unfolding lower
+lower_is_min a b = refl
 
-  pub lower_second : lt_z (held a) (held b) ≡ true → held a ≡ lower b a
-  unfolding lower
-  lower_second e = to_z-of_z w32 a fa ∙ ap (λ (t : Bool). cond t a b) (sym (compared e))
-
-  pub lower_first : lt_z (held a) (held b) ≡ false → held b ≡ lower b a
-  unfolding lower
-  lower_first e = to_z-of_z w32 b fb ∙ ap (λ (t : Bool). cond t a b) (sym (compared e))
-
-  pub higher_second : lt_z (held a) (held b) ≡ true → held b ≡ higher a b
-  unfolding higher
-  higher_second e = to_z-of_z w32 b fb ∙ ap (λ (t : Bool). cond t b a) (sym (compared e))
-
-  pub higher_first : lt_z (held a) (held b) ≡ false → held a ≡ higher a b
-  unfolding higher
-  higher_first e = to_z-of_z w32 a fa ∙ ap (λ (t : Bool). cond t b a) (sym (compared e))
+pub higher_is_max : (a b : ℤ) → int_max a b ≡ higher a b
+unfolding higher
+higher_is_max a b = by (lt_z a b) refl
+  where
+    by : (t : Bool) → lt_z a b ≡ t → int_max a b ≡ cond t b a
+    by true e = grind (arith, ints, clamps)
+    by false e = grind (arith, ints, clamps)
 
 -- ---- the pass over the vertices: low and high hold the lowest and the highest z of the first v
 

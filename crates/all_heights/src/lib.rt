@@ -11,7 +11,7 @@ ghost use Rattle.all_heights.specs.Heights.{lower, higher, lowest_z, highest_z, 
 
 use crate::unchecked::not_above_last;
 use file_formats::MOST_LAYERS;
-use mesh::{Refusal, Verdict};
+use mesh::Refusal;
 
 pub mod unchecked;
 
@@ -27,24 +27,6 @@ pub struct Span {
     pub high: i32,
 }
 
-fn lower(a: i32, b: i32) -> i32
-    ensures value { result ≡ lower a b }
-{
-    if b < a {
-        return b;
-    }
-    a
-}
-
-fn higher(a: i32, b: i32) -> i32
-    ensures value { result ≡ higher a b }
-{
-    if a < b {
-        return b;
-    }
-    a
-}
-
 // The lowest and the highest z of all vertices, 0 where there are none.
 pub fn z_span(coords: &[i32]) -> Span
     ensures result { (result.low ≡ lowest_z coords.now) × (result.high ≡ highest_z coords.now) }
@@ -55,13 +37,10 @@ pub fn z_span(coords: &[i32]) -> Span
     }
     let mut low = coords[2];
     let mut high = low;
-    let mut v: usize = 0;
-    while v < n {
-        let j = 3 * v + 2;
-        let z = coords[j];
-        low = lower(low, z);
-        high = higher(high, z);
-        v += 1;
+    for v in 0..n {
+        let z = coords[3 * v + 2];
+        low = low.min(z);
+        high = high.max(z);
     }
     Span { low, high }
 }
@@ -110,23 +89,21 @@ pub fn few_heights(coords: &[i32], heights: &[i32]) -> bool
 fn first_falling(heights: &[i32]) -> usize
     ensures value { result ≡ least (length heights.now) (not_above_last heights.now) }
 {
-    let mut i: usize = 0;
-    while i < heights.len() {
+    for i in 0..heights.len() {
         if not_above_last(heights, i) {
             return i;
         }
-        i += 1;
     }
-    i
+    heights.len()
 }
 
 // Refusal 12 of All layers (ALL-10).
-pub fn heights_test(heights: &[i32]) -> Verdict
+pub fn heights_test(heights: &[i32]) -> Result<(), Refusal>
     ensures told { tell_verdict result ≡ test (falling_height heights.now) }
 {
     let i = first_falling(heights);
     if i < heights.len() {
-        return Verdict::Refused(Refusal::Height(i));
+        return Err(Refusal::Height(i));
     }
-    Verdict::Fine
+    Ok(())
 }

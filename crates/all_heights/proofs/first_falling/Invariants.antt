@@ -7,6 +7,3 @@ use Rattle.all_heights.proofs.first_falling.Given as goal
 
 abbrev pub invariant-loop-i : goal.invariant-loop-i
 invariant-loop-i l = Scanned (length l.heights) (not_above_last l.heights) l.i
-
-abbrev pub decreases-loop-i : goal.decreases-loop-i
-decreases-loop-i l = length l.heights - l.i

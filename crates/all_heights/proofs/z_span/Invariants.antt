@@ -5,6 +5,3 @@ use Rattle.all_heights.proofs.z_span.Given as goal
 
 abbrev pub invariant-loop-v : goal.invariant-loop-v
 invariant-loop-v l = Spanned l.coords l.low l.high l.v
-
-abbrev pub decreases-loop-v : goal.decreases-loop-v
-decreases-loop-v l = l.n - l.v
