@@ -38,17 +38,14 @@ module _ {low : ℤ} {heights : List ℤ} {k : ℕ} (f : SFits w32 low) (t : Tak
       let l : nat_abs low ≤ 2 ^ 31 = nat_abs-le low f.sfits in
       omega (arith, abs_is (low +ℤ pos above), abs_is low, sum low (pos above))
 
-  pub above_fits : SFits w64 (pos above)
-  above_fits = record { sfits = omega (arith, above_small) }
-
   -- the locals, as the code makes them
-  abbrev pub low_held : Rd w64 low (2 ^ 31)
+  abbrev low_held : Rd w64 low (2 ^ 31)
   low_held = cast (fit f) tt
 
-  abbrev pub above_held : Rd w64 (pos above) (2 ^ 32)
+  abbrev above_held : Rd w64 (pos above) (2 ^ 32)
   above_held = record { n = above; is = to_z_pos w64 above (omega (arith, above_small)); le = above_small }
 
-  abbrev pub height_held : Rd w64 (low +ℤ pos above) (2 ^ 31 + 2 ^ 32)
+  abbrev height_held : Rd w64 (low +ℤ pos above) (2 ^ 31 + 2 ^ 32)
   height_held = add low_held above_held tt
 
   pub height_fits : SFits w32 (to_z w64 height_held.n)

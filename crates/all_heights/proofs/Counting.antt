@@ -1,62 +1,35 @@
 -- How the code counts the heights taken.
-use Prim.Native.Nat.{ℕ, ◌+◌, ◌-◌, ◌/◌, ◌^◌, ◌≤◌, ◌<◌}
-use mathlib.Core.Path.{◌≡◌, sym, ap, ◌∙◌, subst}
+use Prim.Native.Nat.{ℕ, ◌+◌, ◌-◌, ◌/◌, ◌<◌}
+use mathlib.Core.Path.{◌≡◌, sym, ap, ◌∙◌}
 use mathlib.Core.List.{List, [], ◌∷◌}
 use native.Mathlib.Omega.{arith}
-use lib.Dec.{T}
+use lib.Dec.{eqb}
+use mathlib.Core.Bool.{Bool, true, false}
+use Rattle.std.proofs.lemmas.Bool.{eqb-true, eqb-false}
 use lib.ListN.{length}
-use lib.IntN.{ℤ, pos, nat_abs, ◌-ℤ◌}
-use lib.Signed.{◌≤ℤ◌, non_neg}
-use mir.Syntax.{w32, w64}
-use mir.Val.{Fits, to_z}
-use Rattle.laws.specs.Integers.{diff, le_in, le_out}
-use Rattle.laws.specs.Machine.{Rd, fit, cast, sub, unsigned_ok}
+use lib.IntN.{ℤ, nat_abs, ◌-ℤ◌}
+use mir.Syntax.{w32}
+use mir.Val.{to_z, of_z}
+use Rattle.laws.specs.Machine.{same}
 use Rattle.mesh.specs.Corners.{vertex_count}
 use Rattle.file_formats.specs.Numbers.{Word}
 use Rattle.all_heights.specs.Heights.{first_offset, spacing, lowest_z, highest_z, default_count, heights_taken}
-use Rattle.all_heights.specs.HeightLaws.{lowest_highest, count_some, length_defaults, taken_default, taken_given}
+use Rattle.all_heights.specs.HeightLaws.{count_some, length_defaults, taken_default, taken_given}
 
--- a number of 32 bits, as the code holds it
-abbrev pub word_held : (z : ℤ) → Word z → Rd w32 z (2 ^ 31)
-word_held z f = fit {w = w32} {z = z} (record { sfits = f })
+-- the difference of what the pass over the vertices gave, as the code measures it
+pub count_is : (coords : List ℤ) {low high : ℤ} {d : ℕ} → 0 < vertex_count coords → Word low → Word high → low ≡ lowest_z coords → high ≡ highest_z coords
+    → d ≡ nat_abs (to_z w32 (of_z w32 high) -ℤ to_z w32 (of_z w32 low)) → (d + (spacing - first_offset)) / spacing ≡ default_count coords
+count_is coords {low} {high} some f g l h e =
+    ap (λ (n : ℕ). (n + (spacing - first_offset)) / spacing)
+    (e ∙ (λ i. nat_abs (same w32 high g i -ℤ same w32 low f i)) ∙ (λ i. nat_abs (h i -ℤ l i)))
+    ∙ sym (count_some coords some)
 
--- low and high are what the pass over the vertices gave
-pub record SpanFound (coords : List ℤ) (low high : ℤ) : Type 0 where
-  pub some : 0 < vertex_count coords
-  pub low_fits : Word low
-  pub high_fits : Word high
-  pub low_is : low ≡ lowest_z coords
-  pub high_is : high ≡ highest_z coords
+-- whether heights are given, as the code asks it
+pub none_given : {n : ℕ} {t : Bool} → t ≡ eqb n 0 → t ≡ true → n ≡ 0
+none_given {n} e h = eqb-true n 0 (sym e ∙ h)
 
-module _ {coords : List ℤ} {low high : ℤ} (f : SpanFound coords low high) where
-  abbrev pub low_held : Rd w64 low (2 ^ 31)
-  low_held = cast (word_held low f.low_fits) tt
-
-  abbrev pub high_held : Rd w64 high (2 ^ 31)
-  high_held = cast (word_held high f.high_fits) tt
-
-  abbrev rise_held : Rd w64 (high -ℤ low) (2 ^ 31 + 2 ^ 31)
-  rise_held = sub high_held low_held tt
-
-  not_negative : pos 0 ≤ℤ (high -ℤ low)
-  not_negative =
-      let l : low ≤ℤ high = rw (f.low_is, f.high_is) (lowest_highest coords f.some) in
-      omega (arith, le_out, diff high low, le_in l)
-
-  -- the difference, as the code holds it
-  abbrev pub rise : ℕ
-  rise = nat_abs (to_z w64 rise_held.n)
-
-  pub rise_ok : T (non_neg (to_z w64 rise_held.n)) × Fits w64 rise
-  rise_ok = unsigned_ok rise_held not_negative tt
-
-  pub rise_small : rise ≤ 2 ^ 32
-  rise_small = subst (λ (z : ℤ). nat_abs z ≤ 2 ^ 32) (sym rise_held.is) rise_held.le
-
-  pub count_is : (rise + (spacing - first_offset)) / spacing ≡ default_count coords
-  count_is =
-      ap (λ (z : ℤ). (nat_abs z + (spacing - first_offset)) / spacing) (rise_held.is ∙ (λ i. f.high_is i -ℤ f.low_is i))
-      ∙ sym (count_some coords f.some)
+pub some_given : {n : ℕ} {t : Bool} → t ≡ eqb n 0 → t ≡ false → 0 < n
+some_given {n} e h = let ne : n ≡ 0 → ⊥ = eqb-false n 0 (sym e ∙ h) in omega arith
 
 module _ (coords heights : List ℤ) where
   pub count_given : 0 < length heights → length heights ≡ length (heights_taken coords heights)

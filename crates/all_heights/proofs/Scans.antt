@@ -7,12 +7,12 @@ use Rattle.std.proofs.lemmas.Int.{ints, clamps}
 use mathlib.Core.List.{List}
 use native.Mathlib.Omega.{arith}
 use native.Mathlib.Numerals.{add-one}
+use lib.Dec.{ltb}
 use lib.ListN.{get_or, get_or-eq_default}
 use lib.IntN.{ℤ, pos}
 use lib.Signed.{lt_z, le_z}
 use mir.Syntax.{w32}
-use mir.Val.{SFits, to_z, of_z}
-use mir.ValLaws.{to_z-of_z}
+use mir.Val.{to_z, of_z}
 use Rattle.laws.specs.Booleans.{not_not}
 use Rattle.laws.specs.Integers.{lt_not_le}
 use Rattle.laws.specs.Machine.{same}
@@ -80,12 +80,13 @@ module _ (coords : List ℤ) where
 -- ---- a height and its forerunner
 
 module _ (hs : List ℤ) where
-  pub no_forerunner : (i : ℕ) → i ≡ 0 → false ≡ not_above_last hs i
-  no_forerunner i e = sym (ap (not_above_last hs) e ∙ first_above hs)
+  pub no_forerunner : (i : ℕ) → i ≤ 0 → ltb 0 i ≡ not_above_last hs i
+  no_forerunner zero h = sym (first_above hs)
+  no_forerunner (suc i) h = absurd (omega arith)
 
-  pub forerunner : (i : ℕ) → (i ≡ 0 → ⊥) → Word (get_or hs i (pos 0)) → Word (get_or hs (i - 1) (pos 0))
+  pub forerunner : (i : ℕ) → 0 < i → Word (get_or hs i (pos 0)) → Word (get_or hs (i - 1) (pos 0))
       → le_z (held (get_or hs i (pos 0))) (held (get_or hs (i - 1) (pos 0))) ≡ not_above_last hs i
-  forerunner zero h f g = absurd (h refl)
+  forerunner zero h f g = absurd (omega arith)
   forerunner (suc i) h f g =
       let a = get_or hs (suc i) (pos 0) in
       let b = get_or hs (suc i - 1) (pos 0) in

@@ -7,7 +7,7 @@ ghost use Rattle.mesh.specs.Operation.{test};
 ghost use Rattle.mesh.specs.Refusals.{tell_verdict};
 ghost use Rattle.file_formats.specs.LayerFile.{most_layers};
 ghost use Rattle.all_heights.specs.Taking.{base_z};
-ghost use Rattle.all_heights.specs.Heights.{lower, higher, lowest_z, highest_z, default_count, heights_taken, not_above_last, falling_height};
+ghost use Rattle.all_heights.specs.Heights.{lowest_z, highest_z, default_count, heights_taken, not_above_last, falling_height};
 
 use crate::unchecked::not_above_last;
 use file_formats::MOST_LAYERS;
@@ -49,13 +49,14 @@ pub fn z_span(coords: &[i32]) -> Span
 pub fn base_z(coords: &[i32], heights: &[i32]) -> i32
     ensures value { result ≡ base_z coords.now heights.now }
 {
-    if 0 < heights.len() {
-        return 0;
+    if heights.is_empty() {
+        z_span(coords).low
+    } else {
+        0
     }
-    z_span(coords).low
 }
 
-// How many default heights there are. The difference may have 32 bits, so it is taken in 64.
+// How many default heights there are.
 fn default_count(coords: &[i32]) -> usize
     ensures value { result ≡ default_count coords.now }
 {
@@ -63,19 +64,18 @@ fn default_count(coords: &[i32]) -> usize
         return 0;
     }
     let s = z_span(coords);
-    let low = s.low as i64;
-    let high = s.high as i64;
-    let d = (high - low) as usize;
+    let d = s.high.abs_diff(s.low) as usize;
     (d + (SPACING - FIRST_OFFSET)) / SPACING
 }
 
 pub fn taken_count(coords: &[i32], heights: &[i32]) -> usize
     ensures value { result ≡ length (heights_taken coords.now heights.now) }
 {
-    if 0 < heights.len() {
-        return heights.len();
+    if heights.is_empty() {
+        default_count(coords)
+    } else {
+        heights.len()
     }
-    default_count(coords)
 }
 
 // Whether not too many heights are taken (ALL-8).

@@ -10,12 +10,11 @@ pub fn taken_height(low: i32, heights: &[i32], k: usize) -> i32
     requires { Takable low heights.now k }
     ensures value { result ≡ height_at low heights.now k }
 {
-    if 0 < heights.len() {
+    if !heights.is_empty() {
         return heights[k];
     }
     let above = (FIRST_OFFSET + SPACING * k) as i64;
-    let h = (low as i64) + above;
-    h as i32
+    (low as i64 + above) as i32
 }
 
 // Whether height i has a forerunner and is not above it.
@@ -23,9 +22,5 @@ pub fn not_above_last(heights: &[i32], i: usize) -> bool
     requires { i < length heights.now }
     ensures value { result ≡ not_above_last heights.now i }
 {
-    if i == 0 {
-        return false;
-    }
-    let j = i - 1;
-    heights[i] <= heights[j]
+    0 < i && heights[i] <= heights[i - 1]
 }

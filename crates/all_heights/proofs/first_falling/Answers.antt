@@ -1,8 +1,7 @@
 -- `first_falling` meets its contract. The invariant: nothing that fits was passed.
-use mathlib.Core.Path.{◌≡◌, sym, ◌∙◌}
-use lib.ListN.{length}
+use mathlib.Core.Path.{sym, ◌∙◌}
 use native.Mathlib.Omega.{arith}
-use Rattle.laws.specs.LeastLaws.{scan_start, scan_hit, scan_miss, scan_end}
+use Rattle.laws.specs.LeastLaws.{scan_start, scan_hit, scan_miss, scan_over}
 use Rattle.all_heights.proofs.first_falling.Goals as goal
 
 pub loop-i-init : goal.loop-i-init
@@ -15,4 +14,4 @@ pub loop-i-preserved : goal.loop-i-preserved
 loop-i-preserved c = scan_miss c.loop-i.invariant (omega arith) (sym c.not_above_last.ensures.value ∙ c.if-not_above_last.false)
 
 pub returns : goal.returns
-returns c = let e : length c.args.heights.now ≡ c.loop-i.i = omega arith in record { value = e ∙ scan_end c.loop-i.invariant (omega arith) }
+returns c = record { value = scan_over c.loop-i.invariant (omega arith) }

@@ -1,5 +1,4 @@
 -- `first_falling` meets its contract. The invariant: nothing that fits was passed.
-use Prim.Native.Nat.{◌-◌}
 use lib.ListN.{length}
 use Rattle.laws.specs.LeastLaws.{Scanned}
 use Rattle.all_heights.specs.Heights.{not_above_last}

@@ -8,12 +8,12 @@ pub returns-then-n-eq0 : goal.returns-then-n-eq0
 returns-then-n-eq0 c = record { result = span_none c.args.coords.now c.if-n-eq0.true }
 
 pub loop-v-init : goal.loop-v-init
-loop-v-init c = span_start c.args.coords.now c.low-1.given
+loop-v-init c = span_start c.args.coords.now (omega arith)
 
 pub loop-v-preserved : goal.loop-v-preserved
 loop-v-preserved c =
     span_more c.args.coords.now c.loop-v.invariant c.min-low.result c.max-high.result (omega arith) c.min-low.type_inv c.max-high.type_inv
-        (c.min-low.ensures.value ∙ lower_is_min _ _) (c.max-high.ensures.value ∙ higher_is_max _ _) (omega arith)
+    (c.min-low.ensures.value ∙ lower_is_min _ _) (c.max-high.ensures.value ∙ higher_is_max _ _) (omega arith)
 
 pub returns : goal.returns
 returns c = record { result = span_end c.args.coords.now c.loop-v.invariant (omega arith) }

@@ -1,5 +1,4 @@
 -- The invariant: low and high are those of the vertices passed.
-use Prim.Native.Nat.{◌-◌}
 use Rattle.all_heights.proofs.Scans.{Spanned}
 use Rattle.all_heights.proofs.z_span.Given as goal
 
