@@ -1,12 +1,12 @@
 -- What Area promises: it refuses exactly if a listed condition holds, at the least place; its answer is at most 98,304 times the largest cross product; a run
 -- without points has area 0; points in range, and contours of such, are never refused.
-use Rattle.std.specs.Prelude.{ℕ, zero, suc, ◌+◌, ◌*◌, ◌/◌, ◌%◌, ◌≤◌, ◌<◌, ◌≡◌, refl, Bool, true, false, not, cond, List, [], ◌∷◌, ◌⊎◌, ◌↔◌, length, get_or, ℤ}
-use Rattle.std.specs.Prelude.{pos, nat_abs, ◌+ℤ◌, ◌-ℤ◌, ◌*ℤ◌}
-use Rattle.std.proofs.Common.{sym, ap, ◌∙◌, inl, inr, ⊎_elim, arith, mul-le-mul, mul-le-mul_right, le_trans, leb-true, eqb-true, le-ltb, le-leb, eq-eqb, ne_eqb}
+use Rattle.std.specs.Prelude.{ℕ, zero, suc, ◌+◌, ◌*◌, ◌/◌, ◌%◌, ◌≤◌, ◌<◌, ◌≡◌, refl, Bool, true, false, not, cond, List, [], ◌∷◌, ◌↔◌, length, get_or, ℤ}
+use Rattle.std.specs.Prelude.{pos, nat_abs, ◌+ℤ◌, Result, Ok, Err}
+use Rattle.std.proofs.Common.{sym, ap, ◌∙◌, ⊎_elim, arith, mul-le-mul_right, le_trans, leb-true, eqb-true, le-ltb, le-leb, eq-eqb, ne_eqb}
 use Rattle.std.proofs.lemmas.Bool.{not-false}
 use Rattle.std.proofs.Math.ListN.{get_or-eq_default}
 use Rattle.laws.specs.Booleans.{and_parts, and_of, split_lt}
-use Rattle.laws.specs.Integers.{abs_add, abs_sub, abs_mul}
+use Rattle.laws.specs.Integers.{abs_add}
 use Rattle.mesh.specs.Corners.{largest}
 use Rattle.mesh.specs.Operation.{gives, refuses}
 use Rattle.mesh.specs.OperationLaws.{First, None, more, done, fine_none, Recovers, given_verdict, refused_exactly, given_exactly, only_outcome}
@@ -15,8 +15,7 @@ use Rattle.mesh.specs.RefusalLaws.{refusal_of, refusal_once}
 use Rattle.mesh.specs.Tests.{out_of_range, range}
 use Rattle.mesh.specs.TestLaws.{in_range_lem}
 use Rattle.polygons.specs.AreaBoundLaws.{cross_le}
-use Rattle.contours.specs.declared.AreaAnswer.{AreaAnswer}
-use Rattle.contours.specs.declared.AreaAnswer.TheVariants.{Area, Refused}
+use Rattle.mesh.specs.declared.Refusal.{Refusal}
 use Rattle.contours.specs.Areas.{most_points, point_count, x_of, y_of, cross_of, next_point, sum_of, area_of}
 use Rattle.contours.specs.Areas.{run_fits, run_size, measuring, tell_area, Measures}
 use Rattle.contours.specs.Runs.{largest_cross, PointRun}
@@ -122,11 +121,11 @@ none_of = none_tested
 
 pub area_recovers : Recovers tell_area
 area_recovers = record {
-  back = elim [ gives a ↦ Area a | refuses r ↦ Refused (refusal_of r) ];
-  once = elim [ Area a ↦ refl | Refused r ↦ ap Refused (refusal_once r) ];
+  back = elim [ gives a ↦ Ok a | refuses r ↦ Err (refusal_of r) ];
+  once = elim [ Ok a ↦ refl | Err r ↦ ap Err (refusal_once r) ];
 }
 
-module _ {points : List ℤ} {result : AreaAnswer} (d : Measures points result) where
+module _ {points : List ℤ} {result : Result ℤ Refusal} (d : Measures points result) where
   -- refused exactly if a listed condition holds, the first that fits, at the least place; measured exactly if none does; and one answer only
   pub area_refused : (r : Told) → (tell_area result ≡ refuses r) ↔ First (measuring points).refusals r
   area_refused = refused_exactly d
@@ -134,7 +133,7 @@ module _ {points : List ℤ} {result : AreaAnswer} (d : Measures points result) 
   pub area_given : (tell_area result ≡ gives (area_of points)) ↔ None (measuring points).refusals
   area_given = given_exactly d
 
-  pub area_only : {other : AreaAnswer} → Measures points other → result ≡ other
+  pub area_only : {other : Result ℤ Refusal} → Measures points other → result ≡ other
   area_only e = (only_outcome area_recovers d e).0
 
   pub run_measured : PointRun points → tell_area result ≡ gives (area_of points)

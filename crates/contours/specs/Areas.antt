@@ -1,13 +1,12 @@
 -- Area (AREA-1 to AREA-4): the doubled signed area of a run of points (two
 -- numbers for each, x and y), its refusals in order, and what is answered.
-use Rattle.std.specs.Prelude.{ℕ, zero, suc, ◌+◌, ◌*◌, ◌/◌, not, cond, List, [], ◌∷◌, eqb, length, get_or, ℤ, pos, ◌+ℤ◌, ◌-ℤ◌, ◌*ℤ◌}
+use Rattle.std.specs.Prelude.{ℕ, zero, suc, ◌+◌, ◌*◌, ◌/◌, not, cond, List, [], ◌∷◌, eqb, length, get_or, ℤ, pos, ◌+ℤ◌, ◌-ℤ◌, ◌*ℤ◌, Result}
 pub use Rattle.polygons.specs.Flat.{most_points}
 unfoldable pub use Rattle.polygons.specs.Flat.{run_fits}
-use Rattle.mesh.specs.Operation.{Answer, gives, refuses, Condition, whole, Operation, Does}
-use Rattle.mesh.specs.Refusals.{Told, refusal, told_of}
+use Rattle.mesh.specs.Operation.{Answer, Condition, whole, Operation, Does}
+use Rattle.mesh.specs.Refusals.{Told, refusal, tell}
 use Rattle.mesh.specs.Tests.{range}
-use Rattle.contours.specs.declared.AreaAnswer.{AreaAnswer}
-use Rattle.contours.specs.declared.AreaAnswer.TheVariants.{Area, Refused}
+use Rattle.mesh.specs.declared.Refusal.{Refusal}
 
 -- ---- the area: twice the signed area by the shoelace formula (AREA-1)
 
@@ -53,10 +52,9 @@ abbrev pub measuring : List ℤ → Operation Told ℤ Unit
 measuring points = record { refusals = run_size points ∷ range points ∷ []; values = area_of points; leaves = λ v. tt }
 
 -- what its answer says
-abbrev pub tell_area : AreaAnswer → Answer Told ℤ
-tell_area (Area a) = gives a
-tell_area (Refused r) = refuses (told_of r)
+abbrev pub tell_area : Result ℤ Refusal → Answer Told ℤ
+tell_area = tell (λ a. a)
 
 -- the contract of Area
-abbrev pub Measures : List ℤ → AreaAnswer → Type 0
+abbrev pub Measures : List ℤ → Result ℤ Refusal → Type 0
 Measures points result = Does measuring tell_area points result tt

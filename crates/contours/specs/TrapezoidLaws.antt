@@ -2,7 +2,7 @@
 -- and x × y − x' × y', and these differences cancel round a closed run. So one product for each point will do.
 use Prim.Native.Nat.{ℕ, zero, suc, ◌+◌, ◌*◌, ◌≤◌}
 use Rattle.std.specs.Prelude.{◌≡◌, List, [], ◌∷◌, ℤ, pos, nat_abs, ◌+ℤ◌, ◌-ℤ◌, ◌*ℤ◌}
-use Rattle.std.proofs.Common.{sym, ◌∙◌, add-one, arith, mul-le-mul}
+use Rattle.std.proofs.Common.{◌∙◌, add-one, arith, mul-le-mul}
 use Rattle.std.proofs.Math.Path.{ap}
 use Rattle.laws.specs.Integers.{abs_add, abs_sub, abs_mul}
 use Rattle.laws.specs.Ring.{x, #, ◌⊕◌, ◌⊖◌, ◌⊗◌, ring}

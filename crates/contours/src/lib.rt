@@ -8,26 +8,18 @@ ghost use Rattle.contours.specs.Areas.{run_size, measuring, Measures};
 ghost use Rattle.contours.specs.Contours.{first_of, span_of, contour_of};
 
 use crate::unchecked::doubled_area;
-use mesh::numbers::wide;
+use mesh::Refusal;
 use mesh::tests::range_test;
-use mesh::{Refusal, Verdict};
 use polygons::run_fits;
 use polygons::unchecked::prior_end;
 
 pub mod unchecked;
 
 // Where a contour lies in a table of points: the position of its first number, 0 where it has none, and how many it has.
-#[derive(Drop)]
+#[derive(Clone, Copy, Debug, PartialEq, Eq)]
 pub struct ContourPart {
     pub first: usize,
     pub length: usize,
-}
-
-// What Area answers: the doubled signed area, or why there is none.
-#[derive(Drop)]
-pub enum AreaAnswer {
-    Area(i64),
-    Refused(Refusal),
 }
 
 // Where contour j lies in a table of so many numbers.
@@ -35,30 +27,19 @@ pub fn contour_part(numbers: usize, ends: &[u32], j: usize) -> ContourPart
     ensures result { (result.first ≡ first_of numbers ends.now j)
         × (result.length ≡ span_of numbers ends.now j) }
 {
-    if ends.len() <= j {
-        return ContourPart {
-            first: 0,
-            length: 0,
-        };
-    }
-    let start = prior_end(ends, j);
-    let end = wide(ends[j]);
-    if end <= start {
-        return ContourPart {
-            first: 0,
-            length: 0,
-        };
-    }
-    let count = end - start;
-    if numbers < 2 * end {
-        return ContourPart {
-            first: 0,
-            length: 0,
-        };
+    if j < ends.len() {
+        let start = prior_end(ends, j);
+        let end = ends[j] as usize;
+        if start < end && 2 * end <= numbers {
+            return ContourPart {
+                first: 2 * start,
+                length: 2 * (end - start),
+            };
+        }
     }
     ContourPart {
-        first: 2 * start,
-        length: 2 * count,
+        first: 0,
+        length: 0,
     }
 }
 
@@ -73,33 +54,27 @@ pub fn contour<'a>(points: &'a [i32], ends: &[u32], j: usize) -> &'a [i32]
 }
 
 // Refusal 1 (AREA-3).
-fn run_test(points: &[i32]) -> Verdict
+fn run_test(points: &[i32]) -> Result<(), Refusal>
     ensures told { tell_verdict result ≡ test (run_size points.now) }
 {
     if run_fits(points.len()) {
-        return Verdict::Fine;
+        return Ok(());
     }
-    Verdict::Refused(Refusal::Size(0))
+    Err(Refusal::Size(0))
 }
 
 // Refusals 1 and 2 (AREA-2).
-fn points_test(points: &[i32]) -> Verdict
+fn points_test(points: &[i32]) -> Result<(), Refusal>
     ensures told { tell_verdict result ≡ verdict (measuring points.now).refusals }
 {
-    let a = run_test(points);
-    if let Verdict::Refused(_) = a {
-        return a;
-    }
+    run_test(points)?;
     range_test(points)
 }
 
-// The doubled signed area of a run of points, closed round (AREA-1 to AREA-4).
-pub fn area(points: &[i32]) -> AreaAnswer
+// The doubled signed area of a run of points, closed round, or why there is none (AREA-1 to AREA-4).
+pub fn area(points: &[i32]) -> Result<i64, Refusal>
     ensures outcome { Measures points.now result }
 {
-    let a = points_test(points);
-    if let Verdict::Refused(r) = a {
-        return AreaAnswer::Refused(r);
-    }
-    AreaAnswer::Area(doubled_area(points))
+    points_test(points)?;
+    Ok(doubled_area(points))
 }

@@ -10,22 +10,17 @@ pub fn doubled_area(points: &[i32]) -> i64
     requires { PointRun points.now }
     ensures value { result ≡ area_of points.now }
 {
-    if points.len() == 0 {
+    if points.is_empty() {
         return 0;
     }
-    let last = points.len() / 2 - 1;
     let x0 = points[0] as i64;
     let y0 = points[1] as i64;
     let mut x = x0;
     let mut y = y0;
     let mut sum: i64 = 0;
-    let mut k: usize = 0;
-    while k < last {
-        k += 1;
-        let i = 2 * k;
-        let j = i + 1;
-        let u = points[i] as i64;
-        let v = points[j] as i64;
+    for k in 1..points.len() / 2 {
+        let u = points[2 * k] as i64;
+        let v = points[2 * k + 1] as i64;
         sum += trapezoid(x, y, u, v);
         x = u;
         y = v;

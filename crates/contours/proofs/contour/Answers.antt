@@ -4,7 +4,6 @@ use native.Mathlib.Omega.{arith}
 use lib.ListN.{length}
 use Rattle.contours.proofs.ContourLaws.{span_fits}
 use Rattle.contours.proofs.Parts.{part_is}
-use borrow.Author.Rules.{rules}
 use Rattle.contours.proofs.contour.Goals as goal
 use Rattle.contours.proofs.contour.Goals.{After-contour_part-part}
 

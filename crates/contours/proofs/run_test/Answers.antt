@@ -3,7 +3,6 @@ use mathlib.Core.Path.{sym, ap, ◌∙◌}
 use mathlib.Core.Bool.{not}
 use Rattle.mesh.specs.OperationLaws.{whole_refused, whole_fine}
 use Rattle.mesh.specs.Refusals.{refusal}
-use borrow.Author.Rules.{rules}
 use Rattle.contours.proofs.run_test.Goals as goal
 
 pub returns-then-run_fits : goal.returns-then-run_fits

@@ -1,30 +1,19 @@
 -- `unchecked::doubled_area` meets its contract.
-use Prim.Native.Nat.{◌+◌, ◌-◌}
-use native.Mathlib.Omega.{arith}
 use borrow.Author.Rules.{rules}
-use Rattle.contours.proofs.Sums.{TrapezoidsSummed, area_empty, widened, loaded, start, held_x, held_y, sum_ok, again, closed}
+use Rattle.contours.proofs.Sums.{area_empty, widened, loaded, start, held_x, held_y, sum_ok, again, closed}
 use Rattle.contours.proofs.unchecked.doubled_area.Goals as goal
 
-pub returns-then-points-eq0 : goal.returns-then-points-eq0
-returns-then-points-eq0 c = record { value = area_empty _ c.if-points-eq0.true }
-
-pub overflow_sub-last : goal.overflow_sub-last
-overflow_sub-last c = omega (arith, c.requires.even)
-
-pub bounds-points-0 : goal.bounds-points-0
-bounds-points-0 c = omega (arith, c.requires.even)
+pub returns-then-is_empty : goal.returns-then-is_empty
+returns-then-is_empty c = record { value = area_empty _ c.is_empty.ensures c.if-is_empty.true }
 
 pub overflow_cast-x0 : goal.overflow_cast-x0
 overflow_cast-x0 c = widened c.requires 0
-
-pub bounds-points-1 : goal.bounds-points-1
-bounds-points-1 c = omega (arith, c.requires.even)
 
 pub overflow_cast-y0 : goal.overflow_cast-y0
 overflow_cast-y0 c = widened c.requires 1
 
 pub loop-k-init : goal.loop-k-init
-loop-k-init c = start c.requires (omega (arith, c.requires.even))
+loop-k-init c = start c.requires c.is_empty.ensures c.if-is_empty.false
 
 pub overflow_cast-u : goal.overflow_cast-u
 overflow_cast-u c = widened c.loop-k.invariant.run _
@@ -36,7 +25,7 @@ pub trapezoid-sum-requires : goal.trapezoid-sum-requires
 trapezoid-sum-requires c =
     let at-loop = c.loop-k in
     let s = at-loop.invariant in
-    let next = loaded s.run (at-loop.k + 1) in
+    let next = loaded s.run at-loop.k in
     search (rules, held_x s.run s.held, held_y s.run s.held, held_x s.run next, held_y s.run next)
 
 pub overflow_add-sum : goal.overflow_add-sum
@@ -46,7 +35,7 @@ pub loop-k-preserved : goal.loop-k-preserved
 loop-k-preserved c =
     let s = c.loop-k.invariant in
     let z = c.trapezoid-sum in
-    again c.loop-k.sum-bits s z.result z.type_inv z.ensures.result.1 (loaded s.run (c.loop-k.k + 1)) z.ensures.result.0 c.loop-k-test.true
+    again c.loop-k.sum-bits s z.result z.type_inv z.ensures.result.1 (loaded s.run c.loop-k.k) z.ensures.result.0 c.loop-k-test.true
 
 pub trapezoid-requires : goal.trapezoid-requires
 trapezoid-requires c =
