@@ -90,10 +90,7 @@ fill_start {source} {list} {points} {ends} r p e =
 
 module _ {source : List ℤ} {list : List ℕ} {points₀ : List ℤ} {ends₀ : List ℕ} {points : List ℤ} {ends : List ℕ} {from at count j : ℕ}
     (s : Filling source list points₀ ends₀ points ends from at count j) where
-  -- the tables keep their lengths
-  pub fill_points : length points ≡ length points₀
-  fill_points = s.points_emit.size
-
+  -- the second table keeps its length
   pub fill_ends : length ends ≡ length ends₀
   fill_ends = s.ends_emit.size
 

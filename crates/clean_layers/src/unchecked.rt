@@ -5,10 +5,9 @@ ghost use Rattle.polygons.specs.Flat.{flat, polygons_of};
 ghost use Rattle.cleaning.specs.Cleaning.{cleaned};
 ghost use Rattle.clean_layers.specs.Layers.{Fills, CleanTables, LeftIn};
 
-use crate::LayerCounts;
 use clean_contour::unchecked::{copy_contour, move_contour};
 use cleaning::Profile;
-use mesh::numbers::wide;
+use polygons::LayerCounts;
 
 // Cleans a layer, contour by contour in order, into two other tables (CLEAN-4).
 pub fn copy_layer(
@@ -25,10 +24,8 @@ pub fn copy_layer(
     let mut from: usize = 0;
     let mut at: usize = 0;
     let mut kept: usize = 0;
-    let mut j: usize = 0;
-    while j < ends.len() {
-        let end = wide(ends[j]);
-        j += 1;
+    for &end in ends {
+        let end = end as usize;
         let next = copy_contour(points, from, end, cleanpoints, at);
         from = end;
         if at < next {
@@ -54,10 +51,8 @@ fn move_layer(points: &mut [i32], ends: &mut [u32], contours: usize) -> LayerCou
     let mut from: usize = 0;
     let mut at: usize = 0;
     let mut kept: usize = 0;
-    let mut j: usize = 0;
-    while j < contours {
-        let end = wide(ends[j]);
-        j += 1;
+    for j in 0..contours {
+        let end = ends[j] as usize;
         let next = move_contour(points, from, end, at);
         from = end;
         if at < next {

@@ -1,45 +1,41 @@
 -- `unchecked::copy_layer` meets its contract.
+use mathlib.Core.Path.{refl}
 use native.Mathlib.Omega.{arith}
-use Prim.Native.Nat.{◌<◌, ◌^◌}
-use Rattle.clean_layers.proofs.Filling.{fill_start, fill_points, fill_ends, fill_up, fill_room, fill_next, fill_dropped, fill_kept, fill_all}
+use Rattle.clean_layers.proofs.Filling.{fill_start, fill_up, fill_room, fill_next, fill_dropped, fill_kept, fill_all}
 use Rattle.clean_layers.proofs.unchecked.copy_layer.Goals as goal
+use Rattle.clean_layers.proofs.unchecked.copy_layer.Goals.{then-at-next, else-at-next}
 
-pub loop-j-init : goal.loop-j-init
-loop-j-init c = let pre = c.requires in fill_start pre.rise pre.points_room pre.ends_room
+pub loop-end-init : goal.loop-end-init
+loop-end-init c = let pre = c.requires in fill_start pre.rise pre.points_room pre.ends_room
 
 pub copy_contour-next-requires : goal.copy_contour-next-requires
 copy_contour-next-requires c =
-    let loop = c.loop-j in record {
-      fact_1 = fill_room loop.invariant c.loop-j-test.true c.wide-end.ensures.value;
-      fact_2 = fill_up loop.invariant c.loop-j-test.true c.wide-end.ensures.value;
+    let loop = c.loop-end in record {
+      fact_1 = fill_room loop.invariant c.loop-end-test.true refl;
+      fact_2 = fill_up loop.invariant c.loop-end-test.true refl;
     }
 
 pub overflow_cast-cleanends : goal.overflow_cast-cleanends
 overflow_cast-cleanends c =
-    let loop = c.loop-j in
-    let small : c.wide-end.result < 2 ^ 32 = omega (arith, c.wide-end.ensures.value, c.type_inv.ends loop.j) in
-    omega (arith, fill_next loop.invariant c.loop-j-test.true c.wide-end.ensures.value c.copy_contour-next.ensures.outcome, small)
+    let loop = c.loop-end in
+    omega (arith, fill_next loop.invariant c.loop-end-test.true refl c.copy_contour-next.ensures.outcome, c.type_inv.ends loop.end-index)
 
 pub bounds-cleanends-kept : goal.bounds-cleanends-kept
 bounds-cleanends-kept c =
-    let loop = c.loop-j in
-    omega (arith, c.loop-j-test.true, loop.invariant.few, loop.invariant.ends_room)
+    let loop = c.loop-end in
+    omega (arith, c.loop-end-test.true, loop.invariant.few, loop.invariant.ends_room)
 
-pub loop-j-preserved-then-at-next : goal.loop-j-preserved-then-at-next
-loop-j-preserved-then-at-next c =
-    let loop = c.loop-j in
-    fill_kept loop.invariant c.loop-j-test.true c.wide-end.ensures.value c.copy_contour-next.ensures.outcome c.if-at-next.true
-
-pub loop-j-preserved : goal.loop-j-preserved
-loop-j-preserved c =
-    let loop = c.loop-j in
-    fill_dropped loop.invariant c.loop-j-test.true c.wide-end.ensures.value c.copy_contour-next.ensures.outcome c.if-at-next.false
-
-pub shape_of-cleanpoints : goal.shape_of-cleanpoints
-shape_of-cleanpoints c = fill_points c.loop-j.invariant
-
-pub shape_of-cleanends : goal.shape_of-cleanends
-shape_of-cleanends c = fill_ends c.loop-j.invariant
+pub loop-end-preserved : goal.loop-end-preserved
+loop-end-preserved c =
+    let loop = c.loop-end in
+    elim c.if-at-next.branch [
+      | then-at-next w ↦
+          rw (w.cleanends-is, w.at-is, w.kept-is)
+          (fill_kept loop.invariant c.loop-end-test.true refl c.copy_contour-next.ensures.outcome w.if-at-next.true)
+      | else-at-next w ↦
+          rw (w.cleanends-is, w.at-is, w.kept-is)
+          (fill_dropped loop.invariant c.loop-end-test.true refl c.copy_contour-next.ensures.outcome w.if-at-next.false)
+    ]
 
 pub returns : goal.returns
-returns c = record { outcome = fill_all c.loop-j.invariant c.loop-j-test.false }
+returns c = record { outcome = fill_all c.loop-end.invariant c.loop-end-test.false }
