@@ -1,6 +1,6 @@
 -- What Clean promises: it refuses exactly if a listed condition holds, at its place; its outcome is the only one; a refusal writes
 -- nothing; else the first entries hold the cleaned layer, which is a layer again, is clean, and has the same area in all.
-use Rattle.std.specs.Prelude.{ℕ, ◌+◌, ◌*◌, ◌≤◌, ◌≡◌, refl, true, List, [], ◌∷◌, ◌↔◌, leb, length}
+use Rattle.std.specs.Prelude.{ℕ, ◌+◌, ◌*◌, ◌≤◌, ◌≡◌, refl, true, List, [], ◌∷◌, ◌↔◌, leb, length, Result, Ok, Err}
 use Rattle.std.proofs.Common.{sym, ap, ◌∙◌, subst, arith}
 use Rattle.laws.specs.Booleans.{and_parts}
 use Rattle.mesh.specs.Operation.{gives, refuses, fine, verdict, unless_refused}
@@ -8,8 +8,10 @@ use Rattle.mesh.specs.OperationLaws.{First, None, join_fine, Recovers, given_ver
 use Rattle.mesh.specs.OperationLaws.{left_given, left_refused, only_outcome}
 use Rattle.mesh.specs.Refusals.{Told}
 use Rattle.mesh.specs.RefusalLaws.{refusal_of, refusal_once}
+use Rattle.mesh.specs.declared.Refusal.{Refusal}
 use Rattle.polygons.specs.Flat.{PointNear, fewest_points, point_total, FlatLayer, flat_of, ends_rise, last_end, end_before, polygons_of}
 use Rattle.polygons.specs.Flat.{layer_tests}
+use Rattle.polygons.specs.declared.LayerCounts.{LayerCounts}
 use Rattle.polygons.proofs.FlatLaws.{LayerTested, layer_tested, tested_fine, tested_near, near_tested, end_rises, polygons_flat}
 use Rattle.polygons.proofs.FlatLaws.{layer_polygons}
 use Rattle.polygons.proofs.FlatLaws.{front_holding}
@@ -20,8 +22,6 @@ use Rattle.cleaning.proofs.SizeLaws.{each_cleaned, cleaned_polygons}
 use Rattle.polygons.specs.ContourAreas.{layer_area}
 use Rattle.cleaning.proofs.AreaLaws.{area_cleaned}
 use Rattle.clean_layers.specs.Layers.{CleanTables, layer_front}
-use Rattle.clean.specs.declared.CleanAnswer.{CleanAnswer}
-use Rattle.clean.specs.declared.CleanAnswer.TheVariants.{Layer, Refused}
 use Rattle.clean.specs.Clean.{cleaning_tests, cleaned_of, tell_clean, Cleans}
 
 -- ---- what is not refused
@@ -43,8 +43,8 @@ tested_tables t u h p e =
 
 pub clean_recovers : Recovers tell_clean
 clean_recovers = record {
-  back = elim [ gives v ↦ Layer v.0 v.1 | refuses r ↦ Refused (refusal_of r) ];
-  once = elim [ Layer k n ↦ refl | Refused r ↦ ap Refused (refusal_once r) ];
+  back = elim [ gives v ↦ Ok (record { contours = v.0; points = v.1 }) | refuses r ↦ Err (refusal_of r) ];
+  once = elim [ Ok counts ↦ refl | Err r ↦ ap Err (refusal_once r) ];
 }
 
 -- ---- what Clean leaves is a layer
@@ -57,7 +57,7 @@ cleaned_tested t h =
 
 -- ---- Clean
 
-module _ {t u : FlatLayer} {result : CleanAnswer} {u' : FlatLayer} (d : Cleans t u result u') where
+module _ {t u : FlatLayer} {result : Result LayerCounts Refusal} {u' : FlatLayer} (d : Cleans t u result u') where
   -- refused exactly if a listed condition holds, the first that fits; answered exactly if none does; and one outcome only
   pub clean_refused : (r : Told) → (tell_clean result ≡ refuses r) ↔ First (cleaning_tests t u) r
   clean_refused = refused_exactly d
@@ -65,7 +65,7 @@ module _ {t u : FlatLayer} {result : CleanAnswer} {u' : FlatLayer} (d : Cleans t
   pub clean_given : (tell_clean result ≡ gives (length (cleaned_of t), point_total (cleaned_of t))) ↔ None (cleaning_tests t u)
   clean_given = given_exactly d
 
-  pub clean_only : {other : CleanAnswer} {w : FlatLayer} → Cleans t u other w → (result ≡ other) × (u' ≡ w)
+  pub clean_only : {other : Result LayerCounts Refusal} {w : FlatLayer} → Cleans t u other w → (result ≡ other) × (u' ≡ w)
   clean_only = only_outcome clean_recovers d
 
   -- a refusal writes nothing
@@ -98,8 +98,9 @@ module _ {t u : FlatLayer} {result : CleanAnswer} {u' : FlatLayer} (d : Cleans t
     clean_area = ap layer_area clean_contours ∙ area_cleaned (polygons_of t)
 
 -- Clean of what Clean left gives the same again (CLEAN-11)
-pub clean_again : {t u : FlatLayer} {result : CleanAnswer} {u' : FlatLayer} {counts : ℕ × ℕ} → Cleans t u result u' → tell_clean result ≡ gives counts
-    → {w : FlatLayer} {other : CleanAnswer} {w' : FlatLayer} {again : ℕ × ℕ} → Cleans (layer_front counts u') w other w' → tell_clean other ≡ gives again
+pub clean_again : {t u : FlatLayer} {result : Result LayerCounts Refusal} {u' : FlatLayer} {counts : ℕ × ℕ} → Cleans t u result u'
+    → tell_clean result ≡ gives counts → {w : FlatLayer} {other : Result LayerCounts Refusal} {w' : FlatLayer} {again : ℕ × ℕ}
+    → Cleans (layer_front counts u') w other w' → tell_clean other ≡ gives again
     → (again ≡ counts) × (layer_front again w' ≡ layer_front counts u')
 clean_again {t} d e c f =
     let same = ap cleaned (clean_contours d e) ∙ cleaned_twice (polygons_of t) in (

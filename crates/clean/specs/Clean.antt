@@ -1,12 +1,12 @@
 -- Clean (CLEAN-6 to CLEAN-10): its refusals in order, what it answers, and what it leaves in the two lent tables.
-use Rattle.std.specs.Prelude.{ℕ, Bool, not, ◌&&◌, List, [], ◌∷◌, ◌++◌, leb, length}
-use Rattle.mesh.specs.Operation.{Answer, gives, refuses, Condition, whole, unless_refused, Operation, Does}
-use Rattle.mesh.specs.Refusals.{Told, refusal, told_of}
+use Rattle.std.specs.Prelude.{ℕ, Bool, not, ◌&&◌, List, [], ◌∷◌, ◌++◌, leb, length, Result}
+use Rattle.mesh.specs.Operation.{Answer, Condition, whole, unless_refused, Operation, Does}
+use Rattle.mesh.specs.Refusals.{Told, refusal, tell}
+use Rattle.mesh.specs.declared.Refusal.{Refusal}
 use Rattle.polygons.specs.Flat.{Point, point_total, FlatLayer, polygons_of, layer_tests}
+use Rattle.polygons.specs.declared.LayerCounts.{LayerCounts}
 use Rattle.cleaning.specs.Cleaning.{cleaned}
 use Rattle.clean_layers.specs.Layers.{holding}
-use Rattle.clean.specs.declared.CleanAnswer.{CleanAnswer}
-use Rattle.clean.specs.declared.CleanAnswer.TheVariants.{Layer, Refused}
 
 -- ---- 9: a table is shorter than that of the layer handed in, place 0
 
@@ -36,10 +36,9 @@ cleaning = λ (t, u). record {
 }
 
 -- what its answer says
-abbrev pub tell_clean : CleanAnswer → Answer Told (ℕ × ℕ)
-tell_clean (Layer contours points) = gives (contours, points)
-tell_clean (Refused r) = refuses (told_of r)
+abbrev pub tell_clean : Result LayerCounts Refusal → Answer Told (ℕ × ℕ)
+tell_clean = tell (λ counts. (counts.contours, counts.points))
 
 -- the contract of Clean
-abbrev pub Cleans : FlatLayer → FlatLayer → CleanAnswer → FlatLayer → Type 0
+abbrev pub Cleans : FlatLayer → FlatLayer → Result LayerCounts Refusal → FlatLayer → Type 0
 Cleans t u result u' = Does cleaning tell_clean (t, u) result u'
