@@ -14,7 +14,7 @@ use mir.ValLaws.{to_z-of_z}
 use Rattle.laws.specs.Booleans.{clash}
 use Rattle.laws.specs.Machine.{same}
 use Rattle.laws.specs.Tables.{refill}
-use Rattle.laws.specs.TableLaws.{refill_more, length_refill}
+use Rattle.laws.specs.TableLaws.{refill_more}
 use Rattle.mesh.specs.Corners.{vertex_count, triangle_of, next_corner, start_of, z_of}
 use Rattle.mesh.specs.Tests.{pair_of}
 use Rattle.mesh.specs.TestLaws.{next_below}
@@ -142,9 +142,6 @@ module _ (passed : VertexSet) {corners pairing : List ℕ} {c d : ℕ} (l : Link
 -- ---- link
 
 module _ (f : ℕ → ℕ) (c : ℕ) {t : List ℕ} (t₀ : List ℕ) (is : t ≡ refill c f t₀) where
-  pub still_long : c ≤ length t₀ → length t ≡ length t₀
-  still_long h = ap length is ∙ length_refill c f t₀ h
-
   pub link_more : {e : ℕ} → c < length t₀ → e ≡ f c → set t c e ≡ refill (c + 1) f t₀
   link_more h is_e = (λ i. set (is i) c (is_e i)) ∙ refill_more c f t₀ h
 

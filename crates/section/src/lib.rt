@@ -4,4 +4,4 @@
 pub mod unchecked_crossings;
 
 // The ring entry of a corner that is no crossing (SWEEP-3).
-pub const NO_CORNER: u32 = 4294967295;
+pub const NO_CORNER: u32 = u32::MAX;

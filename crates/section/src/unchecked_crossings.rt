@@ -7,7 +7,6 @@ ghost use Rattle.section.specs.Section.{under, rising, falling, rising_in, ring_
 ghost use Rattle.section.specs.Triangles.{Between, set_three};
 
 use crate::NO_CORNER;
-use mesh::numbers::wide;
 use mesh::unchecked::{next_corner, previous_corner};
 
 // Whether vertex v is passed.
@@ -17,13 +16,7 @@ pub fn is_passed(coords: &[i32], h: i32, k: usize, v: usize) -> bool
 {
     let i = 3 * v + 2;
     let z = coords[i];
-    if z < h {
-        return true;
-    }
-    if h < z {
-        return false;
-    }
-    v < k
+    z < h || (z <= h && v < k)
 }
 
 // Whether the start of corner c is passed.
@@ -32,7 +25,7 @@ fn starts_passed(coords: &[i32], corners: &[u32], h: i32, k: usize, c: usize) ->
     requires fact_2 { c < length corners.now }
     ensures value { result ≡ under coords.now h k (start_of corners.now c) }
 {
-    let v = wide(corners[c]);
+    let v = corners[c] as usize;
     is_passed(coords, h, k, v)
 }
 
@@ -41,10 +34,7 @@ fn leads_up(coords: &[i32], h: i32, k: usize, u: usize, v: usize) -> bool
     requires { (u < vertex_count coords.now) × (v < vertex_count coords.now) }
     ensures value { result ≡ (under coords.now h k u && not (under coords.now h k v)) }
 {
-    if is_passed(coords, h, k, u) {
-        return !is_passed(coords, h, k, v);
-    }
-    false
+    is_passed(coords, h, k, u) && !is_passed(coords, h, k, v)
 }
 
 // Whether corner c rises.
@@ -54,8 +44,8 @@ pub fn is_rising(coords: &[i32], corners: &[u32], h: i32, k: usize, c: usize) ->
     ensures value { result ≡ rising (under coords.now h k) corners.now c }
 {
     let n = next_corner(c);
-    let u = wide(corners[c]);
-    let v = wide(corners[n]);
+    let u = corners[c] as usize;
+    let v = corners[n] as usize;
     leads_up(coords, h, k, u, v)
 }
 
@@ -68,11 +58,8 @@ pub fn rising_beside(coords: &[i32], corners: &[u32], h: i32, k: usize, d: usize
 {
     let e = next_corner(d);
     let f = previous_corner(d);
-    let w = wide(corners[f]);
-    if is_passed(coords, h, k, w) {
-        return f;
-    }
-    e
+    let w = corners[f] as usize;
+    if is_passed(coords, h, k, w) { f } else { e }
 }
 
 // The ring entry of a corner c that rises.
@@ -83,9 +70,8 @@ fn link_of(coords: &[i32], corners: &[u32], pairing: &[u32], h: i32, k: usize, c
     ensures value { result ≡ ring_entry (under coords.now h k) corners.now
         pairing.now c }
 {
-    let d = wide(pairing[c]);
-    let s = rising_beside(coords, corners, h, k, d);
-    s as u32
+    let d = pairing[c] as usize;
+    rising_beside(coords, corners, h, k, d) as u32
 }
 
 // The ring entry of corner c.
@@ -97,9 +83,10 @@ pub fn entry_of(coords: &[i32], corners: &[u32], pairing: &[u32], h: i32, k: usi
         pairing.now c }
 {
     if is_rising(coords, corners, h, k, c) {
-        return link_of(coords, corners, pairing, h, k, c);
+        link_of(coords, corners, pairing, h, k, c)
+    } else {
+        NO_CORNER
     }
-    NO_CORNER
 }
 
 // Writes the ring entry of every corner.
@@ -110,12 +97,8 @@ pub fn link(coords: &[i32], corners: &[u32], pairing: &[u32], h: i32, k: usize, 
     ensures left { ring.new ≡ refill (length corners.now)
         (ring_entry (under coords.now h k) corners.now pairing.now) ring.old }
 {
-    let n = corners.len();
-    let mut c: usize = 0;
-    while c < n {
-        let e = entry_of(coords, corners, pairing, h, k, c);
-        ring[c] = e;
-        c += 1;
+    for c in 0..corners.len() {
+        ring[c] = entry_of(coords, corners, pairing, h, k, c);
     }
 }
 
@@ -136,23 +119,18 @@ fn entry_between(
     ensures value { result ≡ ring_entry (under coords.now h k) corners.now
         pairing.now c }
 {
-    if start {
-        if end {
-            return NO_CORNER;
-        }
-        return link_of(coords, corners, pairing, h, k, c);
+    if start && !end {
+        link_of(coords, corners, pairing, h, k, c)
+    } else {
+        NO_CORNER
     }
-    NO_CORNER
 }
 
 // Whether all three are so, or none is.
 fn is_level(p: bool, q: bool, r: bool) -> bool
     ensures sound { result ≡ true → (p ≡ q) × (q ≡ r) }
 {
-    if p == q {
-        return q == r;
-    }
-    false
+    p == q && q == r
 }
 
 // Writes three entries, from entry c on.
@@ -205,10 +183,7 @@ pub fn link_at(coords: &[i32], corners: &[u32], pairing: &[u32], h: i32, ring: &
     ensures left { ring.new ≡ refill (length corners.now)
         (ring_entry (under coords.now h 0) corners.now pairing.now) ring.old }
 {
-    let n = corners.len();
-    let mut c: usize = 0;
-    while c < n {
-        link_triangle(coords, corners, pairing, h, ring, c);
-        c += 3;
+    for t in 0..corners.len() / 3 {
+        link_triangle(coords, corners, pairing, h, ring, 3 * t);
     }
 }

@@ -18,8 +18,8 @@ returns-then-is_rising c =
           ∙ ap (λ (p : VertexSet). ring_entry p a.corners.now a.pairing.now a.c) (passed_held a.coords.now a.k c.ranges.h);
     }
 
-pub returns : goal.returns
-returns c =
+pub returns-else-is_rising : goal.returns-else-is_rising
+returns-else-is_rising c =
     let a = c.args in record {
       value = entry_none _ _ a.pairing.now a.c (sym c.is_rising.ensures.value ∙ c.if-is_rising.false)
           ∙ ap (λ (p : VertexSet). ring_entry p a.corners.now a.pairing.now a.c) (passed_held a.coords.now a.k c.ranges.h);

@@ -16,8 +16,8 @@ returns-then-is_passed c = record {
       ∙ ap (upward c.args.u c.args.v) (passed_held c.args.coords.now c.args.k c.ranges.h);
 }
 
-pub returns : goal.returns
-returns c = record {
-  value = leads_no (under c.args.coords.now (held c.args.h) c.args.k c.args.v) c.is_passed.ensures.value c.if-is_passed.false
+pub returns-else-is_passed : goal.returns-else-is_passed
+returns-else-is_passed c = record {
+  value = c.if-is_passed.false ∙ leads_no (under c.args.coords.now (held c.args.h) c.args.k c.args.v) c.is_passed.ensures.value c.if-is_passed.false
       ∙ ap (upward c.args.u c.args.v) (passed_held c.args.coords.now c.args.k c.ranges.h);
 }

@@ -1,14 +1,8 @@
 -- `unchecked_crossings::link` meets its contract.
-use Prim.Native.Nat.{◌-◌, ◌≤◌}
 use mathlib.Core.Path.{◌≡◌}
 use Rattle.laws.specs.Tables.{refill}
 use Rattle.section.specs.Section.{under, ring_entry}
 use Rattle.section.proofs.unchecked_crossings.link.Given as goal
 
 abbrev pub invariant-loop-c : goal.invariant-loop-c
-invariant-loop-c l =
-    (l.c ≤ l.n)
-    × (l.ring ≡ refill l.c (ring_entry (under l.coords l.h l.k) l.corners l.pairing) l.initial.ring)
-
-abbrev pub decreases-loop-c : goal.decreases-loop-c
-decreases-loop-c l = l.n - l.c
+invariant-loop-c l = l.ring ≡ refill l.c (ring_entry (under l.coords l.h l.k) l.corners l.pairing) l.initial.ring

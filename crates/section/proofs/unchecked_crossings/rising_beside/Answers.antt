@@ -1,5 +1,6 @@
 -- `unchecked_crossings::rising_beside` meets its contract.
-use mathlib.Core.Path.{◌∙◌}
+use mathlib.Core.Path.{refl, ◌∙◌}
+use Rattle.mesh.specs.Corners.{start_of}
 use Rattle.section.specs.Section.{under}
 use Rattle.section.proofs.Turns.{passed_held, vertex_at, previous_corner_inside, ThirdSeen, second_rises, first_rises}
 use Rattle.section.proofs.unchecked_crossings.rising_beside.Goals as goal
@@ -11,7 +12,7 @@ bounds-corners-f c =
 
 pub is_passed-requires : goal.is_passed-requires
 is_passed-requires c =
-    vertex_at c.requires.fact_1 (previous_corner_inside c.requires.fact_1 c.requires.fact_2 c.previous_corner-f.ensures.value) c.wide-w.ensures.value
+    vertex_at c.requires.fact_1 (previous_corner_inside c.requires.fact_1 c.requires.fact_2 c.previous_corner-f.ensures.value) refl
 
 -- what both returns know
 seen : (c : After-is_passed)
@@ -25,11 +26,11 @@ seen c =
       is_e = c.next_corner-e.ensures.value;
       is_f = c.previous_corner-f.ensures.value;
       is_r = c.is_passed.ensures.value
-          ∙ (λ i. passed_held c.args.coords.now c.args.k c.ranges.h i (c.wide-w.ensures.value i));
+          ∙ (λ i. passed_held c.args.coords.now c.args.k c.ranges.h i (start_of c.args.corners.now c.previous_corner-f.result));
     }
 
 pub returns-then-is_passed : goal.returns-then-is_passed
 returns-then-is_passed c = record { value = second_rises (seen (goal.at.returns-then-is_passed c).After-is_passed) c.if-is_passed.true }
 
-pub returns : goal.returns
-returns c = record { value = first_rises (seen (goal.at.returns c).After-is_passed) c.if-is_passed.false }
+pub returns-else-is_passed : goal.returns-else-is_passed
+returns-else-is_passed c = record { value = first_rises (seen (goal.at.returns-else-is_passed c).After-is_passed) c.if-is_passed.false }
