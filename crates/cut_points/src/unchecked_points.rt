@@ -7,7 +7,6 @@ ghost use Rattle.cut_points.specs.Points.{numerator, denominator, rounded, point
 ghost use Rattle.cut_points.specs.Climbs.{Fraction, CrossedEdge, Climbs};
 
 use mesh::limits::LARGEST_COORDINATE_64;
-use mesh::numbers::wide;
 use mesh::unchecked::next_corner;
 
 // n / d to the nearest whole number, halves away from zero (POINT-2). 2^20 divisors more make
@@ -39,8 +38,7 @@ fn coord_of(coords: &[i32], axis: usize, v: usize) -> i32
     requires { 3 * v + axis < length coords.now }
     ensures value { result ≡ coord_of coords.now axis v }
 {
-    let i = 3 * v + axis;
-    coords[i]
+    coords[3 * v + axis]
 }
 
 // x (axis 0) or y (axis 1) of the point of corner c.
@@ -50,8 +48,8 @@ pub fn point_at(coords: &[i32], corners: &[u32], h: i32, axis: usize, c: usize) 
     ensures value { result ≡ point_at (mesh coords.now corners.now) h axis c }
 {
     let n = next_corner(c);
-    let a = wide(corners[c]);
-    let b = wide(corners[n]);
+    let a = corners[c] as usize;
+    let b = corners[n] as usize;
     let u0 = coord_of(coords, axis, a);
     let u1 = coord_of(coords, axis, b);
     let z0 = coord_of(coords, 2, a);
@@ -74,15 +72,11 @@ pub fn put_points(
         (points_of (mesh coords.now corners.now) h (take k names.now))
         points.old }
 {
-    let mut i: usize = 0;
-    while i < k {
-        let c = wide(names[i]);
+    for i in 0..k {
+        let c = names[i] as usize;
         let x = point_at(coords, corners, h, 0, c);
         let y = point_at(coords, corners, h, 1, c);
-        let a = 2 * i;
-        let b = a + 1;
-        points[a] = x;
-        points[b] = y;
-        i += 1;
+        points[2 * i] = x;
+        points[2 * i + 1] = y;
     }
 }

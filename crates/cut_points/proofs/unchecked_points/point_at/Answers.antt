@@ -1,13 +1,13 @@
 -- `point_at` meets its contract.
 use Prim.Native.Nat.{ℕ}
-use mathlib.Core.Path.{◌≡◌, ap, ◌∙◌}
+use mathlib.Core.Path.{◌≡◌, refl, ap, ◌∙◌}
 use mathlib.Core.List.{List}
 use native.Mathlib.Omega.{arith}
 use lib.ListN.{get_or}
 use mir.Syntax.{w32}
 use mir.Val.{to_z, of_z}
 use mir.ValLaws.{to_z-of_z}
-use Rattle.mesh.specs.Corners.{next_corner, end_of}
+use Rattle.mesh.specs.Corners.{next_corner, start_of, end_of}
 use Rattle.mesh.specs.Meshes.{mesh}
 use Rattle.cut_points.proofs.Reading.{result_is, EdgeRead, read_of, read_edge, read_point}
 use Rattle.cut_points.proofs.unchecked_points.point_at.Goals as goal
@@ -18,10 +18,10 @@ end_is : (xs : List ℕ) (c : ℕ) {b n : ℕ} → b ≡ get_or xs n 0 → n ≡
 end_is xs c p q = p ∙ ap (λ k. get_or xs k 0) q
 
 pub coord_of-u1-requires : goal.coord_of-u1-requires
-coord_of-u1-requires c = omega (arith, end_is c.args.corners.now c.args.c c.wide-b.ensures.value c.next_corner-n.ensures.value)
+coord_of-u1-requires c = omega (arith, end_is c.args.corners.now c.args.c refl c.next_corner-n.ensures.value)
 
 pub coord_of-z1-requires : goal.coord_of-z1-requires
-coord_of-z1-requires c = omega (arith, end_is c.args.corners.now c.args.c c.wide-b.ensures.value c.next_corner-n.ensures.value)
+coord_of-z1-requires c = omega (arith, end_is c.args.corners.now c.args.c refl c.next_corner-n.ensures.value)
 
 -- the five numbers that were read
 held : (c : After-coord_of-z1)
@@ -30,7 +30,7 @@ held : (c : After-coord_of-z1)
     (to_z w32 (of_z w32 c.coord_of-u0.result)) (to_z w32 (of_z w32 c.coord_of-u1.result))
     (to_z w32 (of_z w32 c.coord_of-z0.result)) (to_z w32 (of_z w32 c.coord_of-z1.result)) (to_z w32 (of_z w32 s.h))
 held c =
-    read_of c.wide-a.result c.wide-b.result c.wide-a.ensures.value (end_is _ _ c.wide-b.ensures.value c.next_corner-n.ensures.value)
+    read_of (start_of c.args.corners.now c.args.c) (start_of c.args.corners.now c.next_corner-n.result) refl (end_is _ _ refl c.next_corner-n.ensures.value)
     (result_is c.coord_of-u0.type_inv c.coord_of-u0.ensures.value)
     (result_is c.coord_of-u1.type_inv c.coord_of-u1.ensures.value)
     (result_is c.coord_of-z0.type_inv c.coord_of-z0.ensures.value)
