@@ -23,8 +23,9 @@ use Rattle.section.specs.OrbitLaws.{at_member}
 use Rattle.section.proofs.LayerLaws.{trace_layer}
 use Rattle.cut_points.specs.Points.{exact_over, exact_under, point_at, points_of}
 use Rattle.cut_points.proofs.RoundedLaws.{point_near, points_in_lem}
-use Rattle.cut.specs.declared.CutAnswer.{CutAnswer}
-use Rattle.cut.specs.declared.CutAnswer.TheVariants.{Layer, Refused}
+use Rattle.std.specs.Prelude.{Result, Ok, Err}
+use Rattle.mesh.specs.declared.Refusal.{Refusal}
+use Rattle.polygons.specs.declared.LayerCounts.{LayerCounts}
 use Rattle.cut.specs.Cut.{CutTables, section, contours_of, counts_of, tables_after_cut, cutting, tell_cut, Cuts}
 use Rattle.cut.specs.Solid.{SolidLeft}
 use Rattle.cut.specs.SolidLaws.{solid_left, crossing_climbs}
@@ -51,17 +52,17 @@ one_each passed corners pairing rs linked l = by (dec_lt (triangle_count corners
 -- ---- Cut
 
 -- a height as the code holds it
-pub at_height : {m : PairedMesh} {h : ℤ} {t t' : CutTables} {result : CutAnswer}
+pub at_height : {m : PairedMesh} {h : ℤ} {t t' : CutTables} {result : Result LayerCounts Refusal}
     → SFits w32 h → Cuts m (to_z w32 (of_z w32 h)) t result t' → Cuts m h t result t'
 at_height {m} {h} {t} {t'} {result} f = subst (λ (z : ℤ). Cuts m z t result t') (to_z-of_z w32 h f)
 
 pub cut_recovers : Recovers tell_cut
 cut_recovers = record {
-  back = elim [ gives n ↦ Layer n.0 n.1 | refuses r ↦ Refused (refusal_of r) ];
-  once = elim [ Layer j k ↦ refl | Refused r ↦ ap Refused (refusal_once r) ];
+  back = elim [ gives n ↦ Ok (record { contours = n.0; points = n.1 }) | refuses r ↦ Err (refusal_of r) ];
+  once = elim [ Ok v ↦ refl | Err r ↦ ap Err (refusal_once r) ];
 }
 
-module _ {m : PairedMesh} {h : ℤ} {t t' : CutTables} {result : CutAnswer} (c : Cuts m h t result t') where
+module _ {m : PairedMesh} {h : ℤ} {t t' : CutTables} {result : Result LayerCounts Refusal} (c : Cuts m h t result t') where
   -- refused exactly if a listed condition holds, the first that fits, at the least place; a layer exactly if none does; and one outcome only
   pub cut_refused : (r : Told) → (tell_cut result ≡ refuses r) ↔ First (cutting (m, h, t)).refusals r
   cut_refused = refused_exactly c
@@ -69,7 +70,7 @@ module _ {m : PairedMesh} {h : ℤ} {t t' : CutTables} {result : CutAnswer} (c :
   pub cut_given : (tell_cut result ≡ gives (counts_of (contours_of (section m h)))) ↔ None (cutting (m, h, t)).refusals
   cut_given = given_exactly c
 
-  pub cut_only : {other : CutAnswer} {u' : CutTables} → Cuts m h t other u' → (result ≡ other) × (t' ≡ u')
+  pub cut_only : {other : Result LayerCounts Refusal} {u' : CutTables} → Cuts m h t other u' → (result ≡ other) × (t' ≡ u')
   cut_only = only_outcome cut_recovers c
 
   -- what a layer is

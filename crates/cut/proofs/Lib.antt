@@ -1,5 +1,4 @@
 -- Lemmas that belong to no one function.
-pub mod Rooms
 pub mod Outlining
 pub mod Slicing
 pub mod CutLaws

@@ -27,8 +27,9 @@ use Rattle.section.specs.Contours.{names_of, trace, ends_of}
 use Rattle.cut_points.specs.Points.{numerator, denominator, rounded, exact_over, exact_under, point_at, points_of}
 use Rattle.cut_points.specs.PointLaws.{length_points_of, points_at_lem}
 use Rattle.cut_points.proofs.RoundedLaws.{rounded_neg}
-use Rattle.cut.specs.declared.CutAnswer.{CutAnswer}
-use Rattle.cut.specs.declared.CutAnswer.TheVariants.{Layer, Refused}
+use Rattle.std.specs.Prelude.{Result, Ok, Err}
+use Rattle.mesh.specs.declared.Refusal.{Refusal}
+use Rattle.polygons.specs.declared.LayerCounts.{LayerCounts}
 use Rattle.cut.specs.Cut.{CutTables, lent, lengths_of, room, used, section, contours_of, counts_of, tables_after_cut, cutting, tell_cut, Cuts}
 use Rattle.cut.proofs.CutLaws.{cut_only}
 use Rattle.cut.specs.Mirrors.{mirrored_at, mirrored_row, mirrored_mesh, mirrored_tables}
@@ -179,23 +180,23 @@ module _ (axis : ℕ) (low : axis ≤ 1) (m : PairedMesh) (h : ℤ) where
   verdict_mirrored t = ap verdict (refusals_mirrored t)
 
   -- what it leaves after each answer
-  left_mirrored : (rs : List (List ℕ)) (t : CutTables) (answer : CutAnswer) (f : Finding Told)
+  left_mirrored : (rs : List (List ℕ)) (t : CutTables) (answer : Result LayerCounts Refusal) (f : Finding Told)
       → tell_cut answer ≡ (f then gives (counts_of rs))
       → mirrored_tables axis answer (tables_after_cut m.mesh h rs t f) ≡ tables_after_cut mirror.mesh h rs t f
   unfolding mirrored_row tabulate overwrite after ◌then◌
-  left_mirrored rs t (Layer j k) (gives tt) e =
+  left_mirrored rs t (Ok v) (gives tt) e =
       let names = names_of rs in
       let points = points_of m.mesh h names in
-      let n : length points ≡ 2 * k = length_points_of m.mesh h names ∙ ap (λ (g : ℕ × ℕ). 2 * g.1) (sym (same_values e)) in
+      let n : length points ≡ 2 * v.points = length_points_of m.mesh h names ∙ ap (λ (g : ℕ × ℕ). 2 * g.1) (sym (same_values e)) in
       let marks = overwrite (replicate (length m.mesh.corners) 0) t.marks in
       ap (λ (q : List ℤ). lent (overwrite names t.names) q (overwrite (ends_of rs) t.ends) marks)
-      (row_left 2 axis points t.points (2 * k) n ∙ ap (λ (q : List ℤ). overwrite q t.points) (sym (points_mirrored names)))
-  left_mirrored rs t (Layer j k) (refuses r) e = apart (sym e)
-  left_mirrored rs t (Refused r) (gives tt) e = apart e
-  left_mirrored rs t (Refused q) (refuses r) e = refl
+      (row_left 2 axis points t.points (2 * v.points) n ∙ ap (λ (q : List ℤ). overwrite q t.points) (sym (points_mirrored names)))
+  left_mirrored rs t (Ok v) (refuses r) e = apart (sym e)
+  left_mirrored rs t (Err r) (gives tt) e = apart e
+  left_mirrored rs t (Err q) (refuses r) e = refl
 
   -- Cut of the mirror image, at the same height and with the same tables lent
-  pub mirror_cut : {t t' : CutTables} {answer : CutAnswer} → Cuts m h t answer t' → Cuts mirror h t answer (mirrored_tables axis answer t')
+  pub mirror_cut : {t t' : CutTables} {answer : Result LayerCounts Refusal} → Cuts m h t answer t' → Cuts mirror h t answer (mirrored_tables axis answer t')
   mirror_cut {t} {t'} {answer} c =
       record {
         answers = c.answers ∙ sym (λ i. verdict_mirrored t i then gives (counts_of (contours_of (section_mirrored i))));
@@ -206,6 +207,6 @@ module _ (axis : ℕ) (low : axis ≤ 1) (m : PairedMesh) (h : ℤ) where
       }
 
   -- which is its only outcome
-  pub mirror_only : {t t' u' : CutTables} {answer other : CutAnswer} → Cuts m h t answer t' → Cuts mirror h t other u'
+  pub mirror_only : {t t' u' : CutTables} {answer other : Result LayerCounts Refusal} → Cuts m h t answer t' → Cuts mirror h t other u'
       → (other ≡ answer) × (u' ≡ mirrored_tables axis answer t')
   mirror_only c d = cut_only d (mirror_cut c)

@@ -18,9 +18,9 @@ use Rattle.cut_points.specs.Points.{points_of}
 use Rattle.cut_points.specs.Climbs.{Climbs}
 use Rattle.cut_trace.specs.Traces.{trace_answer, zeroed, names_after, ends_after}
 use Rattle.cut_trace.specs.Walks.{Traceable}
-use Rattle.cut_trace.specs.declared.TraceAnswer.{TraceAnswer}
-use Rattle.cut_trace.specs.declared.TraceAnswer.TheVariants.{Contours, Stuck}
-use Rattle.cut.specs.declared.CutAnswer.TheVariants.{Layer}
+use Rattle.cut_trace.specs.declared.Met.{Met}
+use Rattle.std.specs.Prelude.{Result, Ok, Err}
+use Rattle.polygons.specs.declared.LayerCounts.{LayerCounts}
 use Rattle.cut.specs.Cut.{CutTables, lent, lengths_of, contours_of, tables_after_cut}
 use Rattle.cut.specs.Outlines.{Long, Outlined, Traces}
 use Rattle.cut.specs.OutlineLaws.{used_fine}
@@ -55,7 +55,7 @@ module _ (m : Mesh) (h : ℤ) (tables : CutTables) (o : Outlined m h tables.mark
   names_few = begun_few (has_link marks) (link_of marks) n o.leads n rs all.1
 
   -- what tracing has left
-  module _ {r : TraceAnswer} {names₁ ends₁ marks₁ : List ℕ}
+  module _ {r : Result LayerCounts Met} {names₁ ends₁ marks₁ : List ℕ}
       (left : (r ≡ trace_answer t) × ((names₁ ≡ names_after t n tables.names) × ((ends₁ ≡ ends_after t n tables.ends) × (marks₁ ≡ zeroed n marks)))) where
     names_is : names₁ ≡ overwrite (names_of rs) tables.names
     names_is = left.1.0 ∙ (unfold names_after in (ap (λ (u : Traced). names_after u n tables.names) is))
@@ -63,27 +63,34 @@ module _ (m : Mesh) (h : ℤ) (tables : CutTables) (o : Outlined m h tables.mark
     ends_is : ends₁ ≡ overwrite (ends_of rs) tables.ends
     ends_is = left.1.1.0 ∙ (unfold ends_after in (ap (λ (u : Traced). ends_after u n tables.ends) is))
 
-    found_is : r ≡ Contours (length rs) (length (names_of rs))
+    -- the counts of the contours
+    abbrev all_counted : LayerCounts
+    all_counted = record { contours = length rs; points = length (names_of rs) }
+
+    found_is : r ≡ Ok all_counted
     found_is = left.0 ∙ (unfold trace_answer in (ap trace_answer is))
 
-    pub never_stuck : {p : ℕ} → r ≡ Stuck p → ⊥
+    pub never_stuck : {met : Met} → r ≡ Err met → ⊥
     never_stuck e = absurd (let z : ◌≡◌ {A = ℕ} 0 1 = apart (sym found_is ∙ e) in omega arith)
       where
-        apart : {a b q : ℕ} → Contours a b ≡ Stuck q → ◌≡◌ {A = ℕ} 0 1
+        apart : {v : LayerCounts} {met : Met} → ◌≡◌ {A = Result LayerCounts Met} (Ok v) (Err met) → ◌≡◌ {A = ℕ} 0 1
         apart e = cc
 
-    module _ {j k : ℕ} (e : r ≡ Contours j k) {h' : ℤ} (eh : h' ≡ h) where
-      counts : (j ≡ length rs) × (k ≡ length (names_of rs))
-      counts = (first (sym e ∙ found_is), second (sym e ∙ found_is))
-        where
-          first : {a b c d : ℕ} → Contours a b ≡ Contours c d → a ≡ c
-          first e = cc
+    module _ {v : LayerCounts} (e : r ≡ Ok v) {h' : ℤ} (eh : h' ≡ h) where
+      abbrev k : ℕ
+      k = v.points
 
-          second : {a b c d : ℕ} → Contours a b ≡ Contours c d → b ≡ d
-          second e = cc
+      counts : v ≡ all_counted
+      counts = the_same (sym e ∙ found_is)
+        where
+          the_same : {a b : LayerCounts} → ◌≡◌ {A = Result LayerCounts Met} (Ok a) (Ok b) → a ≡ b
+          the_same e = cc
+
+      few : k ≡ length (names_of rs)
+      few = ap (λ (w : LayerCounts). w.points) counts
 
       front : take k names₁ ≡ names_of rs
-      front = ap (take k) names_is ∙ overwrite_front (names_of rs) tables.names (sym counts.1)
+      front = ap (take k) names_is ∙ overwrite_front (names_of rs) tables.names (sym few)
 
       -- what the points ask, of the height as the code holds it
       pub points_asked : ((k ≤ length names₁) × (2 * k ≤ length tables.points)) × ((i : ℕ) → i < k → Climbs m h' (get_or names₁ i 0))
@@ -91,27 +98,27 @@ module _ (m : Mesh) (h : ℤ) (tables : CutTables) (o : Outlined m h tables.mark
         (
           omega (
             arith,
-            counts.1,
+            few,
             names_few,
             l.names_long,
             ap length names_is,
             length_overwrite (names_of rs) tables.names
                 (omega (arith, names_few, l.names_long)),
           ),
-          omega (arith, counts.1, names_few, l.points_long),
+          omega (arith, few, names_few, l.points_long),
         ),
         climbing,
       )
         where
           climbing : (i : ℕ) → i < k → Climbs m h' (get_or names₁ i 0)
           climbing i q =
-              let b : i < length (names_of rs) = omega (arith, counts.1) in
+              let b : i < length (names_of rs) = omega (arith, few) in
               subst (λ (z : ℤ). Climbs m z (get_or names₁ i 0)) (sym eh)
               (subst (Climbs m h) (sym (ap (λ (u : List ℕ). get_or u i 0) names_is ∙ overwrite_at (names_of rs) tables.names i 0 b))
               (o.climbs (get_or (names_of rs) i 0) (all.1.only (get_or (names_of rs) i 0) (at_member (names_of rs) i b))))
 
       pub traces : {points₁ : List ℤ} → points₁ ≡ overwrite (points_of m h' (take k names₁)) tables.points
-          → Traces t m h tables (Layer j k) (lent names₁ points₁ ends₁ marks₁)
+          → Traces t m h tables (Ok v) (lent names₁ points₁ ends₁ marks₁)
       unfolding after
       traces {points₁} ep =
           let c : contours_of t ≡ rs = ap contours_of is in
@@ -120,5 +127,5 @@ module _ (m : Mesh) (h : ℤ) (tables : CutTables) (o : Outlined m h tables.mark
           let e : lent names₁ points₁ ends₁ marks₁ ≡ q =
           λ i. lent (names_is i) ((ep ∙ (λ w. overwrite (points_of m (eh w) (front w)) tables.points)) i) (ends_is i) (left.1.1.1 i) in
           does_give refl (used_fine n t rs is)
-          ((λ i. gives (counts.0 i, counts.1 i)) ∙ (λ i. gives (length (sym c i), length (names_of (sym c i)))))
+          ((λ i. gives ((counts i).contours, (counts i).points)) ∙ (λ i. gives (length (sym c i), length (names_of (sym c i)))))
           (e ∙ (λ i. tables_after_cut m h (sym c i) tables fine))

@@ -1,5 +1,5 @@
 -- Cut put together: what the tests of the tables establish, and its answer and tables at each return.
-use mathlib.Core.Path.{◌≡◌, refl, sym, ◌∙◌}
+use mathlib.Core.Path.{◌≡◌, refl, sym, ap, ◌∙◌}
 use mathlib.Core.Bool.{false}
 use mathlib.Core.List.{List, [], ◌∷◌}
 use native.Mathlib.Omega.{arith}
@@ -15,9 +15,9 @@ use Rattle.mesh.specs.Refusals.{Told, numbered, told_of}
 use Rattle.mesh.specs.declared.Refusal.{Refusal}
 use Rattle.section.specs.Section.{Right}
 use Rattle.section.specs.RightLaws.{right_of}
-use Rattle.cut.specs.declared.CutAnswer.{CutAnswer}
-use Rattle.cut.specs.declared.CutAnswer.TheVariants.{Refused}
-use Rattle.cut.specs.Cut.{CutTables, lengths_of, cut_tests, used, section, contours_of, Cuts}
+use Rattle.std.specs.Prelude.{Result, Err}
+use Rattle.polygons.specs.declared.LayerCounts.{LayerCounts}
+use Rattle.cut.specs.Cut.{CutTables, lengths_of, cut_tests, used, section, contours_of, tell_cut, Cuts}
 use Rattle.cut.specs.Outlines.{Long, Traces}
 use Rattle.cut.specs.OutlineLaws.{room_long, layer_kept}
 
@@ -38,9 +38,9 @@ module _ (m : PairedMesh) (h : ℤ) (t : CutTables) {f : Finding Told} (e : f �
           (right_of m (not-false _ (s 0 (omega arith))) r v k p, room_long (length m.mesh.corners) (lengths_of t) (not-false _ (l 0 (omega arith))))
 
   -- a test refuses
-  pub cuts_refused : {r : Refusal} → f ≡ refuses (told_of r) → Cuts m h t (Refused r) t
-  cuts_refused {r} g =
-      does_refuse (join_stop (cut_tests m (lengths_of t)) last e g) g refl
+  pub cuts_refused : {r : Refusal} {result : Result LayerCounts Refusal} → result ≡ Err r → f ≡ refuses (told_of r) → Cuts m h t result t
+  cuts_refused {r} raised g =
+      does_refuse (join_stop (cut_tests m (lengths_of t)) last e g) g (ap tell_cut raised)
       (layer_kept m.mesh h (contours_of (section m h)) t (told_of r) other)
     where
       other : numbered (16 ∷ []) (told_of r) ≡ false
@@ -49,5 +49,5 @@ module _ (m : PairedMesh) (h : ℤ) (t : CutTables) {f : Finding Told} (e : f �
           ((λ i. refl), ((λ i. refl), ((λ i. refl), ((λ i. refl), ((λ i. refl), ((λ i. refl), tt)))))) (sym e ∙ g)
 
   -- none does
-  pub cuts_traced : {result : CutAnswer} {t' : CutTables} → f ≡ fine → Traces (section m h) m.mesh h t result t' → Cuts m h t result t'
+  pub cuts_traced : {result : Result LayerCounts Refusal} {t' : CutTables} → f ≡ fine → Traces (section m h) m.mesh h t result t' → Cuts m h t result t'
   cuts_traced g d = does_last d (join_next (cut_tests m (lengths_of t)) last e g refl) refl refl

@@ -1,15 +1,15 @@
 -- Cut (CUT-1 to CUT-13): its refusals in order, what it answers, and what it leaves in the four lent tables.
-use Rattle.std.specs.Prelude.{ℕ, ◌*◌, Bool, false, not, ◌&&◌, List, [], ◌∷◌, ◌++◌, leb, eqb, length, replicate, ℤ, pos}
+use Rattle.std.specs.Prelude.{ℕ, ◌*◌, Bool, false, not, ◌&&◌, List, [], ◌∷◌, ◌++◌, leb, eqb, length, replicate, ℤ, pos, Result}
 use Rattle.mesh.specs.Meshes.{Mesh, PairedMesh}
-use Rattle.mesh.specs.Operation.{Answer, gives, refuses, Finding, Condition, whole, after, Operation, Does}
-use Rattle.mesh.specs.Refusals.{Told, refusal, numbered, told_of}
+use Rattle.mesh.specs.Operation.{Answer, Finding, Condition, whole, after, Operation, Does}
+use Rattle.mesh.specs.Refusals.{Told, refusal, numbered, tell}
+use Rattle.mesh.specs.declared.Refusal.{Refusal}
 use Rattle.mesh.specs.Tests.{size}
 use Rattle.mesh_tables.specs.MeshTests.{content_tests}
 use Rattle.section.specs.Section.{below}
 use Rattle.section.specs.Contours.{Traced, contours, stuck, names_of, trace, ends_of}
 use Rattle.cut_points.specs.Points.{points_of}
-use Rattle.cut.specs.declared.CutAnswer.{CutAnswer}
-use Rattle.cut.specs.declared.CutAnswer.TheVariants.{Layer, Refused}
+use Rattle.polygons.specs.declared.LayerCounts.{LayerCounts}
 
 -- ---- the four lent tables, and their lengths
 
@@ -92,9 +92,8 @@ cutting = λ (m, h, t). record {
 }
 
 -- what its answer says: the counts of contours and points (CUT-6)
-abbrev pub tell_cut : CutAnswer → Answer Told (ℕ × ℕ)
-tell_cut (Layer j k) = gives (j, k)
-tell_cut (Refused r) = refuses (told_of r)
+abbrev pub tell_cut : Result LayerCounts Refusal → Answer Told (ℕ × ℕ)
+tell_cut = tell (λ v. (v.contours, v.points))
 
-abbrev pub Cuts : PairedMesh → ℤ → CutTables → CutAnswer → CutTables → Type 0
+abbrev pub Cuts : PairedMesh → ℤ → CutTables → Result LayerCounts Refusal → CutTables → Type 0
 Cuts m h t result t' = Does cutting tell_cut (m, h, t) result t'

@@ -1,5 +1,5 @@
 -- Laws of the layer of a ring table: what a ring table of a height asks and gives.
-use Rattle.std.specs.Prelude.{ℕ, ◌*◌, ◌<◌, ◌≡◌, Bool, true, false, List, [], ◌∷◌, length, get_or, replicate, ℤ, pos}
+use Rattle.std.specs.Prelude.{ℕ, ◌*◌, ◌<◌, ◌≡◌, Bool, true, false, List, [], ◌∷◌, length, get_or, replicate, ℤ, pos, Result}
 use Rattle.std.proofs.Math.Path.{refl, sym, subst}
 use Rattle.std.proofs.Common.{ap, ◌∙◌, arith, leb-true}
 use Rattle.std.proofs.lemmas.List.{length-replicate}
@@ -10,6 +10,8 @@ use Rattle.mesh.specs.Meshes.{Mesh, PairedMesh}
 use Rattle.mesh.specs.Operation.{refuses, fine, verdict, after}
 use Rattle.mesh.specs.OperationLaws.{nowhere_fine, verdict_one, then_fine, after_kept, left_given, does_give}
 use Rattle.mesh.specs.Refusals.{Told, numbered}
+use Rattle.mesh.specs.declared.Refusal.{Refusal}
+use Rattle.polygons.specs.declared.LayerCounts.{LayerCounts}
 use Rattle.section.specs.Section.{below, under, ring_entry, Right}
 use Rattle.section.proofs.SectionLaws.{below_under}
 use Rattle.section.specs.Contours.{Traced, contours, names_of, ends_of}
@@ -17,7 +19,6 @@ use Rattle.cut_points.specs.Points.{points_of}
 use Rattle.section.proofs.LayerLaws.{trace_layer}
 use Rattle.section.specs.Links.{trace_links}
 use Rattle.section.proofs.LinkLaws.{table_trace, table_leads, link_rises}
-use Rattle.cut.specs.declared.CutAnswer.{CutAnswer}
 use Rattle.cut.specs.Cut.{CutTables, lent, Lengths, lengths, cut_room_for, met_at, used, section, contours_of, tables_after_cut}
 use Rattle.cut.specs.Outlines.{Long, Outlined, Traces}
 use Rattle.cut.specs.SolidLaws.{crossing_climbs}
@@ -95,7 +96,7 @@ module _ (m : PairedMesh) (h : ℤ) where
         ap (overwrite (replicate (length corners) 0)) is ∙ overwrite_twice (replicate (length corners) 0) (tabulate (length corners) entry) links₀ z
 
     -- the same contours, and marks zero over what stood there before the ring table
-    pub sliced : {names : List ℕ} {points : List ℤ} {ends : List ℕ} {result : CutAnswer} {t' : CutTables}
+    pub sliced : {names : List ℕ} {points : List ℤ} {ends : List ℕ} {result : Result LayerCounts Refusal} {t' : CutTables}
         → Traces (trace_links (length m.mesh.corners) links) m.mesh h (lent names points ends links) result t'
         → Traces (section m h) m.mesh h (lent names points ends links₀) result t'
     unfolding after

@@ -1,14 +1,15 @@
 -- What the layer of a ring table asks, and what it leaves.
-use Rattle.std.specs.Prelude.{ℕ, ◌*◌, ◌≤◌, List, [], ◌∷◌, length, ℤ}
+use Rattle.std.specs.Prelude.{ℕ, ◌*◌, ◌≤◌, List, [], ◌∷◌, length, ℤ, Result}
 use Rattle.mesh.specs.Meshes.{Mesh}
 use Rattle.mesh.specs.Operation.{Operation, Does}
 use Rattle.mesh.specs.Refusals.{Told}
+use Rattle.mesh.specs.declared.Refusal.{Refusal}
+use Rattle.polygons.specs.declared.LayerCounts.{LayerCounts}
 use Rattle.section.specs.Section.{Among}
 use Rattle.section.specs.Contours.{Traced}
 use Rattle.section.specs.Links.{has_link, link_of}
 use Rattle.section.specs.Rings.{Leads}
 use Rattle.cut_points.specs.Climbs.{Climbs}
-use Rattle.cut.specs.declared.CutAnswer.{CutAnswer}
 use Rattle.cut.specs.Cut.{CutTables, Lengths, used, contours_of, counts_of, tables_after_cut, tell_cut}
 use Rattle.mesh.specs.Corners.{most_corners}
 
@@ -33,5 +34,5 @@ tracing = λ (s, m, h, t). record {
   leaves = tables_after_cut m h (contours_of s) t;
 }
 
-abbrev pub Traces : Traced → Mesh → ℤ → CutTables → CutAnswer → CutTables → Type 0
+abbrev pub Traces : Traced → Mesh → ℤ → CutTables → Result LayerCounts Refusal → CutTables → Type 0
 Traces s m h t result t' = Does tracing tell_cut (s, m, h, t) result t'

@@ -8,32 +8,17 @@ ghost use Rattle.mesh.specs.Refusals.{tell_verdict};
 ghost use Rattle.cut.specs.Cut.{lent, lengths, cut_room_for, cut_tests, Cuts};
 
 use crate::unchecked::slice;
-use mesh::{Refusal, Verdict};
+use mesh::Refusal;
 use mesh_tables::tests::opening_test;
+use polygons::LayerCounts;
 
 pub mod unchecked;
-
-// What Cut answers: the counts of contours and points, or a refusal.
-#[derive(Drop)]
-pub enum CutAnswer {
-    Layer(usize, usize),
-    Refused(Refusal),
-}
 
 // Whether tables of these lengths hold the layer of n corners (CUT-9).
 pub fn cut_room_for(n: usize, names: usize, points: usize, ends: usize, marks: usize) -> bool
     ensures value { result ≡ cut_room_for n (lengths names points ends marks) }
 {
-    if names < n {
-        return false;
-    }
-    if points / 2 < n {
-        return false;
-    }
-    if ends < n {
-        return false;
-    }
-    n <= marks
+    n <= names && n <= points / 2 && n <= ends && n <= marks
 }
 
 // Refusals 1, 9, 2, 3, 4 and 7, for lent tables of these lengths (CUT-8).
@@ -45,7 +30,7 @@ pub fn tables_test(
     points: usize,
     ends: usize,
     marks: usize,
-) -> Verdict
+) -> Result<(), Refusal>
     ensures told { tell_verdict result ≡ verdict (cut_tests
         (paired coords.now corners.now pairing.now)
         (lengths names points ends marks)) }
@@ -54,7 +39,7 @@ pub fn tables_test(
     opening_test(coords, corners, pairing, true, room)
 }
 
-// Cuts a mesh at height h: names, points and ends of its contours (CUT-1 to CUT-13).
+// Cuts a mesh at height h: names, points and ends of its contours, and how many there are (CUT-1 to CUT-13).
 pub fn cut(
     coords: &[i32],
     corners: &[u32],
@@ -64,12 +49,12 @@ pub fn cut(
     points: &mut [i32],
     ends: &mut [u32],
     marks: &mut [u32],
-) -> CutAnswer
+) -> Result<LayerCounts, Refusal>
     ensures outcome { Cuts (paired coords.now corners.now pairing.now) h
         (lent names.old points.old ends.old marks.old) result
         (lent names.new points.new ends.new marks.new) }
 {
-    let v = tables_test(
+    tables_test(
         coords,
         corners,
         pairing,
@@ -77,9 +62,6 @@ pub fn cut(
         points.len(),
         ends.len(),
         marks.len(),
-    );
-    if let Verdict::Refused(r) = v {
-        return CutAnswer::Refused(r);
-    }
+    )?;
     slice(coords, corners, pairing, h, names, points, ends, marks)
 }

@@ -1,30 +1,17 @@
 // The layer of a mesh that the tests have passed.
-ghost use Rattle.std.specs.Prelude.{◌≡◌, ◌≤◌, length, replicate, pos};
-ghost use Rattle.laws.specs.Tables.{overwrite};
+ghost use Rattle.std.specs.Prelude.{length};
 ghost use Rattle.mesh.specs.Meshes.{mesh, paired};
 ghost use Rattle.section.specs.Section.{Right};
 ghost use Rattle.section.specs.Links.{trace_links};
 ghost use Rattle.cut.specs.Cut.{lent, lengths_of, section};
 ghost use Rattle.cut.specs.Outlines.{Long, Outlined, Traces};
 
-use crate::CutAnswer;
 use cut_points::unchecked_points::put_points;
-use cut_trace::TraceAnswer;
 use cut_trace::unchecked_rings::trace;
 use mesh::Refusal;
+use mesh::unchecked::fill;
+use polygons::LayerCounts;
 use section::unchecked_crossings::link_at;
-
-// Zeroes the first n numbers.
-pub fn clear_points(t: &mut [i32], n: usize)
-    requires { n ≤ length t.old }
-    ensures left { t.new ≡ overwrite (replicate n (pos 0)) t.old }
-{
-    let mut i: usize = 0;
-    while i < n {
-        t[i] = 0;
-        i += 1;
-    }
-}
 
 // Writes the layer of height h, whose ring table is in marks.
 pub fn outline_rings(
@@ -35,7 +22,7 @@ pub fn outline_rings(
     points: &mut [i32],
     ends: &mut [u32],
     marks: &mut [u32],
-) -> CutAnswer
+) -> Result<LayerCounts, Refusal>
     requires fact_1 { Outlined (mesh coords.now corners.now) h marks.old }
     requires fact_2 { Long (length corners.now) (lengths_of (lent names.old points.old ends.old marks.old)) }
     ensures outcome { Traces (trace_links (length corners.now) marks.old)
@@ -44,15 +31,14 @@ pub fn outline_rings(
         (lent names.new points.new ends.new marks.new) }
 {
     let n = corners.len();
-    let f = trace(n, marks, names, ends);
-    match f {
-        TraceAnswer::Contours(j, k) => {
-            put_points(coords, corners, h, names, points, k);
-            CutAnswer::Layer(j, k)
+    match trace(n, marks, names, ends) {
+        Ok(counts) => {
+            put_points(coords, corners, h, names, points, counts.points);
+            Ok(counts)
         }
-        TraceAnswer::Stuck(p) => {
-            clear_points(points, 2 * n);
-            CutAnswer::Refused(Refusal::Used(p))
+        Err(met) => {
+            fill(points, 2 * n, 0);
+            Err(Refusal::Used(met.at))
         }
     }
 }
@@ -67,7 +53,7 @@ pub fn slice(
     points: &mut [i32],
     ends: &mut [u32],
     marks: &mut [u32],
-) -> CutAnswer
+) -> Result<LayerCounts, Refusal>
     requires fact_1 { Right (paired coords.now corners.now pairing.now) }
     requires fact_2 { Long (length corners.now) (lengths_of (lent names.old points.old ends.old marks.old)) }
     ensures outcome { Traces

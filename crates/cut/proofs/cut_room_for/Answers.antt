@@ -1,15 +1,14 @@
 -- `cut_room_for` meets its contract.
-use Rattle.cut.proofs.Rooms.{room_1, room_2, room_3, room_4}
+use Rattle.std.proofs.Common.{arith}
+use Rattle.std.proofs.lemmas.Bool.Decides.{nat_tests}
+use Rattle.std.proofs.lemmas.Grind.{common_steps}
+use Rattle.cut.specs.Cut.{cut_room_for}
 use Rattle.cut.proofs.cut_room_for.Goals as goal
 
-pub returns-then-names-n : goal.returns-then-names-n
-returns-then-names-n c = record { value = room_1 _ _ _ _ _ c.if-names-n.true }
+pub returns-then-n-ends : goal.returns-then-n-ends
+unfolding cut_room_for
+returns-then-n-ends c = record { value = grind (arith, nat_tests, common_steps) }
 
-pub returns-then-points-n : goal.returns-then-points-n
-returns-then-points-n c = record { value = room_2 _ _ _ _ _ c.if-names-n.false c.if-points-n.true }
-
-pub returns-then-ends-n : goal.returns-then-ends-n
-returns-then-ends-n c = record { value = room_3 _ _ _ _ _ c.if-names-n.false c.if-points-n.false c.if-ends-n.true }
-
-pub returns : goal.returns
-returns c = record { value = room_4 _ _ _ _ _ c.if-names-n.false c.if-points-n.false c.if-ends-n.false }
+pub returns-else-n-ends : goal.returns-else-n-ends
+unfolding cut_room_for
+returns-else-n-ends c = record { value = grind (arith, nat_tests, common_steps) }
