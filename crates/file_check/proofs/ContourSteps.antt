@@ -1,8 +1,9 @@
 -- Contours one by one: a lemma for each return of `check_contour`, `check_contours` and `check_counted`.
 use mathlib.Core.Path.{◌≡◌, refl, sym, ap, ◌∙◌, subst}
+use Rattle.std.specs.Prelude.{Result, Ok, Err}
 use mathlib.Core.Bool.{Bool, true, false}
 use mathlib.Core.List.{List, [], ◌∷◌}
-use Prim.Native.Nat.{ℕ, ◌+◌, ◌-◌, ◌*◌, ◌<◌, ◌≤◌}
+use Prim.Native.Nat.{ℕ, suc, ◌+◌, ◌-◌, ◌*◌, ◌<◌, ◌≤◌}
 use native.Mathlib.Omega.{arith}
 use lib.ListN.{length, drop}
 use lib.IntN.{ℤ, pos, nat_abs, ◌+ℤ◌, +ℤ_assoc}
@@ -22,30 +23,20 @@ use Rattle.file_formats.specs.LayerFile.{Point, most_points, fewest_points, poin
 use Rattle.file_formats.specs.LayerFile.{contour_format, contour_in, room_after, contour_list_in}
 use Rattle.file_formats.specs.LayerFileLaws.{point_tails, contour_bad, contour_few, contour_points}
 use Rattle.file_formats.specs.LayerRules.{point_total}
-use Rattle.file_formats.specs.Positions.{number_at}
-use Rattle.file_formats.specs.PositionLaws.{ParsedAt, took, not_took, sequence_tails}
+use Rattle.file_formats.specs.Positions.{breaks_at, number_at}
+use Rattle.file_formats.specs.PositionLaws.{ParsedAt, took, not_took, number_breaks, sequence_tails}
 use Rattle.file_formats.specs.SequenceLaws.{parsed_length}
-use Rattle.file_formats.specs.declared.Number.TheVariants.{Value, Bad}
-use Rattle.file_check.specs.declared.PointsExtent.TheVariants.{End as PointsEnd, Refused as PointsRefused}
-use Rattle.file_check.specs.declared.ContoursExtent.{ContoursExtent}
-use Rattle.file_check.specs.declared.ContoursExtent.TheVariants.{End, Refused}
-use Rattle.file_check.specs.declared.CountsExtent.TheVariants.{End as CountsEnd, Refused as CountsRefused}
-use Rattle.file_check.specs.Answers.{points_at, contour_told_at, contours_at, counts_at}
-use Rattle.file_check.specs.AnswerLaws.{told_parsed, told_off, told_bad, Kinds, from_good, from_off, contour_read, contour_off, contours_read_lem}
+use Rattle.file_formats.specs.declared.Broken.{Broken}
+use Rattle.file_check.specs.declared.PointsEnd.{PointsEnd}
+use Rattle.file_check.specs.declared.ContoursEnd.{ContoursEnd}
+use Rattle.file_check.specs.declared.CountsEnd.{CountsEnd}
+use Rattle.file_check.specs.Answers.{points_at, points_end, contour_told_at, contour_end, contours_at, contours_end, counts_at, counts_end}
+use Rattle.file_check.specs.AnswerLaws.{told_parsed, told_off, told_bad, from_ok, from_off, contour_read, contour_off, contours_read_lem}
 use Rattle.file_check.specs.AnswerLaws.{ContoursTold, contours_off, room_left_lem, contours_by_count}
 use Rattle.file_check.specs.RunLaws.{Running, run_off, run_next, run_end, running_of, state_of}
 use Rattle.file_check.specs.AreaLaws.{contour_in_room, contour_sum_le}
 
 -- ---- a contour, by its count and its points
-
-points_kinds : Kinds (λ (k : Bool × ℤ) next. PointsEnd next k.0 k.1) PointsRefused
-points_kinds = record { apart = λ e. let n : ◌≡◌ {A = ℕ} 0 1 = cc in omega arith; key_told = λ e. both_told _ _ _ _ e; next_told = λ e. cc }
-  where
-    both_told : (k l : Bool × ℤ) (n m : ℕ) → PointsEnd n k.0 k.1 ≡ PointsEnd m l.0 l.1 → k ≡ l
-    both_told k l n m e =
-        let a : k.0 ≡ l.0 = cc in
-        let b : k.1 ≡ l.1 = cc in
-        λ i. (a i, b i)
 
 -- a contour that is refused in the full profile, and one that is not, by whether it may stand in the profile
 module _ (p : Profile) (room : ℕ) (l : List ℕ) where
@@ -75,51 +66,51 @@ module _ (p : Profile) (room : ℕ) (l : List ℕ) where
       by Clean e t = simp (e, t)
 
 module _ (p : Profile) (room : ℕ) (file : List ℕ) (at : ℕ) (h : at ≤ length file) where
-  pub no_count : number_at room file at ≡ Bad → Refused at ≡ contour_told_at p room file at
-  no_count e =
-      told_bad (λ c next. End next (room_after room c) (contour_area c)) Refused (contour_in p room) file at h
-      (refused_in p room (drop at file) (contour_bad room (drop at file) (not_took room file at e)))
+  none : (contour_in p room).parse (drop at file) ≡ refused (drop at file) → Err (breaks_at at) ≡ contour_told_at p room file at
+  none e = told_bad (λ c next. Ok (contour_end room c next)) (λ q. Err (breaks_at q)) (contour_in p room) file at h e
 
-  module _ {n next : ℕ} (e : number_at room file at ≡ Value n next) where
-    pub few_points_lem : n < fewest_points → Refused at ≡ contour_told_at p room file at
+  pub no_count : {b : Broken} → number_at room file at ≡ Err b → Err b ≡ contour_told_at p room file at
+  no_count e =
+      ap Err (number_breaks room file at e) ∙ none (refused_in p room (drop at file) (contour_bad room (drop at file) (not_took room file at e)))
+
+  module _ {n next : ℕ} (e : number_at room file at ≡ Ok (n, next)) where
+    pub few_points_lem : n < fewest_points → Err (breaks_at at) ≡ contour_told_at p room file at
     few_points_lem k =
-        told_bad (λ c next. End next (room_after room c) (contour_area c)) Refused (contour_in p room) file at h
-        (refused_in p room (drop at file) (contour_few room (drop at file) n (drop next file) (took e).parses (lt-leb fewest_points n k)))
+        none (refused_in p room (drop at file) (contour_few room (drop at file) n (drop next file) (took e).parses (lt-leb fewest_points n k)))
 
     module _ (k : fewest_points ≤ n) where
       by_points : (contour_format room).parse (drop at file) ≡ (sequence point_format latest n origin).parse (drop next file)
       by_points = contour_points room (drop at file) n (drop next file) (took e).parses (le-leb fewest_points n k)
 
-      abbrev points_key : List Point → Bool × ℤ
-      points_key c = (fits_in p c, contour_area c)
+      module _ {b : PointsEnd} (f : points_at p n file next ≡ Ok b) where
+        points_read : (c : List Point) × ParsedAt (sequence point_format latest n origin) file next c b.at × (points_end p c b.at ≡ b)
+        points_read =
+            from_ok (points_end p) breaks_at (sequence point_format latest n origin) file next
+            (sequence_tails point_format latest point_tails n origin) (took e).inside (λ b. b.at) (λ c n. refl) f
 
-      points_read : {i : ℕ} {b : Bool} {area : ℤ} → points_at p n file next ≡ PointsEnd i b area
-          → (c : List Point) × ParsedAt (sequence point_format latest n origin) file next c i × (points_key c ≡ (b, area))
-      points_read {i} {b} {area} f =
-          from_good points_kinds points_key (sequence point_format latest n origin) file next
-          (sequence_tails point_format latest point_tails n origin) (took e).inside (b, area) i f
+        fits_is : fits_in p points_read.0 ≡ b.fits
+        fits_is = ap (λ (b : PointsEnd). b.fits) points_read.2
 
-      module _ {i : ℕ} {b : Bool} {area : ℤ} (f : points_at p n file next ≡ PointsEnd i b area) where
-        pub points_pass : {z : ℤ} → z ≡ area → b ≡ true → End i (room - n) z ≡ contour_told_at p room file at
+        area_is : contour_area points_read.0 ≡ b.area
+        area_is = ap (λ (b : PointsEnd). b.area) points_read.2
+
+        pub points_pass : {z : ℤ} → z ≡ b.area → b.fits ≡ true
+            → Ok (record { at = b.at; room = room - n; area = z }) ≡ contour_told_at p room file at
         points_pass same t =
-            let q = points_read f in
-            let m : length q.0 ≡ n = parsed_length point_format latest n origin (drop next file) q.0 (drop i file) q.1.parses in
-            let fits : fits_in p q.0 ≡ true = ap (λ k. k.0) q.2 ∙ t in
-            (λ j. End i (room - sym m j) ((same ∙ ap (λ k. k.1) (sym q.2)) j))
-            ∙ told_parsed (λ c next. End next (room_after room c) (contour_area c)) Refused (contour_in p room) file at q.0 i
-            (record { inside = q.1.inside; parses = parsed_in p room (drop at file) (by_points ∙ q.1.parses) fits })
+            let q = points_read in
+            let m : length q.0 ≡ n = parsed_length point_format latest n origin (drop next file) q.0 (drop b.at file) q.1.parses in
+            (λ j. Ok (record { at = b.at; room = room - sym m j; area = (same ∙ sym area_is) j }))
+            ∙ told_parsed (λ c next. Ok (contour_end room c next)) (λ q. Err (breaks_at q)) (contour_in p room) file at q.0 b.at
+            (record { inside = q.1.inside; parses = parsed_in p room (drop at file) (by_points ∙ q.1.parses) (fits_is ∙ t) })
 
         -- a contour that may not stand in the profile
-        pub points_unfit : b ≡ false → Refused at ≡ contour_told_at p room file at
-        points_unfit t =
-            let q = points_read f in
-            told_bad (λ c next. End next (room_after room c) (contour_area c)) Refused (contour_in p room) file at h
-            (unfit_in p room (drop at file) (by_points ∙ q.1.parses) (ap (λ k. k.0) q.2 ∙ t))
+        pub points_unfit : b.fits ≡ false → Err (breaks_at at) ≡ contour_told_at p room file at
+        points_unfit t = none (unfit_in p room (drop at file) (by_points ∙ points_read.1.parses) (fits_is ∙ t))
 
-      pub points_stop : {i : ℕ} → points_at p n file next ≡ PointsRefused i → Refused i ≡ contour_told_at p room file at
-      points_stop {i} f =
-          let q = from_off points_kinds points_key (sequence point_format latest n origin) file next (λ j k g. cc) i f in
-          told_off (λ c next. End next (room_after room c) (contour_area c)) Refused (contour_in p room) file at
+      pub points_stop : {b : Broken} → points_at p n file next ≡ Err b → Err b ≡ contour_told_at p room file at
+      points_stop f =
+          let q = from_off (points_end p) (sequence point_format latest n origin) file next f in
+          told_off (λ c next. Ok (contour_end room c next)) (λ q. Err (breaks_at q)) (contour_in p room) file at
           (record { rest = q.rest; parses = refused_in p room (drop at file) (by_points ∙ q.parses); place = q.place })
 
 -- ---- the loop over the contours: the room that is left, and the areas up to there
@@ -137,8 +128,11 @@ uncounted = tally most_points (pos 0)
 abbrev pub adding : Tally → List Point → Tally
 adding s c = tally (room_after s.room c) (s.sum +ℤ contour_area c)
 
-abbrev pub counted : Tally → ℕ → ContoursExtent
-counted s next = End next s.room s.sum
+abbrev pub counted : Tally → ℕ → Result ContoursEnd Broken
+counted s next = Ok (record { at = next; room = s.room; area = s.sum })
+
+abbrev pub off : ℕ → Result ContoursEnd Broken
+off q = Err (breaks_at q)
 
 module _ (p : Profile) where
   abbrev pub contour_after : Tally → Format (List Point)
@@ -155,7 +149,7 @@ module _ (p : Profile) where
   pub record ContoursChecked (file : List ℕ) (at count room : ℕ) (sum : ℤ) (i left : ℕ) : Type 0 where
     pub few : room ≤ most_points
     pub small : nat_abs sum ≤ (most_points - room) * largest_cross
-    pub run : Running contour_after adding counted Refused file (contours_at p count file at) (tally room sum) i left
+    pub run : Running contour_after adding counted off file (contours_at p count file at) (tally room sum) i left
 
   pub contours_checked : (file : List ℕ) (at count : ℕ) → at ≤ length file → ContoursChecked file at count most_points (pos 0) at count
   contours_checked file at count h =
@@ -164,22 +158,22 @@ module _ (p : Profile) where
         small = omega arith;
         run =
             running_of (contour_in p) (λ s. s.room) adding room_after (λ s c. refl) counted
-            (λ cs next. End next (state_after (contour_in p) room_after most_points cs) (layer_area cs)) Refused file uncounted at count
-            (λ cs next i. End next (room_after_lem uncounted cs i) ((sum_after uncounted cs ∙ no_more (layer_area cs)) i)) h;
+            (λ cs next. Ok (contours_end p cs next)) off file uncounted at count
+            (λ cs next i. Ok (record { at = next; room = room_after_lem uncounted cs i; area = (sum_after uncounted cs ∙ no_more (layer_area cs)) i })) h;
       }
     where
       no_more : (z : ℤ) → pos 0 +ℤ z ≡ z
       no_more z = omega (arith, ext, up-sum (pos 0) z)
 
 module _ {p : Profile} {file : List ℕ} {at count room : ℕ} {sum : ℤ} {i left : ℕ} (w : ContoursChecked p file at count room sum i left) where
-  pub contours_end : left ≤ 0 → End i room sum ≡ contours_at p count file at
-  contours_end h = run_end (contour_after p) adding counted Refused file left w.run h
+  pub contours_done : left ≤ 0 → Ok (record { at = i; room = room; area = sum }) ≡ contours_at p count file at
+  contours_done h = run_end (contour_after p) adding counted off file left w.run h
 
   pub sum_small : nat_abs sum ≤ most_points * largest_cross
   sum_small = omega (arith, w.small)
 
-  pub contour_stops : 0 < left → {e : ℕ} → contour_told_at p room file i ≡ Refused e → Refused e ≡ contours_at p count file at
-  contour_stops h {e} f = run_off (contour_after p) adding counted Refused file left w.run h e (contour_off p file i room e f)
+  pub contour_stops : 0 < left → {b : Broken} → contour_told_at p room file i ≡ Err b → Err b ≡ contours_at p count file at
+  contour_stops h {b} f = run_off (contour_after p) adding counted off file left w.run h b.at (contour_off p file i room f)
 
   -- after a contour that is parsed
   module _ (c : List Point) {next : ℕ} (q : ParsedAt (contour_in p room) file i c next) where
@@ -192,27 +186,27 @@ module _ {p : Profile} {file : List ℕ} {at count room : ℕ} {sum : ℤ} {i le
     small_area : nat_abs (contour_area c) ≤ most_points * largest_cross
     small_area = omega (arith, area_le, fits, w.few)
 
-    contour_passed : 0 < left → ContoursChecked p file at count (room_after room c) (sum +ℤ contour_area c) next (left - 1)
-    contour_passed h =
+    contour_passed : {rest : ℕ} → suc rest ≡ left → ContoursChecked p file at count (room_after room c) (sum +ℤ contour_area c) next rest
+    contour_passed {rest} h =
         record {
           few = omega (arith, w.few);
           small = omega (arith, abs_add sum (contour_area c), fits, area_le, w.small, w.few);
-          run = run_next (contour_after p) adding counted Refused file left w.run h c next q;
+          run = run_next (contour_after p) adding counted off file left w.run rest h c next q;
         }
 
   -- after one that is told of
-  module _ {next r : ℕ} {area : ℤ} (f : contour_told_at p room file i ≡ End next r area) where
-    pub area_small : nat_abs area ≤ most_points * largest_cross
+  module _ {b : ContoursEnd} (f : contour_told_at p room file i ≡ Ok b) where
+    pub area_small : nat_abs b.area ≤ most_points * largest_cross
     area_small =
-        let q = contour_read p file i room w.run.inside next r area f in
+        let q = contour_read p file i room w.run.inside b f in
         subst (λ (z : ℤ). nat_abs z ≤ most_points * largest_cross) q.1.area_is (small_area q.0 q.1.stands)
 
-    pub contour_passes : 0 < left → {z : ℤ} → z ≡ sum +ℤ area → ContoursChecked p file at count r z next (left - 1)
-    contour_passes h {z} same =
-        let q = contour_read p file i room w.run.inside next r area f in
+    pub contour_passes : {rest : ℕ} → suc rest ≡ left → {z : ℤ} → z ≡ sum +ℤ b.area → ContoursChecked p file at count b.room z b.at rest
+    contour_passes {rest} h {z} same =
+        let q = contour_read p file i room w.run.inside b f in
         let total : sum +ℤ contour_area q.0 ≡ z = ap (λ (y : ℤ). sum +ℤ y) q.1.area_is ∙ sym same in
-        subst (λ (k : ℕ). ContoursChecked p file at count k z next (left - 1)) q.1.room_after_lem
-        (subst (λ (y : ℤ). ContoursChecked p file at count (room_after room q.0) y next (left - 1)) total (contour_passed q.0 q.1.stands h))
+        subst (λ (k : ℕ). ContoursChecked p file at count k z b.at rest) q.1.room_after_lem
+        (subst (λ (y : ℤ). ContoursChecked p file at count (room_after room q.0) y b.at rest) total (contour_passed q.0 q.1.stands h))
 
 -- the sum in the machine: its bits are n, and the area is added
 module _ (n : ℕ) (area : ℤ) (h : nat_abs (to_z w64 n) ≤ most_points * largest_cross) (k : nat_abs area ≤ most_points * largest_cross) where
@@ -231,37 +225,39 @@ module _ (n : ℕ) (area : ℤ) (h : nat_abs (to_z w64 n) ≤ most_points * larg
 -- ---- all contours of a layer
 
 module _ (p : Profile) (file : List ℕ) (at : ℕ) (h : at ≤ length file) where
-  pub no_contours : number_at largest_word file at ≡ Bad → CountsRefused at ≡ counts_at p file at
+  pub no_contours : {b : Broken} → number_at largest_word file at ≡ Err b → Err b ≡ counts_at p file at
   unfolding contour_list_in
   no_contours e =
       let q = not_took largest_word file at e in
-      told_bad (λ cs next. CountsEnd next (length cs) (point_total cs) (layer_area cs)) CountsRefused (contour_list_in p) file at h (simp q)
+      ap Err (number_breaks largest_word file at e)
+      ∙ told_bad (λ cs next. Ok (counts_end cs next)) (λ q. Err (breaks_at q)) (contour_list_in p) file at h (simp q)
 
-  module _ {n next : ℕ} (e : number_at largest_word file at ≡ Value n next) where
-    pub contours_stop : {i : ℕ} → contours_at p n file next ≡ Refused i → CountsRefused i ≡ counts_at p file at
-    contours_stop {i} f =
-        let q = contours_off p file next n i f in
-        told_off (λ cs next. CountsEnd next (length cs) (point_total cs) (layer_area cs)) CountsRefused (contour_list_in p) file at
+  module _ {n next : ℕ} (e : number_at largest_word file at ≡ Ok (n, next)) where
+    pub contours_stop : {b : Broken} → contours_at p n file next ≡ Err b → Err b ≡ counts_at p file at
+    contours_stop f =
+        let q = contours_off p file next n f in
+        told_off (λ cs next. Ok (counts_end cs next)) (λ q. Err (breaks_at q)) (contour_list_in p) file at
         (record { rest = q.rest; parses = contours_by_count p file at n next e ∙ q.parses; place = q.place })
 
-    module _ {i room : ℕ} {sum : ℤ} (f : contours_at p n file next ≡ End i room sum) where
-      all_told : (cs : List (List Point)) × ContoursTold p file next n cs i room sum
-      all_told = contours_read_lem p file next n (took e).inside i room sum f
+    module _ {b : ContoursEnd} (f : contours_at p n file next ≡ Ok b) where
+      all_told : (cs : List (List Point)) × ContoursTold p file next n cs b.at b.room b.area
+      all_told = contours_read_lem p file next n (took e).inside b f
 
-      room_and_points : room + point_total all_told.0 ≡ most_points
+      room_and_points : b.room + point_total all_told.0 ≡ most_points
       room_and_points =
           let q = all_told.1 in
-          omega (arith, q.room_after_lem, room_left_lem p n most_points (drop next file) all_told.0 (drop i file) q.stands.parses)
+          omega (arith, q.room_after_lem, room_left_lem p n most_points (drop next file) all_told.0 (drop b.at file) q.stands.parses)
 
-      pub room_low : room ≤ most_points
+      pub room_low : b.room ≤ most_points
       room_low = omega (arith, room_and_points)
 
-      pub contours_pass : {z : ℤ} → z ≡ sum → CountsEnd i n (most_points - room) z ≡ counts_at p file at
+      pub contours_pass : {z : ℤ} → z ≡ b.area
+          → Ok (record { at = b.at; contours = n; points = most_points - b.room; area = z }) ≡ counts_at p file at
       contours_pass same =
           let q = all_told.1 in
           let cs = all_told.0 in
-          let a : n ≡ length cs = sym (parsed_length (contour_in p) room_after n most_points (drop next file) cs (drop i file) q.stands.parses) in
-          let b : most_points - room ≡ point_total cs = omega (arith, room_and_points) in
-          (λ j. CountsEnd i (a j) (b j) ((same ∙ sym q.area_is) j))
-          ∙ told_parsed (λ cs next. CountsEnd next (length cs) (point_total cs) (layer_area cs)) CountsRefused (contour_list_in p) file at cs i
+          let a : n ≡ length cs = sym (parsed_length (contour_in p) room_after n most_points (drop next file) cs (drop b.at file) q.stands.parses) in
+          let m : most_points - b.room ≡ point_total cs = omega (arith, room_and_points) in
+          (λ j. Ok (record { at = b.at; contours = a j; points = m j; area = (same ∙ sym q.area_is) j }))
+          ∙ told_parsed (λ cs next. Ok (counts_end cs next)) (λ q. Err (breaks_at q)) (contour_list_in p) file at cs b.at
           (record { inside = q.stands.inside; parses = contours_by_count p file at n next e ∙ q.stands.parses })

@@ -1,9 +1,10 @@
 -- A coordinate by its number, and the points of a contour one by one: a lemma for each return of `read_coordinate`, `check_full_points` and
 -- `check_clean_points`.
-use mathlib.Core.Path.{◌≡◌, refl, sym, ◌∙◌}
+use mathlib.Core.Path.{◌≡◌, refl, sym, ap, ◌∙◌}
+use Rattle.std.specs.Prelude.{Result, Ok, Err}
 use mathlib.Core.Bool.{Bool, true}
 use mathlib.Core.List.{List, [], ◌∷◌}
-use Prim.Native.Nat.{ℕ, ◌-◌, ◌<◌, ◌≤◌}
+use Prim.Native.Nat.{ℕ, suc, ◌-◌, ◌<◌, ◌≤◌}
 use native.Mathlib.Omega.{arith}
 use lib.ListN.{length, drop}
 use lib.IntN.{ℤ, pos, negsuc, nat_abs, ◌+ℤ◌}
@@ -25,18 +26,16 @@ use Rattle.polygons.specs.ContourAreas.{contour_area}
 use Rattle.area_sum.specs.Summing.{unsummed, summing, closing, summed_all, SumOf, SumSmall}
 use Rattle.area_sum.specs.SummingLaws.{summed_area, sum_start, sum_next, sum_within}
 use Rattle.area_sum.specs.declared.AreaSum.{AreaSum}
-use Rattle.file_formats.specs.Formats.{Format, state_after}
+use Rattle.file_formats.specs.Formats.{Format, refused, state_after}
 use Rattle.file_formats.specs.Numbers.{largest_word, unzigzag}
 use Rattle.file_formats.specs.LayerFile.{coordinate_format, point_format, origin, latest}
 use Rattle.file_formats.specs.LayerFileLaws.{coordinate_bad, coordinate_far, coordinate_near, coordinate_in, point_no_x, point_no_y, point_both}
-use Rattle.file_formats.specs.Positions.{number_at}
-use Rattle.file_formats.specs.PositionLaws.{took, not_took, place_drop, ParsedAt}
-use Rattle.file_formats.specs.declared.Number.TheVariants.{Value, Bad as NumberBad}
-use Rattle.file_check.specs.declared.Coordinate.TheVariants.{At, Bad}
-use Rattle.file_check.specs.Answers.{coordinate_at, points_at}
-use Rattle.file_check.specs.AnswerLaws.{told_parsed, told_refused, Off, coordinate_read, coordinate_off}
-use Rattle.file_check.specs.declared.PointsExtent.{PointsExtent}
-use Rattle.file_check.specs.declared.PointsExtent.TheVariants.{End as PointsEnd, Refused as PointsRefused}
+use Rattle.file_formats.specs.Positions.{breaks_at, number_at}
+use Rattle.file_formats.specs.PositionLaws.{took, not_took, number_breaks, place_drop, ParsedAt}
+use Rattle.file_formats.specs.declared.Broken.{Broken}
+use Rattle.file_check.specs.Answers.{coordinate_at, points_at, points_end}
+use Rattle.file_check.specs.AnswerLaws.{told_parsed, told_refused, Off, coordinate_read, coordinate_off, coordinate_breaks}
+use Rattle.file_check.specs.declared.PointsEnd.{PointsEnd}
 use Rattle.file_check.specs.RunLaws.{Running, run_off, run_next, run_end, running_of}
 
 -- ---- coordinate range
@@ -60,19 +59,20 @@ bits_near z h = rw (bits_is z h) h
 -- ---- a coordinate
 
 module _ (p : ℤ) (file : List ℕ) (at : ℕ) where
-  pub no_number : number_at largest_word file at ≡ NumberBad → Bad ≡ coordinate_at p file at
-  no_number e = told_refused At (λ q. Bad) (coordinate_format p) file at (drop at file) (coordinate_bad p (drop at file) (not_took largest_word file at e))
+  none : (coordinate_format p).parse (drop at file) ≡ refused (drop at file) → Err (breaks_at at) ≡ coordinate_at p file at
+  none e = told_refused (λ z next. Ok (z, next)) (λ q. Err (breaks_at at)) (coordinate_format p) file at (drop at file) e
 
-  module _ {m next : ℕ} (e : number_at largest_word file at ≡ Value m next) where
-    pub far : largest < nat_abs (p +ℤ unzigzag m) → Bad ≡ coordinate_at p file at
-    far h =
-        told_refused At (λ q. Bad) (coordinate_format p) file at (drop at file)
-        (coordinate_far p (drop at file) m (drop next file) (took e).parses (lt-leb (nat_abs (p +ℤ unzigzag m)) largest h))
+  pub no_number : {b : Broken} → number_at largest_word file at ≡ Err b → Err b ≡ coordinate_at p file at
+  no_number e = ap Err (number_breaks largest_word file at e) ∙ none (coordinate_bad p (drop at file) (not_took largest_word file at e))
 
-    pub near : nat_abs (p +ℤ unzigzag m) ≤ largest → At (p +ℤ unzigzag m) next ≡ coordinate_at p file at
+  module _ {m next : ℕ} (e : number_at largest_word file at ≡ Ok (m, next)) where
+    pub far : largest < nat_abs (p +ℤ unzigzag m) → Err (breaks_at at) ≡ coordinate_at p file at
+    far h = none (coordinate_far p (drop at file) m (drop next file) (took e).parses (lt-leb (nat_abs (p +ℤ unzigzag m)) largest h))
+
+    pub near : nat_abs (p +ℤ unzigzag m) ≤ largest → Ok (p +ℤ unzigzag m, next) ≡ coordinate_at p file at
     near h =
         let w = took e in
-        told_parsed At (λ q. Bad) (coordinate_format p) file at (p +ℤ unzigzag m) next
+        told_parsed (λ z next. Ok (z, next)) (λ q. Err (breaks_at at)) (coordinate_format p) file at (p +ℤ unzigzag m) next
         (record { inside = w.inside; parses = coordinate_near p (drop at file) m (drop next file) w.parses (le-leb (nat_abs (p +ℤ unzigzag m)) largest h) })
 
 -- ---- the points in turn: the one before, and what all before have shown and come to
@@ -105,8 +105,11 @@ module _ (p : Profile) where
   abbrev pub passing : Sight → Point → Sight
   passing s q = record { prior = q; seen = seeing_in p s.seen s.prior q; sum = summing s.sum s.prior q }
 
-  abbrev pub shown : Sight → ℕ → PointsExtent
-  shown s next = PointsEnd next (seen_fits p s.seen s.prior) (closing s.sum s.prior)
+  abbrev pub shown : Sight → ℕ → Result PointsEnd Broken
+  shown s next = Ok (record { at = next; fits = seen_fits p s.seen s.prior; area = closing s.sum s.prior })
+
+abbrev pub off : ℕ → Result PointsEnd Broken
+off q = Err (breaks_at q)
 
 -- after all of them it is known whether the contour may stand in the profile, and its area
 shown_clean : (s : Sight) (c : List Point)
@@ -142,7 +145,7 @@ pub record PointsChecked (p : Profile) (file : List ℕ) (at count : ℕ) (seen 
   pub x_in : nat_abs x ≤ largest
   pub y_in : nat_abs y ≤ largest
   pub sum_in : SumOf (count - left) sum
-  pub run : Running point_after (passing p) (shown p) PointsRefused file (points_at p count file at) (sight x y seen sum) i left
+  pub run : Running point_after (passing p) (shown p) off file (points_at p count file at) (sight x y seen sum) i left
 
 points_begun : (p : Profile) (file : List ℕ) (at count : ℕ) → (at ≤ length file) × (count ≤ most_points)
     → PointsChecked p file at count unseen unsummed (pos 0) (pos 0) at count
@@ -155,8 +158,8 @@ points_begun p file at count h =
       sum_in = sum_within sum_start (omega arith);
       run =
           running_of point_format (λ s. s.prior) (passing p) latest (λ s q. refl) (shown p)
-          (λ c next. PointsEnd next (fits_in p c) (contour_area c)) PointsRefused file begun at count
-          (λ c next i. PointsEnd next (shown_fits p c i) (shown_area p c i)) h.0;
+          (λ c next. Ok (points_end p c next)) off file begun at count
+          (λ c next i. Ok (record { at = next; fits = shown_fits p c i; area = shown_area p c i })) h.0;
     }
 
 pub points_checked : (p : Profile) (file : List ℕ) (at count : ℕ) {seen : ContourSeen} {sum : AreaSum} → seen ≡ unseen → sum ≡ unsummed
@@ -169,63 +172,65 @@ module _ {p : Profile} {file : List ℕ} {at count : ℕ} {seen : ContourSeen} {
   pub sum_small : SumSmall sum
   sum_small = sum_within w.sum_in (omega (arith, w.few))
 
-  pub points_end : left ≤ 0 → {b : Bool} → b ≡ seen_fits p seen (point x y) → {area : ℤ} → area ≡ closing sum (point x y)
-      → PointsEnd i b area ≡ points_at p count file at
-  points_end h e f = (λ j. PointsEnd i (e j) (f j)) ∙ run_end point_after (passing p) (shown p) PointsRefused file left w.run h
+  pub points_done : left ≤ 0 → {e : PointsEnd} → e.at ≡ i → e.fits ≡ seen_fits p seen (point x y) → e.area ≡ closing sum (point x y)
+      → Ok e ≡ points_at p count file at
+  points_done h d e f =
+      (λ j. Ok (record { at = d j; fits = e j; area = f j })) ∙ run_end point_after (passing p) (shown p) off file left w.run h
 
   module _ (h : 0 < left) where
-    stops : (e : ℕ) → Off (point_format (point x y)) file i e → PointsRefused e ≡ points_at p count file at
-    stops e o = run_off point_after (passing p) (shown p) PointsRefused file left w.run h e o
+    stops : {b : Broken} → Off (point_format (point x y)) file i b.at → Err b ≡ points_at p count file at
+    stops {b} o = run_off point_after (passing p) (shown p) off file left w.run h b.at o
 
-    pub no_x : coordinate_at x file i ≡ Bad → PointsRefused i ≡ points_at p count file at
+    pub no_x : {b : Broken} → coordinate_at x file i ≡ Err b → Err b ≡ points_at p count file at
     no_x e =
-        stops i
+        stops
         (record {
           rest = drop i file;
           parses = point_no_x (point x y) (drop i file) (coordinate_off x file i e);
-          place = sym (place_drop file i w.run.inside);
+          place = ap (λ (b : Broken). b.at) (coordinate_breaks x file i e) ∙ sym (place_drop file i w.run.inside);
         })
 
-    module _ {nx : ℤ} {j : ℕ} (e : coordinate_at x file i ≡ At nx j) where
+    module _ {nx : ℤ} {j : ℕ} (e : coordinate_at x file i ≡ Ok (nx, j)) where
       first : ParsedAt (coordinate_format x) file i nx j
       first = coordinate_read x file i w.run.inside nx j e
 
       pub x_near : nat_abs nx ≤ largest
       x_near = coordinate_in x (drop i file) nx (drop j file) first.parses
 
-      pub no_y : coordinate_at y file j ≡ Bad → PointsRefused j ≡ points_at p count file at
+      pub no_y : {b : Broken} → coordinate_at y file j ≡ Err b → Err b ≡ points_at p count file at
       no_y f =
-          stops j
+          stops
           (record {
             rest = drop j file;
             parses = point_no_y (point x y) (drop i file) nx (drop j file) first.parses (coordinate_off y file j f);
-            place = sym (place_drop file j first.inside);
+            place = ap (λ (b : Broken). b.at) (coordinate_breaks y file j f) ∙ sym (place_drop file j first.inside);
           })
 
-      module _ {ny : ℤ} {k : ℕ} (f : coordinate_at y file j ≡ At ny k) where
+      module _ {ny : ℤ} {k : ℕ} (f : coordinate_at y file j ≡ Ok (ny, k)) where
         second : ParsedAt (coordinate_format y) file j ny k
         second = coordinate_read y file j first.inside ny k f
 
         pub y_near : nat_abs ny ≤ largest
         y_near = coordinate_in y (drop j file) ny (drop k file) second.parses
 
-        point_passed : PointsChecked p file at count (seeing_in p seen (point x y) (point nx ny)) (summing sum (point x y) (point nx ny)) nx ny k (left - 1)
-        point_passed =
-            record {
-              few = w.few;
-              left_in = omega (arith, w.left_in);
-              x_in = x_near;
-              y_in = y_near;
-              sum_in = sum_within (sum_next (point x y) (point nx ny) w.sum_in (w.x_in, w.y_in) (x_near, y_near)) (omega (arith, w.left_in));
-              run =
-                  run_next point_after (passing p) (shown p) PointsRefused file left w.run h (point nx ny) k
-                  (record {
-                    inside = second.inside;
-                    parses = point_both (point x y) (drop i file) nx (drop j file) first.parses ny (drop k file) second.parses;
-                  });
-            }
+        module _ {rest : ℕ} (one : suc rest ≡ left) where
+          point_passed : PointsChecked p file at count (seeing_in p seen (point x y) (point nx ny)) (summing sum (point x y) (point nx ny)) nx ny k rest
+          point_passed =
+              record {
+                few = w.few;
+                left_in = omega (arith, w.left_in);
+                x_in = x_near;
+                y_in = y_near;
+                sum_in = sum_within (sum_next (point x y) (point nx ny) w.sum_in (w.x_in, w.y_in) (x_near, y_near)) (omega (arith, w.left_in));
+                run =
+                    run_next point_after (passing p) (shown p) off file left w.run rest one (point nx ny) k
+                    (record {
+                      inside = second.inside;
+                      parses = point_both (point x y) (drop i file) nx (drop j file) first.parses ny (drop k file) second.parses;
+                    });
+              }
 
-        pub next_point_lem : {seen' : ContourSeen} {sum' : AreaSum} → seen' ≡ seeing_in p seen (point x y) (point nx ny)
-            → sum' ≡ summing sum (point x y) (point nx ny)
-            → PointsChecked p file at count seen' sum' nx ny k (left - 1)
-        next_point_lem g s = rw (g, s) point_passed
+          pub next_point_lem : {seen' : ContourSeen} {sum' : AreaSum} → seen' ≡ seeing_in p seen (point x y) (point nx ny)
+              → sum' ≡ summing sum (point x y) (point nx ny)
+              → PointsChecked p file at count seen' sum' nx ny k rest
+          next_point_lem g s = rw (g, s) point_passed

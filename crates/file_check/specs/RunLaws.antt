@@ -30,11 +30,13 @@ module _ {S A B : Type 0} (F : S → Format A) (step : S → A → S) (good : S 
     run_off zero w h e o = absurd (omega arith)
     run_off (suc left) w h e o = let p = o.parses in ap bad o.place ∙ (simp p at w.same)
 
-    pub run_next : (left : ℕ) → Running total s i left → 0 < left → (a : A) (j : ℕ) → ParsedAt (F s) file i a j → Running total (step s a) j (left - 1)
+    -- `left` is one more than what is left after the value
+    pub run_next : (left : ℕ) → Running total s i left → (rest : ℕ) → suc rest ≡ left → (a : A) (j : ℕ) → ParsedAt (F s) file i a j
+        → Running total (step s a) j rest
     unfolding parse_all told_at
-    run_next zero w h a j p = absurd (omega arith)
-    run_next (suc left) w h a j p =
-        let n : suc left - 1 ≡ left = omega arith in
+    run_next zero w rest h a j p = absurd (omega arith)
+    run_next (suc left) w rest h a j p =
+        let n : rest ≡ left = omega arith in
         let q = p.parses in
         rw n (record { inside = p.inside; same = simp (q, told_mapped) at w.same })
 

@@ -1,57 +1,63 @@
 -- `check_clean_points` meets its contract: the loop keeps what the points before have shown and come to.
-use mathlib.Core.Path.{◌≡◌, sym, ◌∙◌}
+use mathlib.Core.Path.{◌≡◌, refl, sym, ◌∙◌}
 use borrow.Author.Rules.{rules}
-use Prim.Native.Nat.{◌≤◌}
+use native.Mathlib.Omega.{arith}
+use Prim.Native.Nat.{◌-◌, ◌≤◌}
+use Rattle.std.specs.Prelude.{Ok}
 use lib.IntN.{ℤ, nat_abs}
 use mir.Syntax.{w32, w64}
 use mir.Val.{to_z, of_z}
 use Rattle.laws.specs.Machine.{same}
 use Rattle.mesh.specs.Corners.{largest}
+use Rattle.mesh.proofs.Raising.{raised}
 use Rattle.cleaning.specs.declared.Profile.TheVariants.{Clean}
 use Rattle.file_check.specs.Answers.{coordinate_at}
-use Rattle.file_check.specs.declared.Coordinate.TheVariants.{At}
-use Rattle.file_check.proofs.PointSteps.{bits_is, bits_near, PointsChecked, points_checked, sum_small, points_end, no_x, no_y, x_near, y_near}
+use Rattle.file_check.proofs.PointSteps.{bits_is, bits_near, PointsChecked, points_checked, sum_small, points_done, no_x, no_y, x_near, y_near}
 use Rattle.file_check.proofs.PointSteps.{next_point_lem}
 use Rattle.file_check.proofs.unchecked_position.check_clean_points.Goals as goal
-use Rattle.file_check.proofs.unchecked_position.check_clean_points.Goals.{In-At-b}
+use Rattle.file_check.proofs.unchecked_position.check_clean_points.Goals.{In_ok-ny}
 
-pub loop-left-init : goal.loop-left-init
-loop-left-init c = points_checked Clean _ _ _ c.see_none-seen.ensures.value c.sum_none-area.ensures.value c.requires
+pub loop-init : goal.loop-init
+loop-init c =
+    let all : c.args.count - 0 ≡ c.args.count = omega arith in
+    rw all (points_checked Clean _ _ _ c.see_none-seen.ensures.value c.sum_none-area.ensures.value c.requires)
 
-pub read_coordinate-a-requires : goal.read_coordinate-a-requires
-read_coordinate-a-requires c = c.loop-left.invariant.x_in
+pub read_coordinate-requires : goal.read_coordinate-requires
+read_coordinate-requires c = c.loop.invariant.x_in
 
-pub returns-in_default : goal.returns-in_default
-returns-in_default c = record { value = no_x c.loop-left.invariant c.loop-left-test.true (sym c.read_coordinate-a.ensures.value ∙ c.in_default.is) }
+pub returns-in_err-nx : goal.returns-in_err-nx
+returns-in_err-nx c = record {
+  value = raised _ c.from_residual.ensures.1 ∙ no_x c.loop.invariant (omega arith) (sym c.in_err-nx.ensures.value);
+}
 
-pub read_coordinate-b-requires : goal.read_coordinate-b-requires
-read_coordinate-b-requires c = c.loop-left.invariant.y_in
+pub read_coordinate-requires-in-loop : goal.read_coordinate-requires-in-loop
+read_coordinate-requires-in-loop c = c.loop.invariant.y_in
 
-pub returns-in_default-b : goal.returns-in_default-b
-returns-in_default-b c = record {
-  value = no_y c.loop-left.invariant c.loop-left-test.true (sym c.read_coordinate-a.ensures.value ∙ c.in-At.is)
-      (sym c.read_coordinate-b.ensures.value ∙ c.in_default-b.is);
+pub returns-in_err-ny : goal.returns-in_err-ny
+returns-in_err-ny c = record {
+  value = raised _ c.from_residual-in_err-ny.ensures.1
+      ∙ no_y c.loop.invariant (omega arith) (sym c.in_ok-nx.ensures.value) (sym c.in_err-ny.ensures.value);
 }
 
 -- both coordinates read
-module _ (c : In-At-b) where
+module _ (c : In_ok-ny) where
   abbrev nx : ℤ
-  nx = c.in-At.nx
+  nx = c.in_ok-nx.nx
 
   abbrev ny : ℤ
-  ny = c.in-At-b.ny
+  ny = c.in_ok-ny.ny
 
-  first : coordinate_at (to_z w32 c.loop-left.x-bits) c.args.file.now c.loop-left.i ≡ At nx c.in-At.k
-  first = sym c.read_coordinate-a.ensures.value ∙ c.in-At.is
+  first : coordinate_at (to_z w32 c.loop.x-bits) c.args.file.now c.loop.i ≡ Ok (nx, c.in_ok-nx.k)
+  first = sym c.in_ok-nx.ensures.value
 
-  second : coordinate_at (to_z w32 c.loop-left.y-bits) c.args.file.now c.in-At.k ≡ At ny c.in-At-b.next
-  second = sym c.read_coordinate-b.ensures.value ∙ c.in-At-b.is
+  second : coordinate_at (to_z w32 c.loop.y-bits) c.args.file.now c.in_ok-nx.k ≡ Ok (ny, c.in_ok-ny.next)
+  second = sym c.in_ok-ny.ensures.value
 
   nx-in : nat_abs nx ≤ largest
-  nx-in = x_near c.loop-left.invariant c.loop-left-test.true first
+  nx-in = x_near c.loop.invariant (omega arith) first
 
   ny-in : nat_abs ny ≤ largest
-  ny-in = y_near c.loop-left.invariant c.loop-left-test.true first second
+  ny-in = y_near c.loop.invariant (omega arith) first second
 
   x_is : to_z w32 (of_z w32 nx) ≡ nx
   x_is = bits_is nx nx-in
@@ -61,25 +67,25 @@ module _ (c : In-At-b) where
 
 pub sum_point-area-requires : goal.sum_point-area-requires
 sum_point-area-requires c =
-    let w = c.loop-left.invariant in
-    let b = (goal.at.sum_point-area-requires c).In-At-b in
+    let w = c.loop.invariant in
+    let b = (goal.at.sum_point-area-requires c).In_ok-ny in
     search (rules, sum_small w, w.x_in, w.y_in, bits_near (nx b) (nx-in b), bits_near (ny b) (ny-in b))
 
-pub loop-left-preserved : goal.loop-left-preserved
-loop-left-preserved c =
-    let b = (goal.at.loop-left-preserved c).In-At-b in
+pub loop-preserved : goal.loop-preserved
+loop-preserved c =
+    let b = (goal.at.loop-preserved c).In_ok-ny in
     simp (x_is b, y_is b)
-    (next_point_lem c.loop-left.invariant c.loop-left-test.true (first b) (second b)
+    (next_point_lem c.loop.invariant (omega arith) (first b) (second b) (omega arith)
     (simp (x_is b, y_is b) at c.see-seen.ensures.value)
     (simp (x_is b, y_is b) at c.sum_point-area.ensures.value))
 
 pub sum_closed-requires : goal.sum_closed-requires
 sum_closed-requires c =
-    let w = c.loop-left.invariant in
+    let w = c.loop.invariant in
     search (rules, sum_small w, w.x_in, w.y_in)
 
 pub returns : goal.returns
 returns c = record {
-  value = points_end c.loop-left.invariant c.loop-left-test.false c.seen_clean.ensures.value
+  value = points_done c.loop.invariant (omega arith) refl c.seen_clean.ensures.value
       (same w64 c.sum_closed.result c.sum_closed.type_inv ∙ c.sum_closed.ensures.value);
 }

@@ -1,41 +1,43 @@
 -- `check_contours` meets its contract: the loop keeps the room that is left, and the areas up to there.
 use mathlib.Core.Path.{◌≡◌, sym, ◌∙◌}
-use lib.IntN.{ℤ}
-use mir.Syntax.{w64}
-use mir.Val.{to_z}
+use native.Mathlib.Omega.{arith}
+use Prim.Native.Nat.{◌-◌}
+use Rattle.std.specs.Prelude.{Ok}
+use Rattle.mesh.proofs.Raising.{raised}
 use Rattle.file_check.specs.Answers.{contour_told_at}
-use Rattle.file_check.specs.declared.ContoursExtent.TheVariants.{End}
-use Rattle.file_check.proofs.ContourSteps.{ContoursChecked, contours_checked, contours_end, sum_small, area_small, contour_stops, contour_passes}
+use Rattle.file_check.proofs.ContourSteps.{ContoursChecked, contours_checked, contours_done, sum_small, area_small, contour_stops, contour_passes}
 use Rattle.file_check.proofs.ContourSteps.{adding_fits, adding_is}
 use borrow.Author.Rules.{rules}
 use Rattle.file_check.proofs.unchecked_position.check_contours.Goals as goal
-use Rattle.file_check.proofs.unchecked_position.check_contours.Goals.{In-End}
+use Rattle.file_check.proofs.unchecked_position.check_contours.Goals.{In_ok-c}
 
-pub loop-left-init : goal.loop-left-init
-loop-left-init c = contours_checked c.args.profile _ _ _ c.requires
+pub loop-init : goal.loop-init
+loop-init c =
+    let all : c.args.count - 0 ≡ c.args.count = omega arith in
+    rw all (contours_checked c.args.profile _ _ _ c.requires)
 
-pub check_contour-c-requires : goal.check_contour-c-requires
-check_contour-c-requires c = search (rules, c.loop-left.invariant.run.inside, c.loop-left.invariant.few)
+pub check_contour-requires : goal.check_contour-requires
+check_contour-requires c = search (rules, c.loop.invariant.run.inside, c.loop.invariant.few)
+
+pub returns-in_err-c : goal.returns-in_err-c
+returns-in_err-c c = record {
+  value = raised _ c.from_residual.ensures.1 ∙ contour_stops c.loop.invariant (omega arith) (sym c.in_err-c.ensures.value);
+}
 
 -- the contour checked
-module _ (c : In-End) where
-  abbrev area : ℤ
-  area = c.in-End.area
-
-  contour : contour_told_at c.args.profile c.loop-left.room c.args.file.now c.loop-left.i
-      ≡ End c.in-End.next c.in-End.r area
-  contour = sym c.check_contour-c.ensures.value ∙ c.in-End.is
+contour : (c : In_ok-c) → contour_told_at c.args.profile c.loop.room c.args.file.now c.loop.i ≡ Ok c.in_ok-c.c
+contour c = sym c.in_ok-c.ensures.value
 
 pub overflow_add-sum : goal.overflow_add-sum
-overflow_add-sum c = let w = c.loop-left.invariant in adding_fits c.loop-left.sum-bits (area c) (sum_small w) (area_small w (contour c))
+overflow_add-sum c =
+    let w = c.loop.invariant in
+    adding_fits c.loop.sum-bits c.in_ok-c.c.area (sum_small w) (area_small w (contour (goal.at.overflow_add-sum c).In_ok-c))
 
-pub returns-in-Refused : goal.returns-in-Refused
-returns-in-Refused c = record { value = contour_stops c.loop-left.invariant c.loop-left-test.true (sym c.check_contour-c.ensures.value ∙ c.in-Refused.is) }
-
-pub loop-left-preserved : goal.loop-left-preserved
-loop-left-preserved c =
-    let w = c.loop-left.invariant in
-    contour_passes w (contour c) c.loop-left-test.true (adding_is c.loop-left.sum-bits (area c) (sum_small w) (area_small w (contour c)))
+pub loop-preserved : goal.loop-preserved
+loop-preserved c =
+    let w = c.loop.invariant in
+    let d = contour (goal.at.loop-preserved c).In_ok-c in
+    contour_passes w d (omega arith) (adding_is c.loop.sum-bits c.in_ok-c.c.area (sum_small w) (area_small w d))
 
 pub returns : goal.returns
-returns c = record { value = contours_end c.loop-left.invariant c.loop-left-test.false }
+returns c = record { value = contours_done c.loop.invariant (omega arith) }

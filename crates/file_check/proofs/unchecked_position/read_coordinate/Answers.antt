@@ -1,6 +1,7 @@
 -- `read_coordinate` meets its contract.
 use mathlib.Core.Path.{◌≡◌, sym, ap, ◌∙◌}
 use Prim.Native.Nat.{ℕ, ◌≤◌}
+use Rattle.std.specs.Prelude.{Ok}
 use mathlib.Core.Bool.{false}
 use native.Mathlib.Omega.{arith}
 use lib.IntN.{ℤ, pos, negsuc, nat_abs, ◌+ℤ◌}
@@ -9,19 +10,18 @@ use mir.Val.{to_z}
 use lib.Signed.{lt_z}
 use Rattle.laws.specs.Machine.{Rd, arg, got, lit, bounded, cast, cast_ok, add, add_ok, lt_true, lt_false}
 use Rattle.mesh.specs.Corners.{largest}
+use Rattle.mesh.proofs.Raising.{raised}
 use Rattle.file_formats.specs.Numbers.{largest_word, unzigzag}
 use Rattle.file_formats.specs.NumberLaws.{unzigzag_abs}
 use Rattle.file_formats.specs.Positions.{number_at}
 use Rattle.file_formats.specs.PositionLaws.{took}
-use Rattle.file_formats.specs.declared.Number.TheVariants.{Value}
-use Rattle.file_check.specs.declared.Coordinate.TheVariants.{At}
 use Rattle.file_check.proofs.PointSteps.{too_low, too_high, coordinate_in_range, no_number, far, near}
 use borrow.Author.Rules.{rules}
 use Rattle.file_check.proofs.unchecked_position.read_coordinate.Goals as goal
 use Rattle.file_check.proofs.unchecked_position.read_coordinate.Goals.{After-signed_of}
 
-pub returns-in_default : goal.returns-in_default
-returns-in_default c = record { value = no_number _ _ _ (sym c.read_number-n.ensures.value ∙ c.in_default.is) }
+pub returns-in_err-m : goal.returns-in_err-m
+returns-in_err-m c = record { value = raised _ c.from_residual.ensures.1 ∙ no_number _ _ _ (sym c.in_err-m.ensures.value) }
 
 pub overflow_cast-z : goal.overflow_cast-z
 overflow_cast-z c =
@@ -30,13 +30,13 @@ overflow_cast-z c =
 -- the number read, and the coordinate that it makes
 module _ (c : After-signed_of) where
   abbrev m : ℕ
-  m = c.in-Value.m
+  m = c.in_ok-m.m
 
   abbrev next : ℕ
-  next = c.in-Value.next
+  next = c.in_ok-m.next
 
-  read : number_at largest_word c.args.file.now c.args.at ≡ Value m next
-  read = sym c.read_number-n.ensures.value ∙ c.in-Value.is
+  read : number_at largest_word c.args.file.now c.args.at ≡ Ok (m, next)
+  read = sym c.in_ok-m.ensures.value
 
   abbrev before : Rd w64 c.args.before largest
   before = cast (arg {w = w32} c.ranges.before c.requires) tt
@@ -75,5 +75,5 @@ returns c =
     let at = (goal.at.returns c).After-signed_of in
     let y = z at in
     let k = within y c.if-z-lt-LEAST_COORDINATE_64.false c.if-z-gt-LARGEST_COORDINATE_64.false in record {
-      value = ap (λ (y : ℤ). At y (next at)) (cast {w' = w32} (bounded y k) tt).is ∙ near _ _ _ (read at) k;
+      value = ap (λ (y : ℤ). Ok (y, next at)) (cast {w' = w32} (bounded y k) tt).is ∙ near _ _ _ (read at) k;
     }
