@@ -77,7 +77,8 @@ module _ (file : List ℕ) (at top : ℕ) where
     unfolding number_at parse_number
     more g b k =
         simp (drop-cons file at 0 h, le-ltb (get_or file at 0) 128 g, add-one at)
-        (join (length file) at (suc at) top (get_or file at 0) (get_or file at 0 ∷ drop (suc at) file) (drop (suc at) file) (parse_number (drop (suc at) file)) g b k)
+        (join (length file) at (suc at) top (get_or file at 0) (get_or file at 0 ∷ drop (suc at) file) (drop (suc at) file)
+        (parse_number (drop (suc at) file)) g b k)
 
 -- ---- the loop
 

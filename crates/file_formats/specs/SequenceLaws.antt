@@ -73,7 +73,8 @@ module _ {S A : Type 0} {F : S → Format A} {step : S → A → S} {file : List
   check_stop (suc left) w h r e = simp e at w.same
 
   -- a value that is refused from its first byte on
-  pub check_bad : (left : ℕ) → SequenceCheck F step file total s i left → 0 < left → (F s).parse (drop i file) ≡ refused (drop i file) → Err (breaks_at i) ≡ total
+  pub check_bad : (left : ℕ) → SequenceCheck F step file total s i left → 0 < left → (F s).parse (drop i file) ≡ refused (drop i file)
+      → Err (breaks_at i) ≡ total
   check_bad left w h e = ap (λ (k : ℕ). Err (breaks_at k)) (sym (place_drop file i w.inside)) ∙ check_stop left w h (drop i file) e
 
   pub check_next : (left : ℕ) → SequenceCheck F step file total s i left → 0 < left → (a : A) (j : ℕ) → (F s).parse (drop i file) ≡ parsed a (drop j file)
