@@ -182,11 +182,11 @@ pub fn check_layer(profile: Profile, file: &[u8], at: usize, low: i64) -> Result
     ensures value { result ≡ layer_told_at profile low file.now at }
 {
     let (height, j) = read_height(file, at, low)?;
-    let c = check_counted(profile, file, j)?;
+    let counts = check_counted(profile, file, j)?;
     Ok(LayerEnd {
-        at: c.at,
+        at: counts.at,
         height,
-        area: c.area,
+        area: counts.area,
     })
 }
 

@@ -28,14 +28,14 @@ pub check_counted-requires : goal.check_counted-requires
 check_counted-requires c =
     height_in c.args.profile _ _ _ c.requires (answer (goal.at.check_counted-requires c).After-read_height ∙ c.in_ok-height.was)
 
-pub returns-in_err-c : goal.returns-in_err-c
-returns-in_err-c c = record {
-  value = raised _ c.from_residual-in_err-c.ensures.1
-      ∙ contours_stop _ _ _ _ c.requires (answer (goal.at.returns-in_err-c c).After-read_height ∙ c.in_ok-height.was) (sym c.in_err-c.ensures.value);
+pub returns-in_err-counts : goal.returns-in_err-counts
+returns-in_err-counts c = record {
+  value = raised _ c.from_residual-in_err-counts.ensures.1
+      ∙ contours_stop _ _ _ _ c.requires (answer (goal.at.returns-in_err-counts c).After-read_height ∙ c.in_ok-height.was) (sym c.in_err-counts.ensures.value);
 }
 
 pub returns : goal.returns
 returns c = record {
   value = contours_pass _ _ _ _ c.requires (answer (goal.at.returns c).After-read_height ∙ c.in_ok-height.was)
-      (sym c.in_ok-c.ensures.value) (same w64 c.in_ok-height.height (omega arith)) (same w64 c.in_ok-c.c.area (omega arith));
+      (sym c.in_ok-counts.ensures.value) (same w64 c.in_ok-height.height (omega arith)) (same w64 c.in_ok-counts.counts.area (omega arith));
 }
