@@ -1,45 +1,29 @@
 -- Read part put together: its answer and the three tables at each return.
-use Prim.Native.Nat.{ℕ, ◌/◌, ◌<◌, ◌≤◌}
+use Prim.Native.Nat.{ℕ, ◌/◌, ◌≤◌}
 use mathlib.Core.Path.{◌≡◌, refl, sym, ap, ◌∙◌, subst}
 use mathlib.Core.Bool.{Bool, true, false}
 use mathlib.Core.List.{List}
+use Rattle.std.specs.Prelude.{Result, Ok, Err}
 use native.Mathlib.Omega.{arith}
-use borrow.Author.Tests.{le-leb, lt-leb}
-use lib.Dec.{leb}
 use lib.ListN.{length, drop}
 use lib.IntN.{ℤ}
 use Rattle.laws.specs.Tables.{overwrite}
 use Rattle.mesh.specs.Operation.{gives, fine}
 use Rattle.mesh.specs.OperationLaws.{does_refuse, does_give}
 use Rattle.mesh.specs.Refusals.{refusal}
+use Rattle.mesh.specs.declared.Refusal.{Refusal}
 use Rattle.mesh.specs.declared.Refusal.TheVariants.{Room, File}
 use Rattle.file_formats.specs.Formats.{alike, stay, broken}
 use Rattle.file_formats.specs.Numbers.{largest_word, number, signed}
 use Rattle.file_formats.specs.PartFile.{Part, signed_run, plain_run, part_of}
 use Rattle.file_formats.specs.SequenceLaws.{parsed_length}
+use Rattle.file_formats.specs.declared.Broken.{Broken}
 use Rattle.read_part.specs.declared.unchecked.FileRun.{FileRun}
 use Rattle.read_part.specs.declared.unchecked.Layout.{Layout}
-use Rattle.read_part.specs.declared.unchecked.FindPartAnswer.{FindPartAnswer}
-use Rattle.read_part.specs.declared.unchecked.FindPartAnswer.TheVariants.{Whole, Broken}
-use Rattle.read_part.specs.declared.ReadPartAnswer.TheVariants.{Counts, Refused}
+use Rattle.read_part.specs.declared.PartCounts.{PartCounts}
 use Rattle.read_part.specs.Layouts.{values_of, TablesStand, FitsTable, part_at, Laid, Finds}
-use Rattle.read_part.specs.Parts.{part, PartSizes, part_sizes, part_sizes_of, read_part_room_for, part_in, part_counts, fills_part, ReadsPart}
+use Rattle.read_part.specs.Parts.{part, PartSizes, part_sizes, part_sizes_of, read_part_room_for, part_in, part_counts, fills_part, tell_read_part, ReadsPart}
 use Rattle.read_part.proofs.PartLaws.{room_parts, held_part, broken_verdict, short_verdict, fine_verdict, fills_fine, refused_keeps}
-
--- ---- 9
-
-module _ (n t : PartSizes) where
-  pub no_coords : t.coords < n.coords → false ≡ read_part_room_for n t
-  unfolding read_part_room_for
-  no_coords l = simp (lt-leb n.coords t.coords l)
-
-  pub no_corners : n.coords ≤ t.coords → t.corners < n.corners → false ≡ read_part_room_for n t
-  unfolding read_part_room_for
-  no_corners k l = simp (le-leb n.coords t.coords k, lt-leb n.corners t.corners l)
-
-  pub only_heights : n.coords ≤ t.coords → n.corners ≤ t.corners → leb n.heights t.heights ≡ read_part_room_for n t
-  unfolding read_part_room_for
-  only_heights k l = simp (le-leb n.coords t.coords k, le-leb n.corners t.corners l)
 
 -- ---- the tables have the part_sizes that were counted
 
@@ -54,12 +38,12 @@ module _ {file : List ℕ} {run : FileRun} where
 
 -- ---- what the first pass found
 
-module _ (file : List ℕ) {f : FindPartAnswer} (s : Finds file f) where
-  pub found_whole : {l : Layout} → f ≡ Whole l → Laid file l
+module _ (file : List ℕ) {f : Result Layout Broken} (s : Finds file f) where
+  pub found_whole : {l : Layout} → f ≡ Ok l → Laid file l
   unfolding Finds
   found_whole e = subst (Finds file) e s
 
-  pub found_broken : {place : ℕ} → f ≡ Broken place → part_of file ≡ broken place
+  pub found_broken : {b : Broken} → f ≡ Err b → part_of file ≡ broken b.at
   unfolding Finds
   found_broken e = subst (Finds file) e s
 
@@ -94,11 +78,11 @@ module _ {file : List ℕ} {l : Layout} (k : Laid file l) where
   same_room t r = ap (λ (n : PartSizes). read_part_room_for n t) same_sizes ∙ sym r
 
 module _ {file : List ℕ} {t : Part} where
-  pub reads_broken : {place : ℕ} → part_of file ≡ broken place → ReadsPart file t (Refused (File place)) t
-  reads_broken {place} e = does_refuse refl (broken_verdict file (part_sizes_of t) e) refl (refused_keeps (part_in file) t (refusal 13 place))
+  pub reads_broken : {place : ℕ} → part_of file ≡ broken place → {met : Result PartCounts Refusal} → met ≡ Err (File place) → ReadsPart file t met t
+  reads_broken {place} e is = does_refuse refl (broken_verdict file (part_sizes_of t) e) (ap tell_read_part is) (refused_keeps (part_in file) t (refusal 13 place))
 
   module _ {l : Layout} (k : Laid file l) {fits : Bool} (r : fits ≡ read_part_room_for (counted_sizes l) (part_sizes_of t)) where
-    pub reads_short : fits ≡ false → ReadsPart file t (Refused (Room 0)) t
+    pub reads_short : fits ≡ false → ReadsPart file t (Err (Room 0)) t
     reads_short f =
         does_refuse refl (short_verdict file (part_sizes_of t) k.is (same_room k (part_sizes_of t) r ∙ f)) refl (refused_keeps (part_in file) t (refusal 9 0))
 
@@ -106,7 +90,7 @@ module _ {file : List ℕ} {t : Part} where
         → t'.coords ≡ overwrite (part_at file l).coords t.coords
         → t'.corners ≡ overwrite (part_at file l).corners t.corners
         → t'.heights ≡ overwrite (part_at file l).heights t.heights
-        → ReadsPart file t (Counts (l.coords.count / 3) (l.corners.count / 3) l.heights.count) t'
+        → ReadsPart file t (Ok (record { vertices = l.coords.count / 3; triangles = l.corners.count / 3; heights = l.heights.count })) t'
     reads_filled e a b c =
         let is : part_at file l ≡ part_in file = sym (held_part file k.is) in
         does_give refl (fine_verdict file (part_sizes_of t) k.is (same_room k (part_sizes_of t) r ∙ e))

@@ -1,6 +1,6 @@
 -- What Read part promises: it refuses exactly if a listed condition holds, at its place; its outcome is the only one; 13 exactly if the file is not the file of
 -- some part; and the file of a part is read as that part.
-use Rattle.std.specs.Prelude.{ℕ, ◌≤◌, ◌≡◌, refl, true, false, not, List, [], ◌∷◌, ◌↔◌, length, pos}
+use Rattle.std.specs.Prelude.{ℕ, ◌≤◌, ◌≡◌, refl, true, false, not, List, [], ◌∷◌, ◌↔◌, length, pos, Result, Ok, Err}
 use Rattle.std.proofs.Common.{sym, ap, ◌∙◌, arith}
 use borrow.Author.Tests.{leb-true, le-leb}
 use Rattle.laws.specs.Booleans.{and_parts}
@@ -15,8 +15,8 @@ use Rattle.file_formats.specs.FormatLaws.{Bytes}
 use Rattle.file_formats.specs.PartFile.{Part, part_file, PartRules, part_of}
 use Rattle.file_formats.specs.RoundTripLaws.{part_read_back, part_written_lem}
 use Rattle.file_formats.specs.WholeFileLaws.{decode_inside, held_or_is, form_first, form_next, fine_holds, thirteen_exactly}
-use Rattle.read_part.specs.declared.ReadPartAnswer.{ReadPartAnswer}
-use Rattle.read_part.specs.declared.ReadPartAnswer.TheVariants.{Counts, Refused}
+use Rattle.mesh.specs.declared.Refusal.{Refusal}
+use Rattle.read_part.specs.declared.PartCounts.{PartCounts}
 use Rattle.read_part.specs.Parts.{part, PartSizes, part_sizes_of, read_part_room_for, no_part_room, part_in, part_tests, part_counts, fills_part}
 use Rattle.read_part.specs.Parts.{tell_read_part, ReadsPart}
 
@@ -89,11 +89,11 @@ module _ (p t : Part) where
 
 pub read_part_recovers : Recovers tell_read_part
 read_part_recovers = record {
-  back = elim [ gives v ↦ Counts v.0 v.1 v.2 | refuses r ↦ Refused (refusal_of r) ];
-  once = elim [ Counts v n k ↦ refl | Refused r ↦ ap Refused (refusal_once r) ];
+  back = elim [ gives v ↦ Ok (record { vertices = v.0; triangles = v.1; heights = v.2 }) | refuses r ↦ Err (refusal_of r) ];
+  once = elim [ Ok c ↦ refl | Err r ↦ ap Err (refusal_once r) ];
 }
 
-module _ {file : List ℕ} {t : Part} {result : ReadPartAnswer} {t' : Part} (k : ReadsPart file t result t') where
+module _ {file : List ℕ} {t : Part} {result : Result PartCounts Refusal} {t' : Part} (k : ReadsPart file t result t') where
   -- refused exactly if a listed condition holds, the first that fits; answered with counts exactly if none does; and one outcome only
   pub read_part_refused : (r : Told) → (tell_read_part result ≡ refuses r) ↔ First (part_tests file (part_sizes_of t)) r
   read_part_refused = refused_exactly k
@@ -101,7 +101,7 @@ module _ {file : List ℕ} {t : Part} {result : ReadPartAnswer} {t' : Part} (k :
   pub read_part_given : (tell_read_part result ≡ gives (part_counts (part_in file))) ↔ None (part_tests file (part_sizes_of t))
   read_part_given = given_exactly k
 
-  pub read_part_only : {other : ReadPartAnswer} {u' : Part} → ReadsPart file t other u' → (result ≡ other) × (t' ≡ u')
+  pub read_part_only : {other : Result PartCounts Refusal} {u' : Part} → ReadsPart file t other u' → (result ≡ other) × (t' ≡ u')
   read_part_only = only_outcome read_part_recovers k
 
   -- a refusal changes nothing

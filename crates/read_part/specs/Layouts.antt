@@ -1,11 +1,10 @@
 -- Where the tables of a part file stand, and what its two passes ask and answer.
-use Rattle.std.specs.Prelude.{ℕ, ◌*◌, ◌≤◌, ◌≡◌, List, [], length, drop}
+use Rattle.std.specs.Prelude.{ℕ, ◌*◌, ◌≤◌, ◌≡◌, List, [], length, drop, Result, Ok, Err}
 use Rattle.file_formats.specs.Formats.{Parse, parsed, refused, Format, holds, broken}
 use Rattle.file_formats.specs.PartFile.{Part, signed_run, plain_run, counts_format, part_of}
+use Rattle.file_formats.specs.declared.Broken.{Broken}
 use Rattle.read_part.specs.declared.unchecked.FileRun.{FileRun}
 use Rattle.read_part.specs.declared.unchecked.Layout.{Layout}
-use Rattle.read_part.specs.declared.unchecked.FindPartAnswer.{FindPartAnswer}
-use Rattle.read_part.specs.declared.unchecked.FindPartAnswer.TheVariants.{Whole, Broken}
 
 -- ---- runs
 
@@ -59,6 +58,6 @@ pub record Laid (file : List ℕ) (l : Layout) : Type 0 where
   pub is : part_of file ≡ holds (part_at file l)
 
 -- what the first pass answers
-unfoldable pub Finds : List ℕ → FindPartAnswer → Type 0
-Finds file (Whole l) = Laid file l
-Finds file (Broken place) = part_of file ≡ broken place
+unfoldable pub Finds : List ℕ → Result Layout Broken → Type 0
+Finds file (Ok l) = Laid file l
+Finds file (Err b) = part_of file ≡ broken b.at

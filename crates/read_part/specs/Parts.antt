@@ -1,12 +1,12 @@
 -- Read part (READPART-1 to READPART-7): its refusals in order,
 -- what it answers, and what it leaves in the three lent tables.
-use Rattle.std.specs.Prelude.{ℕ, Bool, not, ◌&&◌, List, [], ◌∷◌, leb, length, ℤ, pos}
-use Rattle.mesh.specs.Operation.{Answer, gives, refuses, Finding, Condition, whole, after, Operation, Does}
-use Rattle.mesh.specs.Refusals.{Told, refusal, numbered, told_of}
+use Rattle.std.specs.Prelude.{ℕ, Bool, not, ◌&&◌, List, [], ◌∷◌, leb, length, ℤ, pos, Result}
+use Rattle.mesh.specs.Operation.{Answer, Finding, Condition, whole, after, Operation, Does}
+use Rattle.mesh.specs.Refusals.{Told, refusal, numbered, tell}
+use Rattle.mesh.specs.declared.Refusal.{Refusal}
 use Rattle.file_formats.specs.PartFile.{Part, mesh_counts, part_of}
 use Rattle.file_formats.specs.WholeFiles.{form, held_or}
-use Rattle.read_part.specs.declared.ReadPartAnswer.{ReadPartAnswer}
-use Rattle.read_part.specs.declared.ReadPartAnswer.TheVariants.{Counts, Refused}
+use Rattle.read_part.specs.declared.PartCounts.{PartCounts}
 
 -- ---- three tables, as a part has them
 
@@ -71,10 +71,9 @@ part_reading = λ (file, t). record {
 }
 
 -- what its answer says
-abbrev pub tell_read_part : ReadPartAnswer → Answer Told (ℕ × ℕ × ℕ)
-tell_read_part (Counts v n k) = gives (v, n, k)
-tell_read_part (Refused r) = refuses (told_of r)
+abbrev pub tell_read_part : Result PartCounts Refusal → Answer Told (ℕ × ℕ × ℕ)
+tell_read_part = tell (λ c. (c.vertices, c.triangles, c.heights))
 
 -- the contract of Read part
-abbrev pub ReadsPart : List ℕ → Part → ReadPartAnswer → Part → Type 0
+abbrev pub ReadsPart : List ℕ → Part → Result PartCounts Refusal → Part → Type 0
 ReadsPart file t result t' = Does part_reading tell_read_part (file, t) result t'

@@ -4,8 +4,5 @@ use Rattle.file_formats.specs.PartFile.{plain_run}
 use Rattle.read_part.proofs.Runs.{RunCheck}
 use Rattle.read_part.proofs.unchecked.check_run.Given as goal
 
-abbrev pub invariant-loop-left : goal.invariant-loop-left
-invariant-loop-left l = RunCheck l.file (extent_at (plain_run l.count) l.file l.at) l.i l.left
-
-abbrev pub decreases-loop-left : goal.decreases-loop-left
-decreases-loop-left l = l.left
+abbrev pub invariant-loop : goal.invariant-loop
+invariant-loop l = RunCheck l.file (extent_at (plain_run l.count) l.file l.at) l.count l.i l.counter
