@@ -2,10 +2,3 @@
 #![tactic(auto)]
 
 pub mod unchecked_contours;
-
-// How many contours and names there are.
-#[derive(Drop)]
-pub struct Counts {
-    pub contours: usize,
-    pub names: usize,
-}

@@ -5,10 +5,9 @@ ghost use Rattle.section.specs.Section.{below, Crossing, Right};
 ghost use Rattle.all_active.specs.Lists.{active_at};
 ghost use Rattle.all_contours.specs.Rounds.{successor_at, Followable, ContourFollowed, Outlinable, Followed, Marked};
 
-use crate::Counts;
 use all_active::unchecked_lists::is_below;
-use mesh::numbers::wide;
 use mesh::unchecked::{next_corner, previous_corner};
+use polygons::LayerCounts;
 
 // The successor of crossing c: its paired corner falls, so that one of the two other corners of that triangle rises, by the third vertex.
 fn successor(coords: &[i32], corners: &[u32], pairing: &[u32], h: i32, c: usize) -> usize
@@ -17,14 +16,11 @@ fn successor(coords: &[i32], corners: &[u32], pairing: &[u32], h: i32, c: usize)
     ensures value { result ≡ successor_at (paired coords.now corners.now pairing.now)
         h c }
 {
-    let d = wide(pairing[c]);
+    let d = pairing[c] as usize;
     let e = next_corner(d);
     let f = previous_corner(d);
-    let v = wide(corners[f]);
-    if is_below(coords, h, v) {
-        return f;
-    }
-    e
+    let v = corners[f] as usize;
+    if is_below(coords, h, v) { f } else { e }
 }
 
 // Writes the contour of `start` into names, from place `at` on, and stamps its corners; returns the place after it.
@@ -56,7 +52,7 @@ fn follow_contour(
     }
 }
 
-// Writes the contours of height h, by first corner, from the list of its crossings; returns their number and that of their names.
+// Writes the contours of height h, by first corner, from the list of its crossings; returns their number and that of their points.
 pub fn outline_crossings(
     coords: &[i32],
     corners: &[u32],
@@ -68,11 +64,11 @@ pub fn outline_crossings(
     names: &mut [u32],
     ends: &mut [u32],
     marks: &mut [u32],
-) -> Counts
+) -> LayerCounts
     requires { Outlinable (paired coords.now corners.now pairing.now) h stamp ring.now head names.old
         ends.old marks.old }
     ensures outcome { Followed (paired coords.now corners.now pairing.now) h
-        names.old ends.old names.new ends.new result.contours result.names }
+        names.old ends.old names.new ends.new result.contours result.points }
     ensures marked { Marked (active_at coords.now corners.now h)
         (length corners.now) stamp marks.old marks.new }
 {
@@ -81,18 +77,16 @@ pub fn outline_crossings(
     let mut k: usize = 0;
     let mut j: usize = 0;
     while c < n {
-        let d = wide(ring[c]);
-        if marks[c] == stamp {
-            c = d;
-        } else {
-            k = follow_contour(coords, corners, pairing, h, stamp, names, marks, c, k);
+        let start = c;
+        c = ring[start] as usize;
+        if marks[start] != stamp {
+            k = follow_contour(coords, corners, pairing, h, stamp, names, marks, start, k);
             ends[j] = k as u32;
             j += 1;
-            c = d;
         }
     }
-    Counts {
+    LayerCounts {
         contours: j,
-        names: k,
+        points: k,
     }
 }

@@ -15,10 +15,10 @@ use Rattle.all_contours.proofs.unchecked_contours.successor.Goals.{After-is_belo
 
 -- the corners that were read, and the vertex of the third
 across : (c : After-previous_corner-f) {v : ℕ} → v ≡ get_or c.args.corners.now c.previous_corner-f.result 0
-    → Across (paired c.args.coords.now c.args.corners.now c.args.pairing.now) c.args.c c.wide-d.result c.next_corner-e.result c.previous_corner-f.result v
+    → Across (paired c.args.coords.now c.args.corners.now c.args.pairing.now) c.args.c (get_or c.args.pairing.now c.args.c 0) c.next_corner-e.result c.previous_corner-f.result v
 across c e =
     record {
-      pair = c.wide-d.ensures.value;
+      pair = refl;
       next = c.next_corner-e.ensures.value;
       third = c.previous_corner-f.ensures.value ∙ ap next_corner (sym c.next_corner-e.ensures.value);
       vertex = e;
@@ -29,19 +29,19 @@ below_all : (c : After-previous_corner-f) → c.previous_corner-f.result < lengt
 below_all c = third_below c.requires.fact_1 c.args.h c.requires.fact_2 (across c refl)
 
 -- what the code has found of its vertex
-found : (c : After-is_below) → below c.args.coords.now c.args.h c.wide-v.result ≡ c.is_below.result
-found c = ap (λ (z : ℤ). below c.args.coords.now z c.wide-v.result) (sym (to_z-of_z w32 c.args.h c.ranges.h)) ∙ sym c.is_below.ensures.value
+found : (c : After-is_below) → below c.args.coords.now c.args.h (get_or c.args.corners.now c.previous_corner-f.result 0) ≡ c.is_below.result
+found c = ap (λ (z : ℤ). below c.args.coords.now z (get_or c.args.corners.now c.previous_corner-f.result 0)) (sym (to_z-of_z w32 c.args.h c.ranges.h)) ∙ sym c.is_below.ensures.value
 
 pub bounds-pairing-c : goal.bounds-pairing-c
 bounds-pairing-c c = (c.requires.fact_1.linked.each c.args.c c.requires.fact_2.below).there
 
 pub next_corner-e-requires : goal.next_corner-e-requires
 next_corner-e-requires c =
-    omega (arith, pair_below c.requires.fact_1 c.args.h c.requires.fact_2 c.wide-d.ensures.value, c.requires.fact_1.named.whole.few)
+    omega (arith, pair_below c.requires.fact_1 c.args.h c.requires.fact_2 refl, c.requires.fact_1.named.whole.few)
 
 pub previous_corner-f-requires : goal.previous_corner-f-requires
 previous_corner-f-requires c =
-    omega (arith, pair_below c.requires.fact_1 c.args.h c.requires.fact_2 c.wide-d.ensures.value, c.requires.fact_1.named.whole.few)
+    omega (arith, pair_below c.requires.fact_1 c.args.h c.requires.fact_2 refl, c.requires.fact_1.named.whole.few)
 
 pub offset_bounds-corners-f : goal.offset_bounds-corners-f
 offset_bounds-corners-f c = omega (arith, below_all c, c.requires.fact_1.named.whole.few)
@@ -52,18 +52,18 @@ bounds-corners-f c = below_all (goal.at.bounds-corners-f c).After-previous_corne
 pub is_below-requires : goal.is_below-requires
 is_below-requires c =
     let here = (goal.at.is_below-requires c).After-previous_corner-f in
-    third_vertex c.requires.fact_1 c.args.h c.requires.fact_2 (across here c.wide-v.ensures.value)
+    third_vertex c.requires.fact_1 c.args.h c.requires.fact_2 (across here refl)
 
 pub returns-then-is_below : goal.returns-then-is_below
 returns-then-is_below c =
     let at = goal.at.returns-then-is_below c in record {
-      value = third_passed c.requires.fact_1 c.args.h c.requires.fact_2 (across at.After-previous_corner-f c.wide-v.ensures.value)
+      value = third_passed c.requires.fact_1 c.args.h c.requires.fact_2 (across at.After-previous_corner-f refl)
           (found at.After-is_below ∙ c.if-is_below.true);
     }
 
-pub returns : goal.returns
-returns c =
-    let at = goal.at.returns c in record {
-      value = third_above c.requires.fact_1 c.args.h c.requires.fact_2 (across at.After-previous_corner-f c.wide-v.ensures.value)
+pub returns-else-is_below : goal.returns-else-is_below
+returns-else-is_below c =
+    let at = goal.at.returns-else-is_below c in record {
+      value = third_above c.requires.fact_1 c.args.h c.requires.fact_2 (across at.After-previous_corner-f refl)
           (found at.After-is_below ∙ c.if-is_below.false);
     }
