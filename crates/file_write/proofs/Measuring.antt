@@ -91,7 +91,7 @@ pub measure_contours_start : {points : List ℤ} {ends : List ℕ} {j : ℕ} →
 measure_contours_start t = record { place = place_start t; few = omega arith; same = omega arith }
 
 module _ {points : List ℤ} {ends : List ℕ} {j total from i : ℕ} (m : ContoursMeasured points ends j total from i) where
-  module _ (h : i < j) {e : ℕ} (is : e ≡ get_or ends i 0) {n : ℕ}
+  module _ (h : i < length (take j ends)) {e : ℕ} (is : e ≡ get_or (take j ends) i 0) {n : ℕ}
       (r : (n ≡ length (contour_bytes (points_in (take (2 * e - 2 * from) (drop (2 * from) points))))) × (n ≤ 1 + 6 * length
       (take (2 * e - 2 * from) (drop (2 * from) points)))) where
     contour_few : total + n ≤ i + 1 + 12 * e
@@ -116,7 +116,7 @@ module _ {points : List ℤ} {ends : List ℕ} {j total from i : ℕ} (m : Conto
           );
         }
 
-  pub contours_end : j ≤ i → (total ≡ length (flat_map contour_bytes (contours_in points 0 (take j ends)))) × (total ≤ j + 6 * length points)
+  pub contours_end : length (take j ends) ≤ i → (total ≡ length (flat_map contour_bytes (contours_in points 0 (take j ends)))) × (total ≤ j + 6 * length points)
   unfolding flat_map
   contours_end h = (
     omega (arith, ap (λ (cs : List (List Point)). length (flat_map contour_bytes cs)) (no_contours m.place h), m.same),

@@ -5,6 +5,7 @@ use Prim.Native.Nat.{ℕ, suc, ◌+◌, ◌-◌, ◌*◌, ◌/◌, ◌<◌, ◌�
 use native.Mathlib.Omega.{arith}
 use native.Mathlib.Numerals.{add-one}
 use lib.ListN.{length, get_or, take, drop, length-drop}
+use Rattle.std.proofs.lemmas.List.{get_or-take}
 use lib.Seq.{drop-cons, slice, slice_empty, slice-cons, length-take-le}
 use lib.IntN.{ℤ, pos, ◌-ℤ◌}
 use Rattle.file_formats.specs.Formats.{encode_all}
@@ -90,15 +91,19 @@ pub place_start : {points : List ℤ} {ends : List ℕ} {j : ℕ} → LayerTable
 place_start t = record { there = t.there; inside = omega arith; within = omega arith; rise = t.rise }
 
 module _ {points : List ℤ} {ends : List ℕ} {j from i : ℕ} (w : EndsPlace points ends j from i) where
-  pub no_contours : j ≤ i → contours_after points ends j from i ≡ []
+  pub no_contours : length (take j ends) ≤ i → contours_after points ends j from i ≡ []
   unfolding contours_in
   no_contours h =
-      let e : i ≡ j = omega (arith, w.inside) in
+      let e : i ≡ j = omega (arith, w.inside, length-take-le j ends w.there) in
       ap (λ (k : ℕ). contours_in points from (slice k j ends)) e ∙ ap (contours_in points from) (slice_empty j ends)
 
-  module _ (h : i < j) {e : ℕ} (is : e ≡ get_or ends i 0) where
+  -- the end at hand is one of the first j
+  module _ (h : i < length (take j ends)) {e : ℕ} (is : e ≡ get_or (take j ends) i 0) where
+    more : i < j
+    more = omega (arith, length-take-le j ends w.there)
+
     next_end : slice i j ends ≡ e ∷ slice (i + 1) j ends
-    next_end = rw (is, add-one) (slice-cons i j ends 0 h w.there)
+    next_end = let this : e ≡ get_or ends i 0 = is ∙ get_or-take j ends i 0 more in rw (this, add-one) (slice-cons i j ends 0 more w.there)
 
     rises : (from ≤ e) × (2 * e ≤ length points) × EndsWithin (length points) e (slice (i + 1) j ends)
     rises = subst (EndsWithin (length points) from) next_end w.rise
@@ -110,7 +115,7 @@ module _ {points : List ℤ} {ends : List ℕ} {j from i : ℕ} (w : EndsPlace p
     end_within = rises.1
 
     pub place_next : EndsPlace points ends j e (i + 1)
-    place_next = record { there = w.there; inside = omega arith; within = rises.1; rise = rises.2 }
+    place_next = record { there = w.there; inside = omega (arith, more); within = rises.1; rise = rises.2 }
 
     -- the next contour is the part that the code takes
     pub next_contour : contours_after points ends j from i

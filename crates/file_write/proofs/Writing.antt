@@ -72,7 +72,7 @@ pub write_contours_start : {l : List ℕ} {at : ℕ} {points : List ℤ} {ends :
 write_contours_start t h = record { place = place_start t; bytes = emit_start _ _ _ h }
 
 module _ {l : List ℕ} {at : ℕ} {points : List ℤ} {ends : List ℕ} {j : ℕ} {m : List ℕ} {p from i : ℕ} (w : ContoursWritten l at points ends j m p from i) where
-  module _ (h : i < j) {e : ℕ} (is : e ≡ get_or ends i 0) where
+  module _ (h : i < length (take j ends)) {e : ℕ} (is : e ≡ get_or (take j ends) i 0) where
     next : Emit l at (flat_map contour_bytes (contours_in points 0 (take j ends))) m p
         (flat_map contour_bytes (points_in (take (2 * e - 2 * from) (drop (2 * from) points)) ∷ contours_after points ends j e (i + 1)))
     next = rw (next_contour w.place h is) at w.bytes
@@ -84,7 +84,7 @@ module _ {l : List ℕ} {at : ℕ} {points : List ℤ} {ends : List ℕ} {j : �
         → ContoursWritten l at points ends j m1 q e (i + 1)
     contours_next v = record { place = place_next w.place h is; bytes = each_put contour_bytes _ _ next v }
 
-  pub contours_end : j ≤ i → Puts l at (flat_map contour_bytes (contours_in points 0 (take j ends))) p m
+  pub contours_end : length (take j ends) ≤ i → Puts l at (flat_map contour_bytes (contours_in points 0 (take j ends))) p m
   contours_end h = each_end contour_bytes (rw (no_contours w.place h) at w.bytes)
 
 -- ---- a layer: its height, its count and its contours

@@ -6,27 +6,21 @@ ghost use Rattle.file_write.specs.Written.{points_in, contours_in, layer_of, poi
 
 use file_formats::numbers::{difference, number_length, unsigned_of};
 use file_formats::unchecked::write_number;
-use mesh::numbers::wide;
 
 // How many bytes the points of a contour take, at most five for each number.
 fn points_length(points: &[i32]) -> usize
     ensures result { (result ≡ length (point_bytes (points_in points.now)))
         × (result ≤ 5 * length points.now) }
 {
-    let n = points.len() / 2;
     let mut x: i32 = 0;
     let mut y: i32 = 0;
     let mut total: usize = 0;
-    let mut k: usize = 0;
-    while k < n {
-        let i = 2 * k;
-        let j = i + 1;
-        let nx = points[i];
-        let ny = points[j];
+    for k in 0..points.len() / 2 {
+        let nx = points[2 * k];
+        let ny = points[2 * k + 1];
         total += number_length(difference(nx, x)) + number_length(difference(ny, y));
         x = nx;
         y = ny;
-        k += 1;
     }
     total
 }
@@ -47,14 +41,10 @@ fn contours_length(points: &[i32], ends: &[u32], j: usize) -> usize
 {
     let mut total: usize = 0;
     let mut from: usize = 0;
-    let mut i: usize = 0;
-    while i < j {
-        let end = wide(ends[i]);
-        let a = 2 * from;
-        let b = 2 * end;
-        total += contour_length(&points[a..b]);
+    for end in &ends[..j] {
+        let end = *end as usize;
+        total += contour_length(&points[2 * from..2 * end]);
         from = end;
-        i += 1;
     }
     total
 }
@@ -79,19 +69,15 @@ fn write_points(points: &[i32], output: &mut [u8], at: usize) -> usize
     let mut x: i32 = 0;
     let mut y: i32 = 0;
     let mut p = at;
-    let mut k: usize = 0;
-    while k < count {
-        let i = 2 * k;
-        let j = i + 1;
-        let nx = points[i];
-        let ny = points[j];
+    for k in 0..count {
+        let nx = points[2 * k];
+        let ny = points[2 * k + 1];
         let dx = difference(nx, x);
         let dy = difference(ny, y);
         let q = write_number(output, p, dx);
         p = write_number(output, q, dy);
         x = nx;
         y = ny;
-        k += 1;
     }
     p
 }
@@ -114,14 +100,10 @@ fn write_contours(points: &[i32], ends: &[u32], j: usize, output: &mut [u8], at:
 {
     let mut p = at;
     let mut from: usize = 0;
-    let mut i: usize = 0;
-    while i < j {
-        let end = wide(ends[i]);
-        let a = 2 * from;
-        let b = 2 * end;
-        p = write_contour(&points[a..b], output, p);
+    for end in &ends[..j] {
+        let end = *end as usize;
+        p = write_contour(&points[2 * from..2 * end], output, p);
         from = end;
-        i += 1;
     }
     p
 }

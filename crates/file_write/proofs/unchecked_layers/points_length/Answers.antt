@@ -13,7 +13,7 @@ loop-k-init c = measure_points_start
 -- the two numbers of a point take at most ten bytes
 short : (c : After-number_length-in-loop-k) → c.number_length.result + c.number_length-in-loop-k.result ≤ 10
 short c =
-    point_short c.loop-k.invariant c.loop-k-test.true
+    point_short c.loop-k.invariant (omega arith)
     (same w32 _ (omega arith)) (same w32 _ (omega arith))
     (omega arith) (omega arith)
     c.difference.ensures.value c.difference-in-loop-k.ensures.value c.number_length.ensures.value
@@ -27,9 +27,9 @@ overflow_add-total-in-loop-k c = omega (arith, short c)
 
 pub loop-k-preserved : goal.loop-k-preserved
 loop-k-preserved c =
-    points_next c.loop-k.invariant c.loop-k-test.true (same w32 _ (omega arith)) (same w32 _ (omega arith)) (omega arith)
+    points_next c.loop-k.invariant (omega arith) (same w32 _ (omega arith)) (same w32 _ (omega arith)) (omega arith)
     (omega arith) c.difference.ensures.value c.difference-in-loop-k.ensures.value c.number_length.ensures.value
     c.number_length-in-loop-k.ensures.value
 
 pub returns : goal.returns
-returns c = record { result = points_end c.loop-k.invariant c.loop-k-test.false }
+returns c = record { result = points_end c.loop-k.invariant (omega arith) }

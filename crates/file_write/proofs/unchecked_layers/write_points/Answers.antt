@@ -10,17 +10,17 @@ loop-k-init c = write_points_start c.requires
 
 pub write_number-q-requires : goal.write_number-q-requires
 write_number-q-requires c =
-    x_room c.loop-k.invariant c.loop-k-test.true (same w32 _ (omega arith)) (same w32 _ (omega arith))
+    x_room c.loop-k.invariant (omega arith) (same w32 _ (omega arith)) (same w32 _ (omega arith))
     c.difference-dx.ensures.value c.difference-dy.ensures.value
 
 pub write_number-p-requires : goal.write_number-p-requires
 write_number-p-requires c =
-    y_room c.loop-k.invariant c.loop-k-test.true (same w32 _ (omega arith)) (same w32 _ (omega arith))
+    y_room c.loop-k.invariant (omega arith) (same w32 _ (omega arith)) (same w32 _ (omega arith))
     c.difference-dx.ensures.value c.difference-dy.ensures.value c.write_number-q.ensures.outcome
 
 pub loop-k-preserved : goal.loop-k-preserved
 loop-k-preserved c =
-    points_next c.loop-k.invariant c.loop-k-test.true (same w32 _ (omega arith)) (same w32 _ (omega arith))
+    points_next c.loop-k.invariant (omega arith) (same w32 _ (omega arith)) (same w32 _ (omega arith))
     c.difference-dx.ensures.value c.difference-dy.ensures.value c.write_number-q.ensures.outcome
     c.write_number-p.ensures.outcome
 
@@ -28,4 +28,4 @@ pub shape_of-output : goal.shape_of-output
 shape_of-output c = c.loop-k.invariant.bytes.size
 
 pub returns : goal.returns
-returns c = record { outcome = points_end c.loop-k.invariant c.loop-k-test.false }
+returns c = record { outcome = points_end c.loop-k.invariant (omega arith) }
