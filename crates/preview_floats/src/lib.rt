@@ -6,18 +6,19 @@ ghost use Rattle.preview_floats.specs.WholeFloats.{is_whole};
 ghost use Rattle.preview_floats.specs.DrawnPoints.{whole_origin};
 
 use mesh::limits::{LARGEST_COORDINATE_F32, LEAST_COORDINATE_F32};
+use std::num::truncating_f32_to_i64;
 
 pub mod unchecked;
 
 // Where a plate's origin is drawn.
-#[derive(Clone, Copy)]
+#[derive(Clone, Copy, Debug, PartialEq)]
 pub struct Origin {
     pub x: f32,
     pub y: f32,
 }
 
 // Where a point is drawn.
-#[derive(Drop)]
+#[derive(Clone, Copy, Debug, PartialEq)]
 pub struct DrawnPoint {
     pub x: f32,
     pub y: f32,
@@ -27,21 +28,12 @@ pub struct DrawnPoint {
 fn is_whole(x: f32) -> bool
     ensures value { result ≡ is_whole x }
 {
-    if x >= LEAST_COORDINATE_F32 {
-        if x <= LARGEST_COORDINATE_F32 {
-            let cut = std::num::truncating_f32_to_i64(x);
-            return cut as f32 == x;
-        }
-    }
-    false
+    x >= LEAST_COORDINATE_F32 && x <= LARGEST_COORDINATE_F32 && truncating_f32_to_i64(x) as f32 == x
 }
 
 // Whether both coordinates of an origin are such numbers.
 pub fn whole_origin(origin: Origin) -> bool
     ensures value { result ≡ whole_origin origin }
 {
-    if is_whole(origin.x) {
-        return is_whole(origin.y);
-    }
-    false
+    is_whole(origin.x) && is_whole(origin.y)
 }
