@@ -82,7 +82,7 @@ module _ {s : AreaSum} (w : SumSmall s) (z : ℤ) (f : mag z < 2 ^ 63) (h : nat_
 -- ---- the sum after one more point
 
 module _ (s : AreaSum) (p q : Point) {z : ℤ} (e : z ≡ s.sum +ℤ trapezoid_points p q) where
-  pub point_later : s.begun ≡ true → summed z (first_summed s) true ≡ summing s p q
+  pub point_later : s.begun ≡ true → summed z (first_summed s) s.begun ≡ summing s p q
   unfolding summing
   point_later t = simp (e, t)
 

@@ -7,7 +7,7 @@ ghost use Rattle.area_sum.specs.Summing.{unsummed};
 pub mod unchecked;
 
 // What the points of a contour have come to so far: the trapezoids along the way from the origin over all of them; the first, (x, y), once there is one.
-#[derive(Drop)]
+#[derive(Clone, Copy, Debug, PartialEq, Eq)]
 pub struct AreaSum {
     sum: i64,
     x: i32,

@@ -22,17 +22,12 @@ pub fn sum_point(s: AreaSum, px: i32, py: i32, x: i32, y: i32) -> AreaSum
 {
     let sum = s.sum + trapezoid(px as i64, py as i64, x as i64, y as i64);
     if s.begun {
-        return AreaSum {
-            sum: sum,
-            x: s.x,
-            y: s.y,
-            begun: true,
-        };
+        return AreaSum { sum, ..s };
     }
     AreaSum {
-        sum: sum,
-        x: x,
-        y: y,
+        sum,
+        x,
+        y,
         begun: true,
     }
 }
