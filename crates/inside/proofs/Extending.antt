@@ -1,44 +1,23 @@
--- The lesser and the greater of two numbers; the loop of `extent_of`: none of the first k points is past the extent.
+-- The loop of `extent_of`: none of the first k points is past the extent.
 use Prim.Native.Nat.{ℕ, ◌+◌, ◌/◌, ◌^◌, ◌≤◌, ◌<◌}
 use mathlib.Core.Path.{◌≡◌, sym, ap, ◌∙◌, subst}
-use mathlib.Core.Bool.{true, false}
 use mathlib.Core.List.{List}
 use mathlib.Core.Logic.{⊎_elim}
 use native.Mathlib.Omega.{arith}
 use lib.ListN.{length}
 use lib.IntN.{ℤ}
-use lib.Signed.{◌≤ℤ◌, lt_z, mag, ≤ℤ_refl}
+use lib.Signed.{◌≤ℤ◌, mag, ≤ℤ_refl}
 use mir.Syntax.{w32}
-use mir.Val.{SFits}
 use Rattle.laws.specs.Booleans.{split_lt}
-use Rattle.laws.specs.Machine.{same, fit, lt_true, lt_false}
+use Rattle.laws.specs.Machine.{same}
 use Rattle.polygons.specs.Flat.{Point, point, nth_point, points_in}
 use Rattle.contours.specs.Areas.{x_of, y_of}
 use Rattle.contours.specs.Runs.{PointRun}
 use Rattle.inside.specs.declared.ContourExtent.{ContourExtent}
 use Rattle.inside.specs.Extents.{InExtent, SpansTo, Spans}
-use Rattle.inside.specs.OrderLaws.{le_same, le_weak, le_via}
+use Rattle.inside.specs.OrderLaws.{le_via}
 use Rattle.inside.specs.PointLaws.{row_count, number_back}
 use Rattle.inside.proofs.Rounds.{point_loaded}
-
--- ---- `lesser_of` and `greater_of`
-
-module _ {a b : ℤ} (fa : SFits w32 a) (fb : SFits w32 b) where
-  -- a, where b is not below it
-  pub first_lesser : lt_z (number_back b) (number_back a) ≡ false → (number_back a ≤ℤ a) × (number_back a ≤ℤ b)
-  first_lesser e = let is = le_same (fit fa).is in (is, le_via is (lt_false (fit fb) (fit fa) e))
-
-  -- b, where it is below a
-  pub second_lesser : lt_z (number_back b) (number_back a) ≡ true → (number_back b ≤ℤ a) × (number_back b ≤ℤ b)
-  second_lesser e = let is = le_same (fit fb).is in (le_via is (le_weak (lt_true (fit fb) (fit fa) e)), is)
-
-  -- a, where b is not above it
-  pub first_greater : lt_z (number_back a) (number_back b) ≡ false → (a ≤ℤ number_back a) × (b ≤ℤ number_back a)
-  first_greater e = let is = le_same (sym (fit fa).is) in (is, le_via (lt_false (fit fa) (fit fb) e) is)
-
-  -- b, where it is above a
-  pub second_greater : lt_z (number_back a) (number_back b) ≡ true → (a ≤ℤ number_back b) × (b ≤ℤ number_back b)
-  second_greater e = let is = le_same (sym (fit fb).is) in (le_via (le_weak (lt_true (fit fa) (fit fb) e)) is, is)
 
 -- ---- one point more
 
@@ -87,7 +66,7 @@ extended_start {row} run h =
     }
 
 module _ {row : List ℤ} {left right low high : ℤ} {k : ℕ} (s : Extended row left right low high k) where
-  -- a turn: what `lesser_of` and `greater_of` gave of the extent and the point at hand
+  -- a turn: the lesser and the greater of the extent and the point at hand
   pub extended_again : (l r d u : ℤ) → (mag l < 2 ^ 31) × (mag r < 2 ^ 31) × (mag d < 2 ^ 31) × (mag u < 2 ^ 31)
       → (l ≤ℤ left) × (l ≤ℤ number_back (x_of row k)) → (right ≤ℤ r) × (number_back (x_of row k) ≤ℤ r)
       → (d ≤ℤ low) × (d ≤ℤ number_back (y_of row k)) → (high ≤ℤ u) × (number_back (y_of row k) ≤ℤ u)

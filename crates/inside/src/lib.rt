@@ -5,7 +5,7 @@
 pub mod unchecked;
 
 // The extent of a contour: no point of it is left of, right of, below or above it.
-#[derive(Clone, Copy)]
+#[derive(Clone, Copy, Debug, PartialEq, Eq)]
 pub struct ContourExtent {
     pub left: i32,
     pub right: i32,

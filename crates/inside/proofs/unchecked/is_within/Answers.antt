@@ -1,6 +1,6 @@
 -- `unchecked::is_within` meets its contract.
 use Rattle.polygons.specs.Flat.{point}
-use Rattle.inside.proofs.Bounds.{ExtentWords, out_left, out_right, out_below, told_last}
+use Rattle.inside.proofs.Bounds.{ExtentWords, told_beside, told_level}
 use Rattle.inside.proofs.unchecked.is_within.Goals as goal
 use Rattle.inside.proofs.unchecked.is_within.Goals.{After-struct_told-1}
 
@@ -18,14 +18,13 @@ words c =
       high_in = told.1.1.1.0.1;
     }
 
-pub returns-then-x-e : goal.returns-then-x-e
-returns-then-x-e c = record { value = out_left (words (goal.at.returns-then-x-e c).After-struct_told-1) c.if-x-e.true }
+pub returns-then-contains : goal.returns-then-contains
+returns-then-contains c = record {
+  value = told_level (words (goal.at.returns-then-contains c).After-struct_told-1) c.contains.ensures.value c.if-contains.true
+      c.contains-then-contains.ensures.value;
+}
 
-pub returns-then-e-x : goal.returns-then-e-x
-returns-then-e-x c = record { value = out_right (words (goal.at.returns-then-e-x c).After-struct_told-1) c.if-x-e.false c.if-e-x.true }
-
-pub returns-then-y-e : goal.returns-then-y-e
-returns-then-y-e c = record { value = out_below (words (goal.at.returns-then-y-e c).After-struct_told-1) c.if-x-e.false c.if-e-x.false c.if-y-e.true }
-
-pub returns : goal.returns
-returns c = record { value = told_last (words (goal.at.returns c).After-struct_told-1) c.if-x-e.false c.if-e-x.false c.if-y-e.false }
+pub returns-else-contains : goal.returns-else-contains
+returns-else-contains c = record {
+  value = told_beside (words (goal.at.returns-else-contains c).After-struct_told-1) c.contains.ensures.value c.if-contains.false;
+}

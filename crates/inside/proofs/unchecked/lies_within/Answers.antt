@@ -7,5 +7,5 @@ use Rattle.inside.proofs.unchecked.lies_within.Goals as goal
 pub returns-then-is_within : goal.returns-then-is_within
 returns-then-is_within c = record { value = c.lies_in.ensures.value ∙ back_lies _ c.requires.2 _ }
 
-pub returns : goal.returns
-returns c = let pre = c.requires in record { value = not_within _ _ pre.2 pre.3 c.is_within.ensures.value c.if-is_within.false }
+pub returns-else-is_within : goal.returns-else-is_within
+returns-else-is_within c = let pre = c.requires in record { value = not_within _ _ pre.2 pre.3 c.is_within.ensures.value c.if-is_within.false }
