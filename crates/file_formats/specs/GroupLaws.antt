@@ -1,8 +1,6 @@
 -- How many groups of seven bits a number has: few, and by the place of its highest bit.
-use Rattle.std.specs.Prelude.{◌≡◌, refl, Bool, true, false, cond, [], ◌∷◌, ℕ, zero, suc, ◌+◌, ◌-◌, ◌*◌, ◌/◌, ◌%◌, ◌<◌, ◌≤◌, ◌^◌, ltb, length}
-use Rattle.std.proofs.Common.{ap, ◌∙◌, pow-suc, arith, pow_mono, pow-add, ltb-true, ltb-false}
-use Rattle.std.specs.Int.Count.{count_leading_zeros}
-use Rattle.std.proofs.lemmas.Nat.{leading_top}
+use Rattle.std.specs.Prelude.{◌≡◌, refl, Bool, true, false, cond, [], ◌∷◌, ℕ, zero, suc, ◌+◌, ◌-◌, ◌*◌, ◌/◌, ◌%◌, ◌<◌, ◌≤◌, ◌^◌, ltb, length, max}
+use Rattle.std.proofs.Common.{sym, ap, ◌∙◌, pow-suc, arith, pow_mono, pow-add, ltb-true, ltb-false}
 use Rattle.file_formats.specs.Numbers.{groups, encode_number}
 use Rattle.file_formats.specs.NumberLaws.{encode_one, encode_more}
 
@@ -40,18 +38,15 @@ by_top (suc k) j n f h g = by (ltb j 7) refl (by_top k (j - 7) (n / 128))
         let big : 128 ≤ n = omega (arith, pow_mono {i = 0} {j = j - 7} (omega arith)) in
         omega (arith, ap length (encode_more n big), ih (omega arith) (omega arith) (omega arith))
 
--- j is the place of the highest bit of 2 (n / 2) + 1, which is that of n, and 0 for 0
-odd_top : (j n : ℕ) → 2 ^ j ≤ 2 * (n / 2) + 1 → 2 * (n / 2) + 1 < 2 ^ suc j → length (encode_number n) ≡ j / 7 + 1
-odd_top zero n h g = omega (arith, ap length (encode_one n (omega arith)))
-odd_top (suc i) n h g =
-    let twice : 2 ^ suc i ≡ 2 ^ i * 2 = pow-suc 2 i in
-    by_top (suc (suc i)) (suc i) n (omega arith) (omega arith) (omega arith)
-
-module _ (n : ℕ) (h : n < 2 ^ 64) where
-  pub top_fits : count_leading_zeros 64 (2 * (n / 2) + 1) ≤ 63
-  top_fits = let t = leading_top 64 (2 * (n / 2) + 1) (omega arith) (omega arith) in omega (arith, t.1)
-
-  pub groups_are : (63 - count_leading_zeros 64 (2 * (n / 2) + 1)) / 7 + 1 ≡ length (encode_number n)
-  groups_are =
-      let t = leading_top 64 (2 * (n / 2) + 1) (omega arith) (omega arith) in
-      omega (arith, t.1, odd_top t.0 n t.2 t.3)
+-- j is the place of the highest bit of n, and 0 for 0
+pub groups_are : (n j : ℕ) → 2 ^ j ≤ max n 1 → max n 1 < 2 * 2 ^ j → j / 7 + 1 ≡ length (encode_number n)
+groups_are zero j h g =
+    let none : j ≡ 0 = by j h in
+    omega (arith, ap length (encode_one 0 (omega arith)))
+  where
+    by : (j : ℕ) → 2 ^ j ≤ 1 → j ≡ 0
+    by zero h = refl
+    by (suc i) h = let twice : 2 ^ suc i ≡ 2 ^ i * 2 = pow-suc 2 i in absurd (omega (arith, pow_mono {i = 0} {j = i} (omega arith)))
+groups_are (suc m) j h g =
+    let twice : 2 ^ suc j ≡ 2 ^ j * 2 = pow-suc 2 j in
+    sym (by_top (suc j) j (suc m) (omega arith) (omega arith) (omega arith))

@@ -41,8 +41,7 @@ pub fn read_number(file: &[u8], at: usize, top: u64) -> Result<(u64, usize), Bro
 pub fn number_length(n: u64) -> usize
     ensures value { result ≡ length (encode_number n) }
 {
-    let odd = 2 * (n / 2) + 1;
-    (63 - u64::leading_zeros(odd)) as usize / 7 + 1
+    n.max(1).ilog2() as usize / 7 + 1
 }
 
 // The signed number that m stands for.
@@ -50,10 +49,7 @@ pub fn signed_of(m: u64) -> i64
     ensures value { result ≡ unzigzag m }
 {
     let half = (m / 2) as i64;
-    if m % 2 == 0 {
-        return half;
-    }
-    -1 - half
+    if m % 2 == 0 { half } else { -1 - half }
 }
 
 // The number that stands for a signed one.
@@ -61,15 +57,15 @@ pub fn unsigned_of(z: i64) -> u64
     ensures value { result ≡ zigzag z }
 {
     if z < 0 {
-        let k = -1 - z;
-        return 2 * (k as u64) + 1;
+        2 * (-1 - z) as u64 + 1
+    } else {
+        2 * z as u64
     }
-    2 * (z as u64)
 }
 
 // The number that stands for the difference of a coordinate to the one before.
 pub fn difference(z: i32, before: i32) -> u64
     ensures value { result ≡ zigzag (z -ℤ before) }
 {
-    unsigned_of((z as i64) - (before as i64))
+    unsigned_of(i64::from(z) - i64::from(before))
 }

@@ -13,7 +13,7 @@ pub fn write_number(out: &mut [u8], at: usize, n: u64) -> usize
     let mut i = at;
     while 128 <= v {
         out[i] = (128 + v % 128) as u8;
-        v = v / 128;
+        v /= 128;
         i += 1;
     }
     out[i] = v as u8;

@@ -1,9 +1,11 @@
 -- `numbers::number_length` meets its contract.
-use Rattle.file_formats.specs.GroupLaws.{top_fits, groups_are}
+use mathlib.Core.Path.{ap, ◌∙◌}
+use native.Mathlib.Omega.{arith}
+use Prim.Native.Nat.{◌^◌}
+use Rattle.file_formats.specs.GroupLaws.{groups_are}
 use Rattle.file_formats.proofs.numbers.number_length.Goals as goal
 
-pub overflow_sub-result : goal.overflow_sub-result
-overflow_sub-result c = top_fits c.args.n c.ranges.n.fits
-
 pub returns : goal.returns
-returns c = record { value = groups_are c.args.n c.ranges.n.fits }
+returns c =
+    let j = c.ilog2.result in
+    record { value = groups_are c.args.n j (omega (arith, c.ilog2.ensures.power_le)) (omega (arith, c.ilog2.ensures.next_power_gt)) }

@@ -14,5 +14,5 @@ returns-then-m-eq0 c = record { value = even _ (half (goal.at.returns-then-m-eq0
 pub overflow_sub-result : goal.overflow_sub-result
 overflow_sub-result c = minus_fits _ (half (goal.at.overflow_sub-result c).Start)
 
-pub returns : goal.returns
-returns c = record { value = odd _ (half (goal.at.returns c).Start) c.if-m-eq0.false }
+pub returns-else-m-eq0 : goal.returns-else-m-eq0
+returns-else-m-eq0 c = record { value = odd _ (half (goal.at.returns-else-m-eq0 c).Start) c.if-m-eq0.false }

@@ -14,8 +14,8 @@ neg c = negative _ c.ranges.z (lt_true (fit c.ranges.z) (lit (pos 0) tt) c.if-z-
 not_neg : (c : Else-z-lt0) → NonNegative c.args.z
 not_neg c = non_negative _ c.ranges.z (lt_false (fit c.ranges.z) (lit (pos 0) tt) c.if-z-lt0.false)
 
-pub overflow_sub-k : goal.overflow_sub-k
-overflow_sub-k c = below_fits (neg c)
+pub overflow_sub-result : goal.overflow_sub-result
+overflow_sub-result c = below_fits (neg c)
 
 pub overflow_cast-result : goal.overflow_cast-result
 overflow_cast-result c = plain_ok (below_is (neg c)) (neg c).small
@@ -29,11 +29,11 @@ overflow_add-result c = omega (arith, (neg c).small, ap nat_abs (below_is (neg c
 pub returns-then-z-lt0 : goal.returns-then-z-lt0
 returns-then-z-lt0 c = record { value = omega (arith, ap nat_abs (below_is (neg c)), zigzag_negative (neg c)) }
 
-pub overflow_cast-result-2 : goal.overflow_cast-result-2
-overflow_cast-result-2 c = plain_ok (not_neg c).is (not_neg c).small
+pub overflow_cast-result-else-z-lt0 : goal.overflow_cast-result-else-z-lt0
+overflow_cast-result-else-z-lt0 c = plain_ok (not_neg c).is (not_neg c).small
 
-pub overflow_mul-result-2 : goal.overflow_mul-result-2
-overflow_mul-result-2 c = omega (arith, (not_neg c).small, ap nat_abs (not_neg c).is)
+pub overflow_mul-result-else-z-lt0 : goal.overflow_mul-result-else-z-lt0
+overflow_mul-result-else-z-lt0 c = omega (arith, (not_neg c).small, ap nat_abs (not_neg c).is)
 
-pub returns : goal.returns
-returns c = record { value = omega (arith, ap nat_abs (not_neg c).is, zigzag_non_negative (not_neg c)) }
+pub returns-else-z-lt0 : goal.returns-else-z-lt0
+returns-else-z-lt0 c = record { value = omega (arith, ap nat_abs (not_neg c).is, zigzag_non_negative (not_neg c)) }
