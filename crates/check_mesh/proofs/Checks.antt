@@ -1,11 +1,10 @@
 -- Check put together: what its first tests establish, and its answer and tables at each return.
 use Prim.Native.Nat.{ℕ, ◌≤◌, ◌<◌}
-use mathlib.Core.Path.{◌≡◌, refl, sym, ◌∙◌}
+use mathlib.Core.Path.{◌≡◌, refl, sym, ap, ◌∙◌}
 use mathlib.Core.Bool.{true, false}
 use mathlib.Core.List.{List, [], ◌∷◌, ◌++◌}
 use native.Mathlib.Omega.{arith}
-use borrow.Author.Tests.{leb-true, le-leb, lt-leb, not-false}
-use lib.Dec.{leb}
+use borrow.Author.Tests.{leb-true, not-false}
 use lib.ListN.{length, get_or, replicate, length-replicate}
 use lib.IntN.{pos, nat_abs}
 use Rattle.laws.specs.Booleans.{and_parts}
@@ -21,23 +20,14 @@ use Rattle.mesh.specs.OrderTableLaws.{length_order}
 use Rattle.mesh.specs.Refusals.{Told, numbered, told_of, tell_verdict}
 use Rattle.mesh.specs.TestLaws.{sizes_parts, sizes_whole, in_range_lem, names_vertex, proper_edge}
 use Rattle.mesh.specs.declared.Refusal.{Refusal}
-use Rattle.mesh.specs.declared.Verdict.{Verdict}
-use Rattle.check_mesh.specs.declared.CheckAnswer.TheVariants.{Accepted, Refused}
-use Rattle.check_mesh.specs.Check.{CheckTables, check_tables, check_room_for, check_tests, edge_tests, Checks}
+use Rattle.std.specs.Prelude.{Result, Ok, Err}
+use Rattle.check_mesh.specs.Check.{CheckTables, check_tables, check_room_for, check_tests, edge_tests, tell_check, Checks}
 use Rattle.check_pairing.specs.Partners.{partner_of, pairing_of}
 use Rattle.check_pairing.specs.Joining.{NamesVertices, Frame, PairingRoom, PairsFound}
 
 -- ---- 9
 
 module _ (n v a b : ℕ) where
-  pub room_1 : a < n → false ≡ check_room_for n v a b
-  unfolding check_room_for
-  room_1 h = simp (lt-leb n a h)
-
-  pub room_2 : n ≤ a → leb v b ≡ check_room_for n v a b
-  unfolding check_room_for
-  room_2 h = simp (le-leb n a h)
-
   room_parts : check_room_for n v a b ≡ true → (n ≤ a) × (v ≤ b)
   unfolding check_room_for
   room_parts e = let p = and_parts _ _ e in (leb-true n a p.0, leb-true v b p.1)
@@ -87,9 +77,9 @@ module _ (m : Mesh) (t : CheckTables) where
             }
 
     -- a refusal
-    pub checks_refused : {r : Refusal} → f ≡ refuses (told_of r) → Checks m t (Refused r) t
-    checks_refused {r} h =
-        does_refuse (join_stop first (edge_tests m.corners) e h) h refl
+    pub checks_refused : {r : Refusal} {result : Result Unit Refusal} → result ≡ Err r → f ≡ refuses (told_of r) → Checks m t result t
+    checks_refused {r} raised h =
+        does_refuse (join_stop first (edge_tests m.corners) e h) h (ap tell_check raised)
         (λ i. check_tables
         (after_kept (numbered (6 ∷ [])) (pairing_of m.corners) n 0 t.pairing (told_of r) other i)
         (after_kept (numbered (6 ∷ [])) (order_of m.coords) k 0 t.order (told_of r) other i))
@@ -100,7 +90,7 @@ module _ (m : Mesh) (t : CheckTables) where
             ((λ i. refl), ((λ i. refl), ((λ i. refl), ((λ i. refl), ((λ i. refl), tt))))) (sym e ∙ h)
 
     -- nothing, and pairs were sought
-    module _ (h : f ≡ fine) {w : Verdict} {t₁ : CheckTables}
+    module _ (h : f ≡ fine) {w : Result Unit Refusal} {t₁ : CheckTables}
         (p : PairsFound m.corners (vertex_count m.coords) t.pairing t.order t₁.pairing t₁.order w) where
       long : PairingRoom m.corners (vertex_count m.coords) t.pairing t.order
       long = (passed h).long
@@ -110,7 +100,7 @@ module _ (m : Mesh) (t : CheckTables) where
 
       pub checks_cleared : {r : Refusal} {t₂ : CheckTables} → tell_verdict w ≡ refuses (told_of r)
           → t₂.pairing ≡ overwrite (replicate (length m.corners) 0) t₁.pairing
-          → t₂.order ≡ overwrite (replicate (vertex_count m.coords) 0) t₁.order → Checks m t (Refused r) t₂
+          → t₂.order ≡ overwrite (replicate (vertex_count m.coords) 0) t₁.order → Checks m t (Err r) t₂
       checks_cleared {r} g a b =
           does_refuse decides g refl
           (λ i. check_tables
@@ -123,7 +113,7 @@ module _ (m : Mesh) (t : CheckTables) where
           edge = refused_every (λ q. numbered (6 ∷ []) q ≡ true) (edge_tests m.corners) (told_of r) ((λ i. refl), tt) (sym p.is ∙ g)
 
       pub checks_accepted : {order₂ : List ℕ} → tell_verdict w ≡ fine → order₂ ≡ overwrite (order_of m.coords) t₁.order
-          → Checks m t Accepted (check_tables t₁.pairing order₂)
+          → Checks m t (Ok tt) (check_tables t₁.pairing order₂)
       unfolding pairing_of
       checks_accepted g b =
           does_give decides g refl

@@ -1,14 +1,13 @@
 -- Check (CHECK-1 to CHECK-13): its refusals in order, what it answers, and what it leaves in the two lent tables.
-use Rattle.std.specs.Prelude.{ℕ, Bool, not, ◌&&◌, List, [], ◌∷◌, ◌++◌, leb, length}
+use Rattle.std.specs.Prelude.{ℕ, Bool, not, ◌&&◌, List, [], ◌∷◌, ◌++◌, leb, length, Result}
 use Rattle.mesh.specs.Corners.{vertex_count}
 use Rattle.mesh.specs.Meshes.{Mesh}
-use Rattle.mesh.specs.Operation.{Answer, gives, refuses, Condition, whole, after, Operation, Does}
+use Rattle.mesh.specs.Operation.{Answer, Condition, whole, after, Operation, Does}
 use Rattle.mesh.specs.Order.{order_of}
-use Rattle.mesh.specs.Refusals.{Told, refusal, numbered, told_of}
+use Rattle.mesh.specs.Refusals.{Told, refusal, numbered, tell}
 use Rattle.mesh.specs.Tests.{size, mesh_tests}
+use Rattle.mesh.specs.declared.Refusal.{Refusal}
 use Rattle.check_pairing.specs.Partners.{open_edge, pairing_of}
-use Rattle.check_mesh.specs.declared.CheckAnswer.{CheckAnswer}
-use Rattle.check_mesh.specs.declared.CheckAnswer.TheVariants.{Accepted, Refused}
 
 -- the two lent tables
 pub record CheckTables : Type 0 where
@@ -48,9 +47,8 @@ checking = λ (m, t). record {
 }
 
 -- what its answer says
-abbrev pub tell_check : CheckAnswer → Answer Told Unit
-tell_check Accepted = gives tt
-tell_check (Refused r) = refuses (told_of r)
+abbrev pub tell_check : Result Unit Refusal → Answer Told Unit
+tell_check = tell (λ _. tt)
 
-abbrev pub Checks : Mesh → CheckTables → CheckAnswer → CheckTables → Type 0
+abbrev pub Checks : Mesh → CheckTables → Result Unit Refusal → CheckTables → Type 0
 Checks m t result t' = Does checking tell_check (m, t) result t'

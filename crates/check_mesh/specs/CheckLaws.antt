@@ -1,14 +1,13 @@
 -- What Check promises: it refuses exactly if a listed condition holds, at the least place; it accepts exactly if the earlier tests pass and each edge is used
 -- equally often both ways; and an accepted mesh has a pairing that refusal 7 never meets, the only one where no edge is shared, and an order that refusal 8
 -- never meets.
-use Rattle.std.specs.Prelude.{ℕ, ◌≤◌, ◌<◌, ◌≡◌, refl, true, not, ◌↔◌, ℤ}
+use Rattle.std.specs.Prelude.{ℕ, ◌≤◌, ◌<◌, ◌≡◌, refl, true, not, ◌↔◌, ℤ, Result, Ok, Err}
 use Rattle.std.proofs.Math.Path.{sym, ap}
 use Rattle.std.proofs.Common.{◌∙◌, arith}
 use mathlib.Core.List.{List, [], ◌∷◌, ◌++◌}
 use Rattle.std.proofs.Math.ListN.{length, get_or}
 use borrow.Author.Tests.{leb-true, lt-ltb, eq-eqb, not-false}
 use Rattle.laws.specs.Booleans.{and_parts, and_of}
-use Rattle.laws.specs.Least.{least}
 use Rattle.laws.specs.Tables.{overwrite}
 use Rattle.laws.specs.TableLaws.{length_tabulate, length_overwrite, overwrite_at, get_d_tabulate}
 use Rattle.mesh.specs.Corners.{vertex_count}
@@ -21,8 +20,7 @@ use Rattle.mesh.specs.OperationLaws.{only_outcome}
 use Rattle.mesh.specs.Refusals.{Told}
 use Rattle.mesh.specs.RefusalLaws.{refusal_of, refusal_once}
 use Rattle.mesh.specs.Tests.{pairs, ordered_at, orders}
-use Rattle.check_mesh.specs.declared.CheckAnswer.{CheckAnswer}
-use Rattle.check_mesh.specs.declared.CheckAnswer.TheVariants.{Accepted, Refused}
+use Rattle.mesh.specs.declared.Refusal.{Refusal}
 use Rattle.check_mesh.specs.Check.{CheckTables, check_room_for, check_tests, checking, tell_check, Checks}
 use Rattle.check_pairing.specs.Partners.{partner_of, pairing_of}
 use Rattle.check_pairing.specs.EdgeUse.{EvenEdges, SingleEdges, open_by_edges}
@@ -47,11 +45,11 @@ last_same (k ∷ ks) a b e = ap (λ (f : Finding Told). test k then f) (last_sam
 
 pub check_recovers : Recovers tell_check
 check_recovers = record {
-  back = elim [ gives _ ↦ Accepted | refuses r ↦ Refused (refusal_of r) ];
-  once = elim [ Accepted ↦ refl | Refused r ↦ ap Refused (refusal_once r) ];
+  back = elim [ gives _ ↦ Ok tt | refuses r ↦ Err (refusal_of r) ];
+  once = elim [ Ok _ ↦ refl | Err r ↦ ap Err (refusal_once r) ];
 }
 
-module _ {m : Mesh} {t t' : CheckTables} {result : CheckAnswer} (c : Checks m t result t') where
+module _ {m : Mesh} {t t' : CheckTables} {result : Result Unit Refusal} (c : Checks m t result t') where
   -- refused exactly if a listed condition holds, the first that fits, at the least place; accepted exactly if none does; and one outcome only
   pub check_refused : (r : Told) → (tell_check result ≡ refuses r) ↔ First (checking (m, t)).refusals r
   check_refused = refused_exactly c
@@ -59,7 +57,7 @@ module _ {m : Mesh} {t t' : CheckTables} {result : CheckAnswer} (c : Checks m t 
   pub check_given : (tell_check result ≡ gives tt) ↔ None (checking (m, t)).refusals
   check_given = given_exactly c
 
-  pub check_only : {other : CheckAnswer} {u' : CheckTables} → Checks m t other u' → (result ≡ other) × (t' ≡ u')
+  pub check_only : {other : Result Unit Refusal} {u' : CheckTables} → Checks m t other u' → (result ≡ other) × (t' ≡ u')
   check_only = only_outcome check_recovers c
 
   -- accepted exactly if 1, 9, 2, 3 and 4 do not fit and each edge is used equally often both ways (CHECK-17)

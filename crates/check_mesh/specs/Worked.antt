@@ -1,8 +1,8 @@
 -- The worked pieces on Check (WORKED-4, WORKED-13) and pairings on an edge that two solids share, by computation from the definitions.
-use Rattle.std.specs.Prelude.{◌≡◌, refl, Bool, List, [], ◌∷◌, ℕ, ℤ, pos}
+use Rattle.std.specs.Prelude.{◌≡◌, refl, List, [], ◌∷◌, ℕ, ℤ, pos}
 use Rattle.laws.specs.Count.{count}
 use Rattle.laws.specs.Least.{least, some}
-use Rattle.laws.specs.Tables.{tabulate, overwrite}
+use Rattle.laws.specs.Tables.{tabulate}
 use Rattle.mesh.specs.Order.{before, place, order_up_to, order_of}
 use Rattle.mesh.specs.Meshes.{mesh}
 use Rattle.mesh.specs.Operation.{gives, refuses, test, ◌then◌, verdict, answer_of}

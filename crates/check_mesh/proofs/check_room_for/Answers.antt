@@ -1,9 +1,13 @@
 -- `check_room_for` meets its contract.
-use Rattle.check_mesh.proofs.Checks.{room_1, room_2}
+use Rattle.std.proofs.Common.{arith}
+use Rattle.std.proofs.lemmas.Bool.Decides.{nat_tests}
+use Rattle.check_mesh.specs.Check.{check_room_for}
 use Rattle.check_mesh.proofs.check_room_for.Goals as goal
 
-pub returns-then-pairing-corners : goal.returns-then-pairing-corners
-returns-then-pairing-corners c = record { value = room_1 _ _ _ _ c.if-pairing-corners.true }
+pub returns-then-corners-pairing : goal.returns-then-corners-pairing
+unfolding check_room_for
+returns-then-corners-pairing c = record { value = grind (arith, nat_tests) }
 
-pub returns : goal.returns
-returns c = record { value = room_2 _ _ _ _ c.if-pairing-corners.false }
+pub returns-else-corners-pairing : goal.returns-else-corners-pairing
+unfolding check_room_for
+returns-else-corners-pairing c = record { value = grind (arith, nat_tests) }

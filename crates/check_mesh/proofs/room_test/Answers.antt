@@ -2,7 +2,6 @@
 use mathlib.Core.Path.{sym, ap, ◌∙◌}
 use mathlib.Core.Bool.{not}
 use Rattle.mesh.specs.OperationLaws.{whole_refused, whole_fine}
-use borrow.Author.Rules.{rules}
 use Rattle.check_mesh.proofs.room_test.Goals as goal
 
 pub returns-then-check_room_for : goal.returns-then-check_room_for
