@@ -22,11 +22,8 @@ pub fn read_coordinate(file: &[u8], at: usize, before: i32) -> Result<(i32, usiz
     ensures value { result ≡ coordinate_at before file.now at }
 {
     let (m, next) = read_number(file, at, LARGEST_WORD)?;
-    let z = (before as i64) + signed_of(m);
-    if z < LEAST_COORDINATE_64 {
-        return Err(Broken { at });
-    }
-    if LARGEST_COORDINATE_64 < z {
+    let z = i64::from(before) + signed_of(m);
+    if z < LEAST_COORDINATE_64 || LARGEST_COORDINATE_64 < z {
         return Err(Broken { at });
     }
     Ok((z as i32, next))
