@@ -1,20 +1,22 @@
--- The answer: a lemma for each return of `read_layer_room_for`, `locate` and `read_layer`.
+-- The answer: a lemma for each return of `locate` and `read_layer`.
 use mathlib.Core.Path.{◌≡◌, refl, sym, ap, ◌∙◌, subst}
 use mathlib.Core.Bool.{true, false}
 use mathlib.Core.List.{List, []}
-use Prim.Native.Nat.{ℕ, ◌-◌, ◌*◌, ◌/◌, ◌<◌, ◌≤◌, ◌^◌}
+use Rattle.std.specs.Prelude.{Result, Ok, Err, Some, None}
+use Prim.Native.Nat.{ℕ, ◌*◌, ◌<◌, ◌≤◌, ◌^◌}
 use native.Mathlib.Omega.{arith}
 use lib.Dec.{leb}
 use lib.ListN.{length, drop}
 use lib.IntN.{pos}
 use lib.Signed.{mag}
-use borrow.Author.Tests.{lt-leb, le-leb, leb-true}
+use borrow.Author.Tests.{leb-true}
 use Rattle.laws.specs.Booleans.{and_parts}
 use Rattle.laws.specs.Tables.{overwrite}
 use Rattle.mesh.specs.Operation.{gives, refuses, verdict}
 use Rattle.mesh.specs.OperationLaws.{does_refuse, does_give, after_fine}
 use Rattle.mesh.specs.Refusals.{refusal, numbered, told_of}
 use Rattle.mesh.specs.declared.Refusal.{Refusal}
+use Rattle.mesh.specs.declared.Refusal.TheVariants.{File}
 use Rattle.polygons.specs.Flat.{FlatLayer, flat, flat_of}
 use Rattle.cleaning.specs.declared.Profile.{Profile}
 use Rattle.cleaning.specs.declared.Profile.TheVariants.{Full, Clean}
@@ -23,54 +25,45 @@ use Rattle.file_formats.specs.FormatLaws.{finished_in}
 use Rattle.file_formats.specs.LayerFile.{Layer, most_layers, contour_list, layer_format_in, lowest, height_of, layer_file_in, layers_of, layers_of_in}
 use Rattle.file_formats.specs.LayerRules.{point_total}
 use Rattle.file_formats.specs.Positions.{number_at}
-use Rattle.file_formats.specs.PositionLaws.{took, not_took}
+use Rattle.file_formats.specs.PositionLaws.{took, not_took, number_breaks, same_place}
 use Rattle.file_formats.specs.SequenceLaws.{parsed_length}
-use Rattle.file_formats.specs.declared.Number.TheVariants.{Value, Bad}
+use Rattle.file_formats.specs.declared.Broken.{Broken}
 use Rattle.file_check.specs.AnswerLaws.{told_parsed}
 use Rattle.file_formats.specs.CleanFileLaws.{layers_full}
 use Rattle.file_formats.specs.WholeFileLaws.{held_or_is}
-use Rattle.read_layer.specs.Reading.{layers_in, layer_at, Entries, entries, entries_of, read_layer_room_for, layer_has_room, reading_tests, ReadsLayer}
+use Rattle.read_layer.specs.Reading.{layers_in, layer_at, Entries, entries, entries_of, read_layer_room_for, layer_has_room, reading_tests, tell_read_layer, ReadsLayer}
 use Rattle.read_layer.specs.ReadingLaws.{verdict_broken, verdict_unclean, verdict_short, verdict_fine, refused_keeps}
-use Rattle.read_layer.specs.Places.{LayerStands, last_layers, Searched, broken_told, Ready, contours_from, FillLayer, filled_layer}
+use Rattle.read_layer.specs.Places.{LayerStands, last_layers, Searched, broken_told, Ready, Located, contours_from, FillLayer, filled_layer}
 use Rattle.read_layer.specs.declared.LayerPlace.{LayerPlace}
-use Rattle.read_layer.specs.declared.FindLayerAnswer.TheVariants.{Found, Missing, Broken}
-use Rattle.read_layer.specs.declared.ReadLayerAnswer.TheVariants.{Layer as ReadLayerLayer, Refused}
-
--- ---- room
-
-module _ (contours points : ℕ) (n : Entries) where
-  pub room_1 : n.points / 2 < points → false ≡ read_layer_room_for contours points n
-  unfolding read_layer_room_for
-  room_1 h = simp (lt-leb (2 * points) n.points (omega arith))
-
-  pub room_2 : points ≤ n.points / 2 → leb contours n.ends ≡ read_layer_room_for contours points n
-  unfolding read_layer_room_for
-  room_2 h = simp (le-leb (2 * points) n.points (omega arith))
+use Rattle.read_layer.specs.declared.LayerRead.{LayerRead}
 
 -- ---- the layers of a file, by their count
 
-pub no_count : (file : List ℕ) → number_at most_layers file 0 ≡ Bad → layers_of file ≡ broken 0
+pub no_count : (file : List ℕ) {b : Broken} → number_at most_layers file 0 ≡ Err b → layers_of file ≡ broken b.at
 unfolding layers_of_in layer_file_in
-no_count file e = let p = not_took most_layers file 0 e in simp p (ap broken (omega arith))
+no_count file {b} e =
+    let p = not_took most_layers file 0 e in
+    let here : 0 ≡ b.at = ap (λ (b : Broken). b.at) (sym (number_breaks most_layers file 0 e)) in
+    simp p (ap broken (omega arith))
 
-module _ (profile : Profile) (file : List ℕ) {n start : ℕ} (e : number_at most_layers file 0 ≡ Value n start) where
+module _ (profile : Profile) (file : List ℕ) {n start : ℕ} (e : number_at most_layers file 0 ≡ Ok (n, start)) where
   by_count : layers_of_in profile file ≡ decoded_in (length file) (last_layers profile n lowest file start)
   unfolding layers_of_in layer_file_in
   by_count = let p = (took e).parses in simp p
 
   module _ (i : ℕ) where
-    pub searched_broken : {q : ℕ} → Searched file i (last_layers profile n lowest file start) (Broken q) → layers_of_in profile file ≡ broken q
-    searched_broken {q} w = by_count ∙ by (last_layers profile n lowest file start) w
+    pub searched_broken : {b : Broken} → Searched file i (last_layers profile n lowest file start) (Err b) → layers_of_in profile file ≡ broken b.at
+    searched_broken {b} w = by_count ∙ by (last_layers profile n lowest file start) w
       where
-        by : (d : Parse (List Layer)) → Searched file i d (Broken q) → decoded_in (length file) d ≡ broken q
+        by : (d : Parse (List Layer)) → Searched file i d (Err b) → decoded_in (length file) d ≡ broken b.at
         by (parsed ls r) w = absurd w
-        by (refused r) w = let z : length file - length r ≡ q = cc in ap broken z
+        by (refused r) w = ap broken (same_place (sym w))
 
-    pub searched_missing : Searched file i (last_layers profile n lowest file start) Missing
+    pub searched_missing : Searched file i (last_layers profile n lowest file start) (Ok None)
         → (ls : List Layer) × (layers_of_in profile file ≡ holds ls) × (length ls ≤ i)
     searched_missing w = let q = by (last_layers profile n lowest file start) w in (q.0, by_count ∙ q.1, q.2)
       where
-        by : (d : Parse (List Layer)) → Searched file i d Missing → (ls : List Layer) × (decoded_in (length file) d ≡ holds ls) × (length ls ≤ i)
+        by : (d : Parse (List Layer)) → Searched file i d (Ok None) → (ls : List Layer) × (decoded_in (length file) d ≡ holds ls) × (length ls ≤ i)
         by (parsed ls r) w = (ls, refl, w)
         by (refused r) w = let z : ◌≡◌ {A = ℕ} 0 1 = cc in absurd (omega arith)
 
@@ -82,10 +75,10 @@ module _ (profile : Profile) (file : List ℕ) {n start : ℕ} (e : number_at mo
       pub there : i < length ls
       pub place : LayerStands file (layer_at ls i) p
 
-    pub searched_found : {p : LayerPlace} → Searched file i (last_layers profile n lowest file start) (Found p) → LayerFound p
+    pub searched_found : {p : LayerPlace} → Searched file i (last_layers profile n lowest file start) (Ok (Some p)) → LayerFound p
     searched_found {p} w = by (last_layers profile n lowest file start) refl w
       where
-        by : (d : Parse (List Layer)) → last_layers profile n lowest file start ≡ d → Searched file i d (Found p) → LayerFound p
+        by : (d : Parse (List Layer)) → last_layers profile n lowest file start ≡ d → Searched file i d (Ok (Some p)) → LayerFound p
         by (parsed ls r) q w =
             let j = finished_in (parse_all (layer_format_in profile) height_of n lowest (drop start file)) ls r q in
             record {
@@ -98,7 +91,7 @@ module _ (profile : Profile) (file : List ℕ) {n start : ℕ} (e : number_at mo
         by (refused r) q w = let z : ◌≡◌ {A = ℕ} 0 1 = cc in absurd (omega arith)
 
 -- a file that breaks at k in a profile is refused so
-pub refused_broken : (profile : Profile) (file : List ℕ) {n start : ℕ} (e : number_at most_layers file 0 ≡ Value n start) (i : ℕ)
+pub refused_broken : (profile : Profile) (file : List ℕ) {n start : ℕ} (e : number_at most_layers file 0 ≡ Ok (n, start)) (i : ℕ)
     (entries : Entries) {k : ℕ}
     → layers_of_in profile file ≡ broken k
     → verdict (reading_tests profile file i entries) ≡ refuses (told_of (broken_told profile file (last_layers Full n lowest file start) k))
@@ -112,8 +105,12 @@ refused_broken Clean file {n} {start} e i entries {k} h = by (last_layers Full n
 
 -- ---- the tests
 
+pub located_broken : (profile : Profile) (file : List ℕ) (i : ℕ) (n : Entries) {b : Broken} → layers_of file ≡ broken b.at
+    → (met : Result (ℕ × LayerPlace) Refusal) → met ≡ Err (File b.at) → Located profile file i n met
+located_broken profile file i n h met is = subst (Located profile file i n) (sym is) (verdict_broken file i n profile h)
+
 module _ (profile : Profile) {file : List ℕ} {i : ℕ} (n : Entries) where
-  module _ {count start : ℕ} {e : number_at most_layers file 0 ≡ Value count start} {p : LayerPlace} (h : LayerFound profile file e i p) where
+  module _ {count start : ℕ} {e : number_at most_layers file 0 ≡ Ok (count, start)} {p : LayerPlace} (h : LayerFound profile file e i p) where
     abbrev found : Layer
     found = layer_at h.ls i
 
@@ -145,8 +142,9 @@ pub height_fits : {p : Profile} {file : List ℕ} {i : ℕ} {n : Entries} {count
 height_fits w = rw w.place.height w.place.word
 
 module _ {p : Profile} {file : List ℕ} {i : ℕ} {t : FlatLayer} where
-  pub reads_refused : {r : Refusal} → verdict (reading_tests p file i (entries_of t)) ≡ refuses (told_of r) → ReadsLayer p file i t (Refused r) t
-  reads_refused {r} v = does_refuse refl v refl (refused_keeps (layer_at (layers_in file) i) t (told_of r))
+  pub reads_refused : {r : Refusal} → verdict (reading_tests p file i (entries_of t)) ≡ refuses (told_of r)
+      → {met : Result LayerRead Refusal} → met ≡ Err r → ReadsLayer p file i t met t
+  reads_refused {r} v is = does_refuse refl v (ap tell_read_layer is) (refused_keeps (layer_at (layers_in file) i) t (told_of r))
 
   module _ {count : ℕ} {l : LayerPlace} (w : Ready p file i (entries_of t) count l) where
     pub fill_ready : FillLayer file l.at t
@@ -160,7 +158,8 @@ module _ {p : Profile} {file : List ℕ} {i : ℕ} {t : FlatLayer} where
           ends_long = w.ends_long;
         }
 
-    pub reads_layer : {t' : FlatLayer} → t' ≡ filled_layer file l.at t → ReadsLayer p file i t (ReadLayerLayer count l.height l.contours l.points) t'
+    pub reads_layer : {t' : FlatLayer} → t' ≡ filled_layer file l.at t
+        → ReadsLayer p file i t (Ok (record { layers = count; height = l.height; counts = record { contours = l.contours; points = l.points } })) t'
     reads_layer f =
         let m = layer_at (layers_in file) i in
         let s : contours_from file l.at ≡ m.contours =

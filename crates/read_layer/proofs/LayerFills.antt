@@ -2,6 +2,7 @@
 use mathlib.Core.Path.{◌≡◌, refl, sym, ap, ◌∙◌, subst}
 use mathlib.Core.Bool.{Bool, true, false}
 use mathlib.Core.List.{List, [], ◌∷◌, ◌++◌, flatten}
+use Rattle.std.specs.Prelude.{Result, Ok, Err, IsOk}
 use Prim.Native.Nat.{ℕ, ◌+◌, ◌*◌, ◌-◌, ◌<◌, ◌≤◌}
 use native.Mathlib.Omega.{arith}
 use lib.Dec.{leb}
@@ -23,7 +24,7 @@ use Rattle.file_formats.specs.Positions.{number_at}
 use Rattle.file_formats.specs.PositionLaws.{Tails, took, not_took, sequence_tails, parsed_at, passed}
 use Rattle.file_formats.specs.SequenceLaws.{FirstParsed, first_parsed, none}
 use Rattle.file_formats.specs.EmitLaws.{Emit, emit_start, emit, emit_fits, emit_one, emit_one_fits, emit_end}
-use Rattle.file_formats.specs.declared.Number.TheVariants.{Value, Bad}
+use Rattle.file_formats.specs.declared.Broken.{Broken}
 use Rattle.file_check.specs.AnswerLaws.{told_parsed, contours_by_count}
 use Rattle.read_layer.specs.Places.{points_from, contours_from, FillPoints, FilledPoints, FillLayer, filled_layer}
 
@@ -43,14 +44,15 @@ pub record LayerFilling (file : List ℕ) (at : ℕ) (t : FlatLayer) (n : ℕ) (
   pub ends_go : Emit t.ends 0 (ends_of (contours_from file at)) u.ends c (ends_from done qs)
 
 module _ {file : List ℕ} {at : ℕ} {t : FlatLayer} (f : FillLayer file at t) where
-  pub count_there : number_at largest_word file at ≡ Bad → ⊥
+  pub count_there : (met : Result (ℕ × ℕ) Broken) → met ≡ number_at largest_word file at → IsOk met
   unfolding contour_list_in
-  count_there e =
-      let p = not_took largest_word file at e in
+  count_there (Ok n) e = refl
+  count_there (Err b) e =
+      let p = not_took largest_word file at (sym e) in
       let q : contour_list.parse (drop at file) ≡ refused (drop at file) = simp p in
       not_refused (sym q ∙ f.stands.parses)
 
-  pub layer_filling : {n start : ℕ} → number_at largest_word file at ≡ Value n start → LayerFilling file at t n t start 0 0
+  pub layer_filling : {n start : ℕ} → number_at largest_word file at ≡ Ok (n, start) → LayerFilling file at t n t start 0 0
   layer_filling {n} {start} e =
       let s : f.cs ≡ contours_from file at = told_parsed (λ cs next. cs) (λ q. []) contour_list file at f.cs f.next f.stands in
       let z : n - 0 ≡ n = omega arith in
@@ -102,10 +104,11 @@ module _ {file : List ℕ} {at : ℕ} {t : FlatLayer} {n : ℕ} {u : FlatLayer} 
     pub end_fits : c < length u.ends
     end_fits = emit_one_fits (done + length head.value) (ends_from (done + length head.value) head.others) end_entries
 
-    pub points_there : number_at (most_points - done) file i ≡ Bad → ⊥
-    points_there f = not_refused (sym (contour_bad (most_points - done) (drop i file) (not_took (most_points - done) file i f)) ∙ head.head)
+    pub points_there : (met : Result (ℕ × ℕ) Broken) → met ≡ number_at (most_points - done) file i → IsOk met
+    points_there (Ok n) f = refl
+    points_there (Err b) f = not_refused (sym (contour_bad (most_points - done) (drop i file) (not_took (most_points - done) file i (sym f))) ∙ head.head)
 
-    module _ {k next : ℕ} (f : number_at (most_points - done) file i ≡ Value k next) where
+    module _ {k next : ℕ} (f : number_at (most_points - done) file i ≡ Ok (k, next)) where
       count_parses : (number (most_points - done)).parse (drop i file) ≡ parsed k (drop next file)
       count_parses = (took f).parses
 

@@ -1,6 +1,6 @@
 -- What Read layer promises, in both profiles, of its refusals 13 and 18: 13 exactly if the file is not the encoding of layers that obey the rules, 18 exactly
 -- if the clean profile alters them.
-use Rattle.std.specs.Prelude.{ℕ, ◌≡◌, refl, List, [], ◌∷◌, map, ◌↔◌}
+use Rattle.std.specs.Prelude.{ℕ, ◌≡◌, refl, List, [], ◌∷◌, map, ◌↔◌, Result}
 use Rattle.std.proofs.Math.Path.{sym}
 use Rattle.std.proofs.Common.{ap, ◌∙◌, subst, arith}
 use Rattle.mesh.specs.Operation.{refuses, Condition, verdict}
@@ -19,7 +19,8 @@ use Rattle.file_formats.specs.WholeFiles.{unclean_form}
 use Rattle.file_formats.specs.WholeFileLaws.{form_next, eighteen_exactly}
 use Rattle.read_layer.specs.Reading.{layers_in, layer_at, no_layer, Entries, entries_of, no_layer_room, reading_tests, tell_read_layer, ReadsLayer}
 use Rattle.read_layer.specs.ReadingLaws.{layers_broken_inside, verdict_broken, broken_verdict, verdict_unclean}
-use Rattle.read_layer.specs.declared.ReadLayerAnswer.{ReadLayerAnswer}
+use Rattle.mesh.specs.declared.Refusal.{Refusal}
+use Rattle.read_layer.specs.declared.LayerRead.{LayerRead}
 
 -- ---- the verdict of the clean profile
 
@@ -51,7 +52,7 @@ module _ (file : List ℕ) (i : ℕ) (n : Entries) where
 
 -- ---- 13, in both profiles
 
-module _ {p : Profile} {file : List ℕ} {i : ℕ} {t : FlatLayer} {result : ReadLayerAnswer} {t' : FlatLayer} (c : ReadsLayer p file i t result t') where
+module _ {p : Profile} {file : List ℕ} {i : ℕ} {t : FlatLayer} {result : Result LayerRead Refusal} {t' : FlatLayer} (c : ReadsLayer p file i t result t') where
   -- refusal 13 is that of the file's format, in both profiles
   pub broken_exactly : (q : ℕ) → (tell_read_layer result ≡ refuses (refusal 13 q)) ↔ (layers_of file ≡ broken q)
   broken_exactly q = (
@@ -77,7 +78,7 @@ module _ {p : Profile} {file : List ℕ} {i : ℕ} {t : FlatLayer} {result : Rea
 
 -- ---- 18, in the clean profile alone
 
-module _ {file : List ℕ} {i : ℕ} {t : FlatLayer} {result : ReadLayerAnswer} {t' : FlatLayer} where
+module _ {file : List ℕ} {i : ℕ} {t : FlatLayer} {result : Result LayerRead Refusal} {t' : FlatLayer} where
   -- refused with 18 exactly if the file is one of the full profile and none of the clean one, which breaks there: see `clean_place`, CleanFileLaws
   pub unclean_exactly : ReadsLayer Clean file i t result t' → (q : ℕ)
       → (tell_read_layer result ≡ refuses (refusal 18 q)) ↔ (((ls : List Layer) × (layers_of file ≡ holds ls)) × (layers_of_in Clean file ≡ broken q))

@@ -1,5 +1,5 @@
 -- Where a layer stands in a file, and what filling the tables from there needs and does.
-use Rattle.std.specs.Prelude.{ℕ, ◌+◌, ◌*◌, ◌-◌, ◌<◌, ◌≤◌, ◌≡◌, List, [], length, drop, ℤ}
+use Rattle.std.specs.Prelude.{ℕ, ◌+◌, ◌*◌, ◌-◌, ◌<◌, ◌≤◌, ◌≡◌, List, [], length, drop, ℤ, Result, Ok, Err, Option, Some, None}
 use Rattle.std.proofs.lemmas.List.Edits.{sets}
 use Rattle.mesh.specs.Operation.{refuses, fine, verdict}
 use Rattle.mesh.specs.Refusals.{told_of}
@@ -12,15 +12,11 @@ use Rattle.file_formats.specs.Formats.{Parse, parsed, refused, sequence}
 use Rattle.file_formats.specs.Numbers.{Word}
 use Rattle.file_formats.specs.LayerFile.{Point, Layer, point_format, origin, latest, contour_list, layer_format_in, height_of}
 use Rattle.file_formats.specs.LayerRules.{point_total}
-use Rattle.file_formats.specs.Positions.{extent_at, ParsedAt}
-use Rattle.file_formats.specs.declared.Extent.TheVariants.{End}
+use Rattle.file_formats.specs.Positions.{breaks_at, extent_at, ParsedAt}
+use Rattle.file_formats.specs.declared.Broken.{Broken}
 use Rattle.file_check.specs.Answers.{told_at, final}
 use Rattle.read_layer.specs.Reading.{layers_in, layer_at, Entries, reading_tests}
 use Rattle.read_layer.specs.declared.LayerPlace.{LayerPlace}
-use Rattle.read_layer.specs.declared.FindLayerAnswer.{FindLayerAnswer}
-use Rattle.read_layer.specs.declared.FindLayerAnswer.TheVariants.{Found, Missing, Broken}
-use Rattle.read_layer.specs.declared.Location.{Location}
-use Rattle.read_layer.specs.declared.Location.TheVariants.{At, Refused}
 
 -- a place is that of a layer
 pub record LayerStands (file : List ℕ) (l : Layer) (p : LayerPlace) : Type 0 where
@@ -37,11 +33,11 @@ abbrev pub last_layers : Profile → ℕ → ℤ → List ℕ → ℕ → Parse 
 last_layers p n low file at = (final (sequence (layer_format_in p) height_of n low)).parse (drop at file)
 
 -- what a search for layer i answers, where the layers of the file are parsed so
-abbrev pub Searched : List ℕ → ℕ → Parse (List Layer) → FindLayerAnswer → Type 0
-Searched file i (refused r) s = s ≡ Broken (length file - length r)
-Searched file i (parsed ls r) (Found p) = (i < length ls) × LayerStands file (layer_at ls i) p
-Searched file i (parsed ls r) Missing = length ls ≤ i
-Searched file i (parsed ls r) (Broken q) = ⊥
+abbrev pub Searched : List ℕ → ℕ → Parse (List Layer) → Result (Option LayerPlace) Broken → Type 0
+Searched file i (refused r) s = s ≡ Err (breaks_at (length file - length r))
+Searched file i (parsed ls r) (Ok (Some p)) = (i < length ls) × LayerStands file (layer_at ls i) p
+Searched file i (parsed ls r) (Ok None) = length ls ≤ i
+Searched file i (parsed ls r) (Err b) = ⊥
 
 -- what is refused of a file that breaks at e in a profile, where its layers are parsed so in the full one: 13, or 18 if they are layers there
 abbrev pub broken_told : Profile → List ℕ → Parse (List Layer) → ℕ → Refusal
@@ -58,9 +54,9 @@ pub record Ready (p : Profile) (file : List ℕ) (i : ℕ) (n : Entries) (count 
   pub ends_long : length (layer_at (layers_in file) i).contours ≤ n.ends
 
 -- what the tests of a call answer
-abbrev pub Located : Profile → List ℕ → ℕ → Entries → Location → Type 0
-Located p file i n (At count l) = Ready p file i n count l
-Located p file i n (Refused r) = verdict (reading_tests p file i n) ≡ refuses (told_of r)
+abbrev pub Located : Profile → List ℕ → ℕ → Entries → Result (ℕ × LayerPlace) Refusal → Type 0
+Located p file i n (Ok found) = Ready p file i n found.0 found.1
+Located p file i n (Err r) = verdict (reading_tests p file i n) ≡ refuses (told_of r)
 
 -- ---- filling
 
@@ -82,7 +78,7 @@ pub record FillPoints (file : List ℕ) (at n : ℕ) (points : List ℤ) (from :
 
 -- they were written, and stand up to r
 pub record FilledPoints (file : List ℕ) (at n : ℕ) (points : List ℤ) (from r : ℕ) (points' : List ℤ) : Type 0 where
-  pub next : End r ≡ extent_at (sequence point_format latest n origin) file at
+  pub next : Ok r ≡ extent_at (sequence point_format latest n origin) file at
   pub table : points' ≡ sets points from (numbers_of (points_from n file at))
 
 -- contours stand there, and the tables have room for them

@@ -1,8 +1,9 @@
 -- Read layer i, in the full profile (READ-1 to READ-11) and the clean one (READCLEAN-1 to READCLEAN-3): its refusals in order, what it answers, and what it
 -- leaves in the two lent tables.
-use Rattle.std.specs.Prelude.{ℕ, ◌*◌, Bool, not, ◌&&◌, List, [], ◌∷◌, ◌++◌, leb, length, get_or, ℤ, pos}
-use Rattle.mesh.specs.Operation.{Answer, gives, refuses, Finding, Condition, whole, after, Operation, Does}
-use Rattle.mesh.specs.Refusals.{Told, refusal, numbered, told_of}
+use Rattle.std.specs.Prelude.{ℕ, ◌*◌, Bool, not, ◌&&◌, List, [], ◌∷◌, ◌++◌, leb, length, get_or, ℤ, pos, Result}
+use Rattle.mesh.specs.Operation.{Answer, Finding, Condition, whole, after, Operation, Does}
+use Rattle.mesh.specs.Refusals.{Told, refusal, numbered, tell}
+use Rattle.mesh.specs.declared.Refusal.{Refusal}
 use Rattle.polygons.specs.Flat.{FlatLayer, flat, flat_of}
 use Rattle.cleaning.specs.declared.Profile.{Profile}
 use Rattle.cleaning.specs.declared.Profile.TheVariants.{Full, Clean}
@@ -10,8 +11,7 @@ use Rattle.file_formats.specs.LayerFile.{Layer, layers_of, layers_of_in}
 use Rattle.file_formats.specs.LayerRules.{point_total}
 use Rattle.file_formats.specs.WholeFiles.{form, unclean_form}
 pub use Rattle.file_formats.specs.WholeFiles.{layers_in}
-use Rattle.read_layer.specs.declared.ReadLayerAnswer.{ReadLayerAnswer}
-use Rattle.read_layer.specs.declared.ReadLayerAnswer.TheVariants.{Layer as ReadLayerLayer, Refused}
+use Rattle.read_layer.specs.declared.LayerRead.{LayerRead}
 
 -- ---- the layers of a file
 
@@ -85,10 +85,9 @@ layer_reading = λ (p, file, i, t). record {
 }
 
 -- what its answer says
-abbrev pub tell_read_layer : ReadLayerAnswer → Answer Told (ℕ × ℤ × ℕ × ℕ)
-tell_read_layer (ReadLayerLayer n h k m) = gives (n, h, k, m)
-tell_read_layer (Refused r) = refuses (told_of r)
+abbrev pub tell_read_layer : Result LayerRead Refusal → Answer Told (ℕ × ℤ × ℕ × ℕ)
+tell_read_layer = tell (λ l. (l.layers, l.height, l.counts.contours, l.counts.points))
 
 -- the contract of Read layer
-abbrev pub ReadsLayer : Profile → List ℕ → ℕ → FlatLayer → ReadLayerAnswer → FlatLayer → Type 0
+abbrev pub ReadsLayer : Profile → List ℕ → ℕ → FlatLayer → Result LayerRead Refusal → FlatLayer → Type 0
 ReadsLayer p file i t result t' = Does layer_reading tell_read_layer (p, file, i, t) result t'

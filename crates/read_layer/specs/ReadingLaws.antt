@@ -1,6 +1,6 @@
 -- What Read layer promises, in both profiles: it refuses exactly if a listed condition holds, at its place; its outcome is the only one; and it gives the
 -- layer of a file that it does not refuse. When it refuses with 13, and when with 18, is in proofs/ReadingLaws.antt.
-use Rattle.std.specs.Prelude.{ℕ, ◌*◌, ◌≤◌, ◌<◌, ◌≡◌, refl, true, false, not, List, [], ◌∷◌, ◌++◌, map, ◌↔◌, leb, length, ℤ, pos}
+use Rattle.std.specs.Prelude.{ℕ, ◌*◌, ◌≤◌, ◌<◌, ◌≡◌, refl, true, false, not, List, [], ◌∷◌, ◌++◌, map, ◌↔◌, leb, length, ℤ, pos, Result, Ok, Err}
 use Rattle.std.proofs.Math.Path.{sym}
 use Rattle.std.proofs.Common.{ap, ◌∙◌, arith, le-leb, leb-false}
 use Rattle.std.proofs.lemmas.Bool.{lt-leb}
@@ -23,8 +23,8 @@ use Rattle.file_formats.specs.WholeFileLaws.{decode_inside, held_or_is, form_fir
 use Rattle.read_layer.specs.Reading.{layers_in, layer_at, no_layer, Entries, entries_of, read_layer_room_for, layer_has_room, no_layer_room, profile_tests}
 use Rattle.read_layer.specs.Reading.{reading_tests, layer_counts, fills_layer}
 use Rattle.read_layer.specs.Reading.{tell_read_layer, ReadsLayer}
-use Rattle.read_layer.specs.declared.ReadLayerAnswer.{ReadLayerAnswer}
-use Rattle.read_layer.specs.declared.ReadLayerAnswer.TheVariants.{Layer as ReadLayerLayer, Refused}
+use Rattle.mesh.specs.declared.Refusal.{Refusal}
+use Rattle.read_layer.specs.declared.LayerRead.{LayerRead}
 
 -- ---- the verdict, case by case
 
@@ -126,11 +126,14 @@ refused_keeps l t r =
 
 pub read_layer_recovers : Recovers tell_read_layer
 read_layer_recovers = record {
-  back = elim [ gives v ↦ ReadLayerLayer v.0 v.1 v.2 v.3 | refuses r ↦ Refused (refusal_of r) ];
-  once = elim [ ReadLayerLayer n h k m ↦ refl | Refused r ↦ ap Refused (refusal_once r) ];
+  back = elim [
+    | gives v ↦ Ok (record { layers = v.0; height = v.1; counts = record { contours = v.2; points = v.3 } })
+    | refuses r ↦ Err (refusal_of r)
+  ];
+  once = elim [ Ok l ↦ refl | Err r ↦ ap Err (refusal_once r) ];
 }
 
-module _ {p : Profile} {file : List ℕ} {i : ℕ} {t : FlatLayer} {result : ReadLayerAnswer} {t' : FlatLayer} (c : ReadsLayer p file i t result t') where
+module _ {p : Profile} {file : List ℕ} {i : ℕ} {t : FlatLayer} {result : Result LayerRead Refusal} {t' : FlatLayer} (c : ReadsLayer p file i t result t') where
   -- refused exactly if a listed condition holds, the first that fits; answered exactly if none does; and one outcome only
   pub read_layer_refused : (r : Told) → (tell_read_layer result ≡ refuses r) ↔ First (reading_tests p file i (entries_of t)) r
   read_layer_refused = refused_exactly c
@@ -138,7 +141,7 @@ module _ {p : Profile} {file : List ℕ} {i : ℕ} {t : FlatLayer} {result : Rea
   pub read_layer_given : (tell_read_layer result ≡ gives (layer_counts (layers_in file) i)) ↔ None (reading_tests p file i (entries_of t))
   read_layer_given = given_exactly c
 
-  pub read_layer_only : {other : ReadLayerAnswer} {u' : FlatLayer} → ReadsLayer p file i t other u' → (result ≡ other) × (t' ≡ u')
+  pub read_layer_only : {other : Result LayerRead Refusal} {u' : FlatLayer} → ReadsLayer p file i t other u' → (result ≡ other) × (t' ≡ u')
   read_layer_only = only_outcome read_layer_recovers c
 
   -- both tables stay on refusal
@@ -186,10 +189,10 @@ module _ {p : Profile} {file : List ℕ} {i : ℕ} {t : FlatLayer} {result : Rea
 
 -- ---- 18, in the clean profile alone
 
-module _ {file : List ℕ} {i : ℕ} {t : FlatLayer} {result : ReadLayerAnswer} {t' : FlatLayer} where
+module _ {file : List ℕ} {i : ℕ} {t : FlatLayer} {result : Result LayerRead Refusal} {t' : FlatLayer} where
   -- of a file of the clean profile both profiles answer and leave the same
   pub clean_as_full : {ls : List Layer} → layers_of_in Clean file ≡ holds ls → ReadsLayer Clean file i t result t'
-      → {other : ReadLayerAnswer} {u' : FlatLayer} → ReadsLayer Full file i t other u' → (result ≡ other) × (t' ≡ u')
+      → {other : Result LayerRead Refusal} {u' : FlatLayer} → ReadsLayer Full file i t other u' → (result ≡ other) × (t' ≡ u')
   clean_as_full {ls} e c d = only_outcome read_layer_recovers as_full d
     where
       same : verdict (reading_tests Clean file i (entries_of t)) ≡ verdict (reading_tests Full file i (entries_of t))

@@ -8,21 +8,23 @@ ghost use Rattle.read_layer.specs.Places.{Located};
 
 use crate::unchecked::{fill_layer, find_layer, refusal_at};
 use cleaning::Profile;
+use file_formats::MOST_LAYERS;
 use file_formats::numbers::read_number;
-use file_formats::{MOST_LAYERS, Number};
 use mesh::Refusal;
+use polygons::LayerCounts;
 
 mod unchecked;
 
-// What Read layer answers: the layer count, and the layer's height and its counts of contours and points.
-#[derive(Drop)]
-pub enum ReadLayerAnswer {
-    Layer(usize, i32, usize, usize),
-    Refused(Refusal),
+// What was read of a layer: the layer count of its file, its height, and its counts of contours and points.
+#[derive(Clone, Copy, Debug, PartialEq, Eq)]
+pub struct LayerRead {
+    pub layers: usize,
+    pub height: i32,
+    pub counts: LayerCounts,
 }
 
 // A layer in a file: its height, the position after that, and its counts of contours and points.
-#[derive(Drop)]
+#[derive(Clone, Copy, Debug, PartialEq, Eq)]
 struct LayerPlace {
     height: i64,
     at: usize,
@@ -30,52 +32,37 @@ struct LayerPlace {
     points: u64,
 }
 
-// Where a layer stands, or that there is no such layer; or the first refused position.
-#[derive(Drop)]
-enum FindLayerAnswer {
-    Found(LayerPlace),
-    Missing,
-    Broken(usize),
-}
-
-// The layer count and the layer that is to be read, or why it is not.
-#[derive(Drop)]
-enum Location {
-    At(u64, LayerPlace),
-    Refused(Refusal),
-}
-
 // Whether tables of these lengths have two entries for each of so many points, and one for each contour.
+#[tactic(auto, unfolding(crate::specs::Reading::read_layer_room_for))]
 fn read_layer_room_for(contours: u64, count: u64, points: u64, ends: u64) -> bool
     ensures value { result ≡ read_layer_room_for contours count (entries points ends) }
 {
-    if points / 2 < count {
-        return false;
-    }
-    contours <= ends
+    count <= points / 2 && contours <= ends
 }
 
-// Refusals 13, in the clean profile 18, 15 and 9, for tables of these lengths (READ-5, READCLEAN-2). An accepted file is read once.
-fn locate(profile: Profile, file: &[u8], i: u64, points: u64, ends: u64) -> Location
+// The layer count and the layer that is to be read, or refusal 13, in the clean profile 18, 15 or 9, for tables of these lengths (READ-5, READCLEAN-2).
+// An accepted file is read once.
+fn locate(
+    profile: Profile,
+    file: &[u8],
+    i: u64,
+    points: u64,
+    ends: u64,
+) -> Result<(u64, LayerPlace), Refusal>
     ensures result { Located profile file.now i (entries points ends) result }
 {
-    let n = read_number(file, 0, MOST_LAYERS as u64);
-    let Number::Value(count, start) = n else {
-        return Location::Refused(Refusal::File(0));
+    let (count, start) = read_number(file, 0, MOST_LAYERS as u64)?;
+    let found = match find_layer(profile, file, start, count, i) {
+        Ok(found) => found,
+        Err(b) => return Err(refusal_at(profile, file, start, count, b.at)),
     };
-    let s = find_layer(profile, file, start, count, i);
-    match s {
-        FindLayerAnswer::Found(p) => {
-            if read_layer_room_for(p.contours, p.points, points, ends) {
-                return Location::At(count, p);
-            }
-            Location::Refused(Refusal::Room(0))
-        }
-        FindLayerAnswer::Missing => Location::Refused(Refusal::Layer(0)),
-        FindLayerAnswer::Broken(e) => {
-            Location::Refused(refusal_at(profile, file, start, count, e))
-        }
+    let Some(p) = found else {
+        return Err(Refusal::Layer(0));
+    };
+    if read_layer_room_for(p.contours, p.points, points, ends) {
+        return Ok((count, p));
     }
+    Err(Refusal::Room(0))
 }
 
 // Checks the whole file, in the profile, then fills the first entries of the lent
@@ -86,29 +73,25 @@ pub fn read_layer(
     i: usize,
     points: &mut [i32],
     ends: &mut [u32],
-) -> ReadLayerAnswer
+) -> Result<LayerRead, Refusal>
     ensures outcome { ReadsLayer profile file.now i
         (flat points.old ends.old) result
         (flat points.new ends.new) }
 {
-    let a = locate(
+    let (layers, p) = locate(
         profile,
         file,
         i as u64,
         points.len() as u64,
         ends.len() as u64,
-    );
-    match a {
-        Location::Refused(r) => ReadLayerAnswer::Refused(r),
-        Location::At(count, p) => {
-            let at = p.at;
-            fill_layer(file, at, points, ends);
-            ReadLayerAnswer::Layer(
-                count as usize,
-                p.height as i32,
-                p.contours as usize,
-                p.points as usize,
-            )
-        }
-    }
+    )?;
+    fill_layer(file, p.at, points, ends);
+    Ok(LayerRead {
+        layers: layers as usize,
+        height: p.height as i32,
+        counts: LayerCounts {
+            contours: p.contours as usize,
+            points: p.points as usize,
+        },
+    })
 }

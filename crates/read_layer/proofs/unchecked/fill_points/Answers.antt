@@ -3,82 +3,57 @@ use mathlib.Core.Path.{◌≡◌, sym, ◌∙◌}
 use Prim.Native.Nat.{◌+◌, ◌<◌}
 use native.Mathlib.Omega.{arith}
 use lib.Seq.{lt-length-set}
-use borrow.Author.Rules.{rules}
 use mir.Syntax.{w32}
 use mir.Val.{to_z}
+use Rattle.std.specs.Prelude.{Ok}
 use Rattle.laws.specs.Machine.{same_in}
 use Rattle.mesh.specs.Corners.{largest}
 use Rattle.file_check.specs.Answers.{coordinate_at}
-use Rattle.file_check.specs.declared.Coordinate.TheVariants.{At}
-use Rattle.read_layer.proofs.PointFills.{PointFilling, point_filling, filled, x_fits, y_fits, x_there, x_near, y_there, y_near, next_filled}
+use Rattle.read_layer.proofs.PointFills.{point_filling, filled, x_fits, y_fits, x_there, x_near, y_there, y_near, next_filled}
 use Rattle.read_layer.proofs.unchecked.fill_points.Goals as goal
-use Rattle.read_layer.proofs.unchecked.fill_points.Goals.{In-At, In-At-b}
+use Rattle.read_layer.proofs.unchecked.fill_points.Goals.{After-unwrap-nx, After-unwrap-ny}
 
-pub loop-left-init : goal.loop-left-init
-loop-left-init c = point_filling c.requires
+pub loop-init : goal.loop-init
+loop-init c = point_filling c.requires
 
-pub read_coordinate-a-requires : goal.read_coordinate-a-requires
-read_coordinate-a-requires c = c.loop-left.invariant.x_in
+pub read_coordinate-requires : goal.read_coordinate-requires
+read_coordinate-requires c = c.loop.invariant.x_in
 
-pub shape_of-points-in_default : goal.shape_of-points-in_default
-shape_of-points-in_default c = c.loop-left.invariant.table.size
-
-pub returns-in_default : goal.returns-in_default
-returns-in_default c = record {
-  outcome = absurd (x_there c.loop-left.invariant (omega (arith, c.loop-left-test.true)) (sym c.read_coordinate-a.ensures.value ∙ c.in_default.is));
-}
+pub unwrap-nx-requires : goal.unwrap-nx-requires
+unwrap-nx-requires c = x_there c.loop.invariant (omega arith) _ c.read_coordinate.ensures.value
 
 -- the first coordinate read
-first : (c : In-At)
-    →
-    coordinate_at (to_z w32 c.loop-left.x-bits) c.args.file.now c.loop-left.i
-    ≡ At c.in-At.nx c.in-At.j
-first c = sym c.read_coordinate-a.ensures.value ∙ c.in-At.is
+first : (c : After-unwrap-nx)
+    → coordinate_at (to_z w32 c.loop.x-bits) c.args.file.now c.loop.i ≡ Ok (c.unwrap-nx.result.0, c.unwrap-nx.result.1)
+first c = sym c.read_coordinate.ensures.value ∙ c.unwrap-nx.ensures
 
-pub read_coordinate-b-requires : goal.read_coordinate-b-requires
-read_coordinate-b-requires c =
-    c.loop-left.invariant.y_in
-
-pub shape_of-points-in_default-b : goal.shape_of-points-in_default-b
-shape_of-points-in_default-b c =
-    c.loop-left.invariant.table.size
-
-pub returns-in_default-b : goal.returns-in_default-b
-returns-in_default-b c = record {
-  outcome = absurd (y_there c.loop-left.invariant (omega (arith, c.loop-left-test.true)) (first (goal.at.returns-in_default-b c).In-At)
-      (sym c.read_coordinate-b.ensures.value ∙ c.in_default-b.is));
-}
+pub unwrap-ny-requires : goal.unwrap-ny-requires
+unwrap-ny-requires c =
+    y_there c.loop.invariant (omega arith) (first (goal.at.unwrap-ny-requires c).After-unwrap-nx) _ c.read_coordinate-in-loop.ensures.value
 
 pub bounds-points-k : goal.bounds-points-k
-bounds-points-k c =
-    x_fits c.loop-left.invariant (omega (arith, c.loop-left-test.true))
+bounds-points-k c = x_fits c.loop.invariant (omega arith)
 
-pub bounds-points-k-in-loop-left : goal.bounds-points-k-in-loop-left
-bounds-points-k-in-loop-left c =
-    lt-length-set c.loop-left.points c.loop-left.k _ {i = c.loop-left.k + 1} (y_fits c.loop-left.invariant (omega (arith, c.loop-left-test.true)))
+pub bounds-points-k-in-loop : goal.bounds-points-k-in-loop
+bounds-points-k-in-loop c = lt-length-set c.loop.points c.loop.k _ {i = c.loop.k + 1} (y_fits c.loop.invariant (omega arith))
 
 -- the second coordinate read
-second : (c : In-At-b)
-    →
-    coordinate_at (to_z w32 c.loop-left.y-bits) c.args.file.now c.in-At.j
-    ≡ At c.in-At-b.ny c.in-At-b.next
-second c = sym c.read_coordinate-b.ensures.value ∙ c.in-At-b.is
+second : (c : After-unwrap-ny)
+    → coordinate_at (to_z w32 c.loop.y-bits) c.args.file.now c.unwrap-nx.result.1 ≡ Ok (c.unwrap-ny.result.0, c.unwrap-ny.result.1)
+second c = sym c.read_coordinate-in-loop.ensures.value ∙ c.unwrap-ny.ensures
 
-pub loop-left-preserved : goal.loop-left-preserved
-loop-left-preserved c =
-    let w = c.loop-left.invariant in
-    let some : 0 < c.loop-left.left = omega (arith, c.loop-left-test.true) in
-    let at = goal.at.loop-left-preserved c in
-    let f = first at.In-At in
-    let s = second at.In-At-b in
+pub loop-preserved : goal.loop-preserved
+loop-preserved c =
+    let w = c.loop.invariant in
+    let some : c.loop.counter < c.args.count = omega arith in
+    let at = goal.at.loop-preserved c in
+    let f = first at.After-unwrap-nx in
+    let s = second at.After-unwrap-ny in
     simp (
-      same_in w32 c.in-At.nx largest (x_near w some f) tt,
-      same_in w32 c.in-At-b.ny largest (y_near w some f s) tt,
+      same_in w32 c.unwrap-nx.result.0 largest (x_near w some f) tt,
+      same_in w32 c.unwrap-ny.result.0 largest (y_near w some f s) tt,
     )
     (next_filled w some f s)
 
-pub shape_of-points : goal.shape_of-points
-shape_of-points c = c.loop-left.invariant.table.size
-
 pub returns : goal.returns
-returns c = record { outcome = filled c.loop-left.invariant c.loop-left-test.false }
+returns c = record { outcome = filled c.loop.invariant (omega arith) }
