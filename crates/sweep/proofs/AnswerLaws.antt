@@ -1,6 +1,6 @@
 -- What Start, Step and Layer promise: each refuses exactly if a listed condition holds, the first that fits, at its least place; gives its values exactly if
 -- none does; and the outcome is the only one. Then what an unrefused call has tested, and what Start and Step give and leave by what their answers tell.
-use Rattle.std.specs.Prelude.{ℕ, suc, ◌≤◌, ◌<◌, ◌≡◌, ◌↔◌, Bool, true, false, cond, List, ltb, get_or, ℤ}
+use Rattle.std.specs.Prelude.{ℕ, suc, ◌≤◌, ◌<◌, ◌≡◌, ◌↔◌, Bool, true, false, cond, List, ltb, get_or, ℤ, Option, Some, None as Absent, Result, Ok, Err}
 use Rattle.std.proofs.Math.Path.{refl}
 use Rattle.std.proofs.Common.{sym, ap, arith}
 use Rattle.std.proofs.Math.Logic.{⊎_elim}
@@ -22,15 +22,12 @@ use Rattle.section.specs.RightLaws.{right_of}
 use Rattle.cut.specs.Cut.{CutTables, Lengths}
 use Rattle.cut.specs.Outlines.{Long}
 use Rattle.cut.specs.OutlineLaws.{room_long}
-use Rattle.sweep.specs.declared.StartAnswer.{StartAnswer}
-use Rattle.sweep.specs.declared.StartAnswer.TheVariants.{Fresh, Refused as StartRefused}
-use Rattle.sweep.specs.declared.StepAnswer.{StepAnswer}
-use Rattle.sweep.specs.declared.StepAnswer.TheVariants.{Stepped, Top, Refused as StepRefused}
-use Rattle.sweep.specs.declared.LayerAnswer.{LayerAnswer}
-use Rattle.sweep.specs.declared.LayerAnswer.TheVariants.{Layer, Refused as LayerRefused}
+use Rattle.mesh.specs.declared.Refusal.{Refusal}
+use Rattle.sweep.specs.declared.Risen.{Risen}
+use Rattle.sweep.specs.declared.State.{State}
 use Rattle.sweep.specs.Sweep.{Sweep, mesh_of, RingAt, fresh_ring, step_ring}
 use Rattle.sweep.specs.Operations.{at, unless_refused, linked_at, passed_high, start_tests, starting, tell_start, Starts}
-use Rattle.sweep.specs.Operations.{step_tests, StepGives, passes, top, stepping, tell_step, Steps}
+use Rattle.sweep.specs.Operations.{step_tests, StepGives, passes, top, next_or_top, stepping, tell_step, Steps}
 use Rattle.sweep.specs.Operations.{rise_tests, layering, tell_layer, Rises}
 use Rattle.sweep.specs.Places.{StepTested, RiseTested}
 
@@ -38,57 +35,64 @@ use Rattle.sweep.specs.Places.{StepTested, RiseTested}
 
 pub start_recovers : Recovers tell_start
 start_recovers = record {
-  back = elim [ gives n ↦ Fresh (at n) | refuses r ↦ StartRefused (refusal_of r) ];
-  once = elim [ Fresh s ↦ refl | StartRefused r ↦ ap StartRefused (refusal_once r) ];
+  back = elim [ gives n ↦ Ok (at n) | refuses r ↦ Err (refusal_of r) ];
+  once = elim [ Ok s ↦ refl | Err r ↦ ap Err (refusal_once r) ];
 }
 
-step_of : StepGives → StepAnswer
-step_of (passes n) = Stepped (at n)
-step_of top = Top
+step_of : StepGives → Option State
+step_of (passes n) = Some (at n)
+step_of top = Absent
+
+step_once : (o : Option State) → step_of (next_or_top o) ≡ o
+unfolding step_of
+step_once (Some s) = refl
+step_once Absent = refl
 
 pub step_recovers : Recovers tell_step
-unfolding step_of
 step_recovers = record {
-  back = elim [ gives g ↦ step_of g | refuses r ↦ StepRefused (refusal_of r) ];
-  once = elim [ Stepped s ↦ refl | Top ↦ refl | StepRefused r ↦ ap StepRefused (refusal_once r) ];
+  back = elim [ gives g ↦ Ok (step_of g) | refuses r ↦ Err (refusal_of r) ];
+  once = elim [ Ok o ↦ ap Ok (step_once o) | Err r ↦ ap Err (refusal_once r) ];
 }
 
 pub layer_recovers : Recovers tell_layer
 layer_recovers = record {
-  back = elim [ gives g ↦ Layer (at g.0) g.1.0 g.1.1 | refuses r ↦ LayerRefused (refusal_of r) ];
-  once = elim [ Layer s j k ↦ refl | LayerRefused r ↦ ap LayerRefused (refusal_once r) ];
+  back = elim [
+    | gives g ↦ Ok (record { state = at g.0; counts = record { contours = g.1.0; points = g.1.1 } })
+    | refuses r ↦ Err (refusal_of r)
+  ];
+  once = elim [ Ok r ↦ refl | Err r ↦ ap Err (refusal_once r) ];
 }
 
 -- ---- refused exactly if, given exactly if, and one outcome only
 
-module _ {m : Mesh} {ring ring' : List ℕ} {result : StartAnswer} (d : Starts m ring result ring') where
+module _ {m : Mesh} {ring ring' : List ℕ} {result : Result State Refusal} (d : Starts m ring result ring') where
   pub start_refused : (r : Told) → (tell_start result ≡ refuses r) ↔ First (starting (m, ring)).refusals r
   start_refused = refused_exactly d
 
   pub start_given : (tell_start result ≡ gives 0) ↔ None (starting (m, ring)).refusals
   start_given = given_exactly d
 
-  pub start_only : {other : StartAnswer} {ring'' : List ℕ} → Starts m ring other ring'' → (result ≡ other) × (ring' ≡ ring'')
+  pub start_only : {other : Result State Refusal} {ring'' : List ℕ} → Starts m ring other ring'' → (result ≡ other) × (ring' ≡ ring'')
   start_only = only_outcome start_recovers d
 
-module _ {s : Sweep} {ring' : List ℕ} {result : StepAnswer} (d : Steps s result ring') where
+module _ {s : Sweep} {ring' : List ℕ} {result : Result (Option State) Refusal} (d : Steps s result ring') where
   pub step_refused : (r : Told) → (tell_step result ≡ refuses r) ↔ First (stepping s).refusals r
   step_refused = refused_exactly d
 
   pub step_given : (tell_step result ≡ gives (stepping s).values) ↔ None (stepping s).refusals
   step_given = given_exactly d
 
-  pub step_only : {other : StepAnswer} {ring'' : List ℕ} → Steps s other ring'' → (result ≡ other) × (ring' ≡ ring'')
+  pub step_only : {other : Result (Option State) Refusal} {ring'' : List ℕ} → Steps s other ring'' → (result ≡ other) × (ring' ≡ ring'')
   step_only = only_outcome step_recovers d
 
-module _ {s : Sweep} {h : ℤ} {t t' : CutTables} {ring' : List ℕ} {result : LayerAnswer} (d : Rises s h t result ring' t') where
+module _ {s : Sweep} {h : ℤ} {t t' : CutTables} {ring' : List ℕ} {result : Result Risen Refusal} (d : Rises s h t result ring' t') where
   pub layer_refused : (r : Told) → (tell_layer result ≡ refuses r) ↔ First (layering (s, h, t)).refusals r
   layer_refused = refused_exactly d
 
   pub layer_given : (tell_layer result ≡ gives (layering (s, h, t)).values) ↔ None (layering (s, h, t)).refusals
   layer_given = given_exactly d
 
-  pub layer_only : {other : LayerAnswer} {ring'' : List ℕ} {t'' : CutTables} → Rises s h t other ring'' t'' → (result ≡ other) × (ring' ≡ ring'') × (t' ≡ t'')
+  pub layer_only : {other : Result Risen Refusal} {ring'' : List ℕ} {t'' : CutTables} → Rises s h t other ring'' t'' → (result ≡ other) × (ring' ≡ ring'') × (t' ≡ t'')
   layer_only e = let p = only_outcome layer_recovers d e in (p.0, (λ i. (p.1 i).0), (λ i. (p.1 i).1))
 
 -- ---- what an unrefused call has tested
@@ -151,7 +155,7 @@ pub record FreshStart (m : Mesh) (ring : List ℕ) (n : ℕ) (ring' : List ℕ) 
   pub long : length m.corners ≤ length ring
   pub fresh : ring' ≡ fresh_ring m.corners ring
 
-pub fresh_start : {m : Mesh} {ring ring' : List ℕ} {result : StartAnswer} {n : ℕ} → Starts m ring result ring' → tell_start result ≡ gives n
+pub fresh_start : {m : Mesh} {ring ring' : List ℕ} {result : Result State Refusal} {n : ℕ} → Starts m ring result ring' → tell_start result ≡ gives n
     → FreshStart m ring n ring'
 unfolding unless_refused
 fresh_start {m} {ring} d e =
@@ -180,7 +184,7 @@ same_count e = cc
 count_top : {A : Type 0} {a : ℕ} → passes a ≡ top → A
 count_top e = absurd (let z : ◌≡◌ {A = ℕ} 0 1 = cc in omega arith)
 
-module _ {s : Sweep} {result : StepAnswer} {ring' : List ℕ} (d : Steps s result ring') where
+module _ {s : Sweep} {result : Result (Option State) Refusal} {ring' : List ℕ} (d : Steps s result ring') where
   pub step_taken : {n : ℕ} → tell_step result ≡ gives (passes n) → StepTaken s n ring'
   unfolding unless_refused
   step_taken {n} e = by (ltb s.passed (vertex_count (mesh_of s).coords)) refl p.1 (left_given d e)

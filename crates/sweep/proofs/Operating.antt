@@ -1,4 +1,5 @@
 -- Start and Step: what each return leaves, by the verdict of its tests.
+use Rattle.std.specs.Prelude.{Option, Some, None as Absent, Result, Ok, Err}
 use Prim.Native.Nat.{ℕ, suc, ◌+◌, ◌≤◌, ◌<◌}
 use mathlib.Core.Path.{◌≡◌, refl, sym, ap, ◌∙◌}
 use mathlib.Core.Bool.{true, false, cond}
@@ -20,12 +21,11 @@ use Rattle.mesh.specs.Refusals.{Told, told_of}
 use Rattle.mesh.specs.Tests.{pair_of}
 use Rattle.mesh.specs.declared.Refusal.{Refusal}
 use Rattle.section.specs.Section.{under, no_corner}
-use Rattle.sweep.specs.declared.StartAnswer.TheVariants.{Fresh, Refused as StartRefused}
-use Rattle.sweep.specs.declared.StepAnswer.TheVariants.{Stepped, Top, Refused as StepRefused}
+use Rattle.sweep.specs.declared.State.{State}
 use Rattle.sweep.specs.declared.SweepTest.{SweepTest}
 use Rattle.sweep.specs.Sweep.{Sweep, mesh_of, sweep_pairing, passed_at, fresh_ring, touches, relinked, step_ring}
 use Rattle.sweep.specs.SweepLaws.{entry_same, passed_under}
-use Rattle.sweep.specs.Operations.{at, unless_refused, start_tests, Starts, step_tests, passes, top, Steps}
+use Rattle.sweep.specs.Operations.{at, unless_refused, start_tests, tell_start, Starts, step_tests, passes, top, tell_step, Steps}
 use Rattle.sweep.specs.SweepTests.{sweep_condition}
 use Rattle.sweep.specs.Places.{StepTested}
 use Rattle.sweep.proofs.AnswerLaws.{step_tested}
@@ -38,9 +38,9 @@ sweep_test_as s h e t = t ∙ ap (λ (w : SweepTest). test (sweep_condition w s 
 -- ---- Start
 
 module _ (m : Mesh) (ring : List ℕ) {f : Finding Told} (e : f ≡ verdict (start_tests m (length ring))) where
-  pub starts_refused : {r : Refusal} → f ≡ refuses (told_of r) → Starts m ring (StartRefused r) ring
+  pub starts_refused : {r : Refusal} {result : Result State Refusal} → f ≡ refuses (told_of r) → result ≡ Err r → Starts m ring result ring
   unfolding unless_refused
-  starts_refused g = does_refuse e g refl refl
+  starts_refused g a = does_refuse e g (ap tell_start a) refl
 
   pub start_long : f ≡ fine → length m.corners ≤ length ring
   start_long g = go (fine_none (start_tests m (length ring)) (sym e ∙ g))
@@ -48,22 +48,22 @@ module _ (m : Mesh) (ring : List ℕ) {f : Finding Told} (e : f ≡ verdict (sta
       go : None (start_tests m (length ring)) → length m.corners ≤ length ring
       go (more z (more l done)) = ltb-false _ _ (l 0 (omega arith))
 
-  pub starts_fresh : {ring' : List ℕ} → f ≡ fine → ring' ≡ overwrite (replicate (length m.corners) no_corner) ring → Starts m ring (Fresh (at 0)) ring'
+  pub starts_fresh : {ring' : List ℕ} → f ≡ fine → ring' ≡ overwrite (replicate (length m.corners) no_corner) ring → Starts m ring (Ok (at 0)) ring'
   unfolding unless_refused fresh_ring
   starts_fresh g q = does_give e g refl (q ∙ ap (λ (l : List ℕ). overwrite l ring) (sym (tabulate_const (length m.corners) no_corner)))
 
 -- ---- Step
 
 module _ (s : Sweep) {f : Finding Told} (e : f ≡ verdict (step_tests s.ordered (length s.ring) s.passed)) where
-  pub steps_refused : {r : Refusal} → f ≡ refuses (told_of r) → Steps s (StepRefused r) s.ring
+  pub steps_refused : {r : Refusal} {result : Result (Option State) Refusal} → f ≡ refuses (told_of r) → result ≡ Err r → Steps s result s.ring
   unfolding unless_refused
-  steps_refused g = does_refuse e g refl refl
+  steps_refused g a = does_refuse e g (ap tell_step a) refl
 
   module _ (g : f ≡ fine) where
     pub step_passed : StepTested s.ordered (length s.ring) s.passed
     step_passed = step_tested s.ordered (length s.ring) s.passed (sym e ∙ g)
 
-    pub steps_top : s.passed ≡ vertex_count (mesh_of s).coords → Steps s Top s.ring
+    pub steps_top : s.passed ≡ vertex_count (mesh_of s).coords → Steps s (Ok Absent) s.ring
     unfolding unless_refused
     steps_top q =
         let b : false ≡ ltb s.passed (vertex_count (mesh_of s).coords) = sym (le-ltb s.passed (vertex_count (mesh_of s).coords) (omega arith)) in
@@ -100,7 +100,7 @@ module _ (s : Sweep) {f : Finding Told} (e : f ≡ verdict (step_tests s.ordered
 
       pub steps_taken : {z : ℤ} {k v : ℕ} {ring' : List ℕ} → v ≡ get_or s.ordered.order s.passed 0 → z ≡ z_of (mesh_of s).coords v → k ≡ v + 1
           → ring' ≡ refill (length (mesh_of s).corners) (relinked (under (mesh_of s).coords z k) (mesh_of s).corners (sweep_pairing s) v s.ring) s.ring
-          → Steps s (Stepped (at (s.passed + 1))) ring'
+          → Steps s (Ok (Some (at (s.passed + 1)))) ring'
       unfolding unless_refused
       steps_taken ev ez ek q =
           let b : true ≡ ltb s.passed (vertex_count (mesh_of s).coords) = sym (lt-ltb _ _ next_there) in

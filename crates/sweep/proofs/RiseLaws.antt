@@ -1,5 +1,5 @@
 -- An unrefused Layer at h ends at the number of vertices with z < h (LAYER-1), and gives what Cut gives at h (LAYER-2).
-use Rattle.std.specs.Prelude.{ℕ, ◌≤◌, ◌≡◌, refl, length, ℤ}
+use Rattle.std.specs.Prelude.{ℕ, ◌≤◌, ◌≡◌, refl, length, ℤ, Result, Ok}
 use Rattle.std.proofs.Common.{sym, ◌∙◌, arith}
 use Rattle.std.proofs.Math.Path.{subst}
 use mathlib.Core.List.{List, [], ◌∷◌}
@@ -7,13 +7,13 @@ use Rattle.mesh.specs.Corners.{vertex_count}
 use Rattle.mesh.specs.Operation.{gives, refuses, fine, verdict}
 use Rattle.mesh.specs.OperationLaws.{Nowhere, None, more, done, none_fine, fine_none, join_fine, does_give, given_verdict, left_given, left_refused}
 use Rattle.mesh.specs.Refusals.{Told}
+use Rattle.mesh.specs.declared.Refusal.{Refusal}
 use Rattle.section.specs.Section.{below}
 use Rattle.section.specs.Contours.{Traced}
 use Rattle.section.proofs.LinkLaws.{table_trace}
 use Rattle.cut.specs.Cut.{CutTables, lengths_of, used, section, contours_of, counts_of, tables_after_cut, cutting, tell_cut, Cuts}
-use Rattle.cut.specs.declared.CutAnswer.{CutAnswer}
-use Rattle.cut.specs.declared.CutAnswer.TheVariants.{Layer as CutLayer}
-use Rattle.sweep.specs.declared.LayerAnswer.{LayerAnswer}
+use Rattle.polygons.specs.declared.LayerCounts.{LayerCounts}
+use Rattle.sweep.specs.declared.Risen.{Risen}
 use Rattle.sweep.specs.Sweep.{Sweep, sweep, mesh_of, sweep_pairing, passed_at, RingAt, count_below}
 use Rattle.sweep.specs.SweepLaws.{entry_same, count_few, passed_below, passed_count, risen_to_lem, risen_right}
 use Rattle.sweep.specs.Operations.{unless_refused, risen_passed, risen_table, risen_section, rise_tests, layering, tell_layer, Rises}
@@ -63,7 +63,7 @@ rise_cut_fine s h t same e = none_fine (cutting (s.ordered.paired, h, t)).refusa
         let last = subst (λ (y : Traced). Nowhere (used (length (mesh_of s).corners) y)) (sym same) x in
         more z (more u (more r (more v (more w (more p (more last done))))))
 
-module _ {s : Sweep} {h : ℤ} {t t' : CutTables} {result : LayerAnswer} {ring' : List ℕ} (ok : Rises s h t result ring' t') where
+module _ {s : Sweep} {h : ℤ} {t t' : CutTables} {result : Result Risen Refusal} {ring' : List ℕ} (ok : Rises s h t result ring' t') where
   -- a Layer that gave n passed, j contours and k points
   module _ {n j k : ℕ} (e : tell_layer result ≡ gives (n, (j, k))) where
     answered : (verdict (layering (s, h, t)).refusals ≡ fine) × ((n, (j, k)) ≡ (layering (s, h, t)).values)
@@ -87,10 +87,10 @@ module _ {s : Sweep} {h : ℤ} {t t' : CutTables} {result : LayerAnswer} {ring' 
         subst (λ (r : List ℕ). RingAt (sweep s.ordered r (count_below (mesh_of s).coords h))) (sym (λ i. (left i).0)) (rise_table s h rise_tests_lem)
 
     -- Cut, for the same mesh, pairing, height and tables, gives the same counts and leaves the same four tables
-    pub rise_is_cut : (answer : CutAnswer) × (tell_cut answer ≡ gives (j, k)) × Cuts s.ordered.paired h t answer t'
+    pub rise_is_cut : (answer : Result LayerCounts Refusal) × (tell_cut answer ≡ gives (j, k)) × Cuts s.ordered.paired h t answer t'
     rise_is_cut =
         let same = rise_section s h rise_tests_lem in (
-          CutLayer j k,
+          Ok (record { contours = j; points = k }),
           refl,
           does_give refl (rise_cut_fine s h t same answered.0)
               ((λ i. gives (answered.1 i).1) ∙ (λ i. gives (counts_of (contours_of (sym same i)))))

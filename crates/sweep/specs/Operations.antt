@@ -1,26 +1,22 @@
 -- Start (START-1 to START-6), Step (STEP-1 to STEP-10) and Layer (LAYER-1 to LAYER-8):
 -- their refusals in order, what they answer, and what they leave in the lent tables.
-use Rattle.std.specs.Prelude.{ℕ, suc, Bool, not, cond, ◌&&◌, List, [], ◌∷◌, ◌++◌, ltb, eqb, length, get_or, ℤ}
+use Rattle.std.specs.Prelude.{ℕ, suc, Bool, not, cond, ◌&&◌, List, [], ◌∷◌, ◌++◌, ltb, eqb, length, get_or, ℤ, Option, Some, None, Result}
 use Rattle.laws.specs.Least.{some}
 use Rattle.mesh.specs.Corners.{vertex_count}
 use Rattle.mesh.specs.Meshes.{Mesh, PairedMesh, OrderedMesh}
-use Rattle.mesh.specs.Operation.{Answer, gives, refuses, Condition, whole, Operation, Does}
+use Rattle.mesh.specs.Operation.{Answer, Condition, whole, Operation, Does}
 -- a refusal changes nothing (START-3, STEP-10, LAYER-7, ALL-15)
 unfoldable pub use Rattle.mesh.specs.Operation.{unless_refused}
-use Rattle.mesh.specs.Refusals.{Told, refusal, told_of}
+use Rattle.mesh.specs.Refusals.{Told, refusal, tell}
 use Rattle.mesh.specs.Tests.{size, orders}
+use Rattle.mesh.specs.declared.Refusal.{Refusal}
 use Rattle.mesh_tables.specs.MeshTests.{content_tests}
 use Rattle.section.specs.Section.{below, ring_entry}
 use Rattle.section.specs.Contours.{Traced}
 use Rattle.section.specs.Links.{trace_links}
 use Rattle.cut.specs.Cut.{CutTables, Lengths, lengths_of, cut_tests, used, contours_of, counts_of, tables_after_cut}
 use Rattle.sweep.specs.declared.State.{State}
-use Rattle.sweep.specs.declared.StartAnswer.{StartAnswer}
-use Rattle.sweep.specs.declared.StartAnswer.TheVariants.{Fresh, Refused as StartRefused}
-use Rattle.sweep.specs.declared.StepAnswer.{StepAnswer}
-use Rattle.sweep.specs.declared.StepAnswer.TheVariants.{Stepped, Top, Refused as StepRefused}
-use Rattle.sweep.specs.declared.LayerAnswer.{LayerAnswer}
-use Rattle.sweep.specs.declared.LayerAnswer.TheVariants.{Layer, Refused as LayerRefused}
+use Rattle.sweep.specs.declared.Risen.{Risen}
 use Rattle.sweep.specs.Sweep.{Sweep, mesh_of, sweep_pairing, passed_at, fresh_ring, step_ring, risen_to, risen_ring}
 
 -- the state with so many passed
@@ -73,11 +69,10 @@ starting = λ (m, ring). record {
 }
 
 -- what its answer says: the count of passed vertices (START-6)
-abbrev pub tell_start : StartAnswer → Answer Told ℕ
-tell_start (Fresh s) = gives s.passed
-tell_start (StartRefused r) = refuses (told_of r)
+abbrev pub tell_start : Result State Refusal → Answer Told ℕ
+tell_start = tell (λ s. s.passed)
 
-abbrev pub Starts : Mesh → List ℕ → StartAnswer → List ℕ → Type 0
+abbrev pub Starts : Mesh → List ℕ → Result State Refusal → List ℕ → Type 0
 Starts m ring result ring' = Does starting tell_start (m, ring) result ring'
 
 -- ---- Step
@@ -111,13 +106,15 @@ stepping s =
       leaves = unless_refused (cond next (step_ring s) s.ring) s.ring;
     }
 
--- what its answer says
-abbrev pub tell_step : StepAnswer → Answer Told StepGives
-tell_step (Stepped s) = gives (passes s.passed)
-tell_step Top = gives top
-tell_step (StepRefused r) = refuses (told_of r)
+-- what its answer says: no state is "top"
+abbrev pub next_or_top : Option State → StepGives
+next_or_top (Some s) = passes s.passed
+next_or_top None = top
 
-abbrev pub Steps : Sweep → StepAnswer → List ℕ → Type 0
+abbrev pub tell_step : Result (Option State) Refusal → Answer Told StepGives
+tell_step = tell next_or_top
+
+abbrev pub Steps : Sweep → Result (Option State) Refusal → List ℕ → Type 0
 Steps s result ring' = Does stepping tell_step s result ring'
 
 -- ---- Layer at h
@@ -157,9 +154,8 @@ abbrev pub layering : Sweep × ℤ × CutTables → Operation Told (ℕ × (ℕ 
 layering = λ (s, h, t). lifting (rise_tests s h (lengths_of t)) (s, h, t)
 
 -- what its answer says: the state, and the counts of contours and points
-abbrev pub tell_layer : LayerAnswer → Answer Told (ℕ × (ℕ × ℕ))
-tell_layer (Layer s j k) = gives (s.passed, (j, k))
-tell_layer (LayerRefused r) = refuses (told_of r)
+abbrev pub tell_layer : Result Risen Refusal → Answer Told (ℕ × (ℕ × ℕ))
+tell_layer = tell (λ r. (r.state.passed, (r.counts.contours, r.counts.points)))
 
-abbrev pub Rises : Sweep → ℤ → CutTables → LayerAnswer → List ℕ → CutTables → Type 0
+abbrev pub Rises : Sweep → ℤ → CutTables → Result Risen Refusal → List ℕ → CutTables → Type 0
 Rises s h t result ring' t' = Does layering tell_layer (s, h, t) result (ring', t')

@@ -1,12 +1,13 @@
 -- What the parts of the sweep ask: what the tests before them establish; and the place behind the first n vertices of the order, as a height and a number.
-use Rattle.std.specs.Prelude.{ℕ, zero, suc, ◌+◌, ◌≤◌, ◌<◌, Bool, true, not, ◌&&◌, ◌≡◌, List, [], ltb, eqb, length, get_or, ℤ, negsuc}
+use Rattle.std.specs.Prelude.{ℕ, zero, suc, ◌+◌, ◌≤◌, ◌<◌, Bool, true, not, ◌&&◌, ◌≡◌, List, [], ltb, eqb, length, get_or, ℤ, negsuc, Result}
 use Rattle.mesh.specs.Corners.{vertex_count, z_of}
 use Rattle.mesh.specs.Meshes.{OrderedMesh}
 use Rattle.mesh.specs.Operation.{Does}
 use Rattle.mesh.specs.Order.{Ranked}
+use Rattle.mesh.specs.declared.Refusal.{Refusal}
 use Rattle.section.specs.Section.{VertexSet, below, ring_entry, Right}
 use Rattle.cut.specs.Cut.{CutTables}
-use Rattle.sweep.specs.declared.LayerAnswer.{LayerAnswer}
+use Rattle.sweep.specs.declared.Risen.{Risen}
 use Rattle.sweep.specs.Sweep.{Sweep, mesh_of, RingAt}
 use Rattle.sweep.specs.Operations.{lifting, tell_layer}
 
@@ -47,5 +48,5 @@ pub record RiseTested (s : Sweep) (h : ℤ) : Type 0 where
   pub low : (i : ℕ) → i < s.passed → below (mesh_of s).coords h (get_or s.ordered.order i 0) ≡ true
 
 -- Layer where only 16 is left to test
-abbrev pub Lifts : Sweep → ℤ → CutTables → LayerAnswer → List ℕ → CutTables → Type 0
+abbrev pub Lifts : Sweep → ℤ → CutTables → Result Risen Refusal → List ℕ → CutTables → Type 0
 Lifts s h t result ring' t' = Does (lifting []) tell_layer (s, h, t) result (ring', t')

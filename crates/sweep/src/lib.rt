@@ -11,12 +11,12 @@ ghost use Rattle.sweep.specs.Operations.{start_tests, Starts, step_tests, Steps}
 use crate::tests::state_test;
 use crate::unchecked::relink;
 use crate::unchecked_tests::one_sweep_test;
-use mesh::numbers::wide;
+use mesh::Refusal;
 use mesh::tests::size_test;
 use mesh::unchecked::fill;
-use mesh::{Refusal, Verdict};
 use mesh_tables::MeshTest;
 use mesh_tables::tests::opening_test;
+use polygons::LayerCounts;
 use section::NO_CORNER;
 
 pub mod tests;
@@ -34,59 +34,38 @@ pub enum SweepTest {
 }
 
 // How many vertices are passed: the first so many of the order (SWEEP-1).
-#[derive(Drop)]
+#[derive(Clone, Copy, Debug, PartialEq, Eq)]
 pub struct State {
     pub passed: usize,
 }
 
-// What Start answers.
-#[derive(Drop)]
-pub enum StartAnswer {
-    Fresh(State),
-    Refused(Refusal),
-}
-
-// What Step answers: the next vertex is passed, or all were passed already (FORM-7).
-#[derive(Drop)]
-pub enum StepAnswer {
-    Stepped(State),
-    Top,
-    Refused(Refusal),
-}
-
-// What Layer answers: the state and the counts of contours and points.
-#[derive(Drop)]
-pub enum LayerAnswer {
-    Layer(State, usize, usize),
-    Refused(Refusal),
+// What Layer gives: the state after the rise, and the counts of contours and points.
+#[derive(Clone, Copy, Debug, PartialEq, Eq)]
+pub struct Risen {
+    pub state: State,
+    pub counts: LayerCounts,
 }
 
 // Refusals 1 and 9 of Start, for a ring table of this length (START-1).
-fn start_test(coords: &[i32], corners: &[u32], ring: usize) -> Verdict
+fn start_test(coords: &[i32], corners: &[u32], ring: usize) -> Result<(), Refusal>
     ensures told { tell_verdict result ≡ verdict
         (start_tests (mesh coords.now corners.now) ring) }
 {
-    let a = size_test(coords, corners);
-    if let Verdict::Refused(_) = a {
-        return a;
-    }
+    size_test(coords, corners)?;
     if ring < corners.len() {
-        return Verdict::Refused(Refusal::Room(0));
+        return Err(Refusal::Room(0));
     }
-    Verdict::Fine
+    Ok(())
 }
 
 // A fresh sweep: no vertex passed, and no crossing in the ring table (START-1 to START-6).
-pub fn start(coords: &[i32], corners: &[u32], ring: &mut [u32]) -> StartAnswer
+pub fn start(coords: &[i32], corners: &[u32], ring: &mut [u32]) -> Result<State, Refusal>
     ensures outcome { Starts (mesh coords.now corners.now) ring.old result
         ring.new }
 {
-    let v = start_test(coords, corners, ring.len());
-    if let Verdict::Refused(r) = v {
-        return StartAnswer::Refused(r);
-    }
+    start_test(coords, corners, ring.len())?;
     fill(ring, corners.len(), NO_CORNER);
-    StartAnswer::Fresh(State { passed: 0 })
+    Ok(State { passed: 0 })
 }
 
 // Refusals 1, 2, 3, 4, 7, 8, 10 and 11 of Step (STEP-6).
@@ -97,19 +76,13 @@ fn step_test(
     order: &[u32],
     ring: &[u32],
     n: usize,
-) -> Verdict
+) -> Result<(), Refusal>
     ensures told { tell_verdict result ≡ verdict (step_tests
         (ordered coords.now corners.now pairing.now order.now)
         (length ring.now) n) }
 {
-    let a = opening_test(coords, corners, pairing, true, true);
-    if let Verdict::Refused(_) = a {
-        return a;
-    }
-    let b = state_test(coords, corners, pairing, order, ring, n);
-    if let Verdict::Refused(_) = b {
-        return b;
-    }
+    opening_test(coords, corners, pairing, true, true)?;
+    state_test(coords, corners, pairing, order, ring, n)?;
     one_sweep_test(
         SweepTest::Length,
         coords,
@@ -122,8 +95,8 @@ fn step_test(
     )
 }
 
-// Passes the next vertex of the order, and rewrites the entries
-// of the corners paired into its triangles (STEP-1 to STEP-10).
+// Passes the next vertex of the order, and rewrites the entries of the corners paired into
+// its triangles; gives no state if all were passed already (STEP-1 to STEP-10, FORM-7).
 pub fn step(
     coords: &[i32],
     corners: &[u32],
@@ -131,22 +104,18 @@ pub fn step(
     order: &[u32],
     ring: &mut [u32],
     state: State,
-) -> StepAnswer
+) -> Result<Option<State>, Refusal>
     ensures outcome { Steps (sweep
         (ordered coords.now corners.now pairing.now order.now)
         ring.old state.passed) result ring.new }
 {
     let n = state.passed;
-    let v = step_test(coords, corners, pairing, order, ring, n);
-    if let Verdict::Refused(r) = v {
-        return StepAnswer::Refused(r);
-    }
+    step_test(coords, corners, pairing, order, ring, n)?;
     if n == coords.len() / 3 {
-        return StepAnswer::Top;
+        return Ok(None);
     }
-    let w = wide(order[n]);
-    let i = 3 * w + 2;
-    let z = coords[i];
+    let w = order[n] as usize;
+    let z = coords[3 * w + 2];
     relink(coords, corners, pairing, z, w + 1, w, ring);
-    StepAnswer::Stepped(State { passed: n + 1 })
+    Ok(Some(State { passed: n + 1 }))
 }

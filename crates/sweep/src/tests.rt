@@ -6,27 +6,27 @@ ghost use Rattle.sweep.specs.Operations.{too_many, short_ring, state_tests};
 
 use crate::SweepTest;
 use crate::unchecked_tests::one_sweep_test;
-use mesh::{Refusal, Verdict};
+use mesh::Refusal;
 use mesh_tables::MeshTest;
 
 // Refusal 10 (STEP-8).
-pub fn passed_test(coords: &[i32], n: usize) -> Verdict
+pub fn passed_test(coords: &[i32], n: usize) -> Result<(), Refusal>
     ensures told { tell_verdict result ≡ test (too_many coords.now n) }
 {
     if coords.len() / 3 < n {
-        return Verdict::Refused(Refusal::Passed(0));
+        return Err(Refusal::Passed(0));
     }
-    Verdict::Fine
+    Ok(())
 }
 
 // Refusal 11 of Step (STEP-9).
-pub fn length_test(corners: &[u32], ring: &[u32]) -> Verdict
+pub fn length_test(corners: &[u32], ring: &[u32]) -> Result<(), Refusal>
     ensures told { tell_verdict result ≡ test (short_ring corners.now (length ring.now)) }
 {
     if ring.len() < corners.len() {
-        return Verdict::Refused(Refusal::Ring(ring.len()));
+        return Err(Refusal::Ring(ring.len()));
     }
-    Verdict::Fine
+    Ok(())
 }
 
 // Refusals 8 and 10.
@@ -37,10 +37,10 @@ pub fn state_test(
     order: &[u32],
     ring: &[u32],
     n: usize,
-) -> Verdict
+) -> Result<(), Refusal>
     ensures told { tell_verdict result ≡ verdict (state_tests coords.now order.now n) }
 {
-    let a = one_sweep_test(
+    one_sweep_test(
         SweepTest::Mesh(MeshTest::Order),
         coords,
         corners,
@@ -49,10 +49,7 @@ pub fn state_test(
         ring,
         n,
         0,
-    );
-    if let Verdict::Refused(_) = a {
-        return a;
-    }
+    )?;
     one_sweep_test(
         SweepTest::Passed,
         coords,

@@ -11,9 +11,8 @@ ghost use Rattle.sweep.specs.Sweep.{sweep, touches, relinked};
 ghost use Rattle.sweep.specs.Operations.{wrong_ring, not_above};
 ghost use Rattle.sweep.specs.Places.{height_behind, number_behind, wrong_for, InOrder, Placed};
 
+use mesh::Refusal;
 use mesh::limits::LEAST_COORDINATE;
-use mesh::numbers::wide;
-use mesh::{Refusal, Verdict};
 use section::unchecked_crossings::entry_of;
 
 // Whether triangle t touches vertex v.
@@ -24,13 +23,7 @@ fn touched(corners: &[u32], t: usize, v: usize) -> bool
     let i = 3 * t;
     let j = i + 1;
     let k = i + 2;
-    if wide(corners[i]) == v {
-        return true;
-    }
-    if wide(corners[j]) == v {
-        return true;
-    }
-    wide(corners[k]) == v
+    corners[i] as usize == v || corners[j] as usize == v || corners[k] as usize == v
 }
 
 // Rewrites the entries of the corners whose paired corner's triangle touches w, for the vertices before (h, k).
@@ -51,14 +44,11 @@ pub fn relink(
         ring.old }
 {
     let n = corners.len();
-    let mut c: usize = 0;
-    while c < n {
-        let d = wide(pairing[c]);
+    for c in 0..n {
+        let d = pairing[c] as usize;
         if touched(corners, d / 3, w) {
-            let e = entry_of(coords, corners, pairing, h, k, c);
-            ring[c] = e;
+            ring[c] = entry_of(coords, corners, pairing, h, k, c);
         }
-        c += 1;
     }
 }
 
@@ -71,10 +61,8 @@ pub fn height_behind(coords: &[i32], order: &[u32], n: usize) -> i32
     if n == 0 {
         return LEAST_COORDINATE;
     }
-    let i = n - 1;
-    let w = wide(order[i]);
-    let j = 3 * w + 2;
-    coords[j]
+    let w = order[n - 1] as usize;
+    coords[3 * w + 2]
 }
 
 // One more than the last of the first n vertices of the order.
@@ -82,12 +70,7 @@ pub fn number_behind(order: &[u32], n: usize) -> usize
     requires { n ≤ length order.now }
     ensures value { result ≡ number_behind order.now n }
 {
-    if n == 0 {
-        return 0;
-    }
-    let i = n - 1;
-    let w = order[i];
-    wide(w) + 1
+    if n == 0 { 0 } else { order[n - 1] as usize + 1 }
 }
 
 // Whether the entry of corner c is missing or not as defined for the vertices before (h, k).
@@ -106,10 +89,7 @@ fn is_wrong(
     ensures value { result ≡ wrong_for (under coords.now h k) corners.now pairing.now
         ring.now c }
 {
-    if ring.len() <= c {
-        return true;
-    }
-    ring[c] != entry_of(coords, corners, pairing, h, k, c)
+    ring.len() <= c || ring[c] != entry_of(coords, corners, pairing, h, k, c)
 }
 
 // The least corner with such an entry, else the number of corners.
@@ -126,14 +106,12 @@ fn first_wrong(
     ensures value { result ≡ least (length corners.now)
         (wrong_for (under coords.now h k) corners.now pairing.now ring.now) }
 {
-    let mut c: usize = 0;
-    while c < corners.len() {
+    for c in 0..corners.len() {
         if is_wrong(coords, corners, pairing, h, k, ring, c) {
             return c;
         }
-        c += 1;
     }
-    c
+    corners.len()
 }
 
 // Refusal 11 of Layer (LAYER-5).
@@ -144,7 +122,7 @@ pub fn ring_test(
     order: &[u32],
     ring: &[u32],
     n: usize,
-) -> Verdict
+) -> Result<(), Refusal>
     requires { Placed (ordered coords.now corners.now pairing.now order.now) n }
     ensures told { tell_verdict result ≡ test (wrong_ring
         (sweep
@@ -155,22 +133,19 @@ pub fn ring_test(
     let k = number_behind(order, n);
     let c = first_wrong(coords, corners, pairing, h, k, ring);
     if c < corners.len() {
-        return Verdict::Refused(Refusal::Ring(c));
+        return Err(Refusal::Ring(c));
     }
-    Verdict::Fine
+    Ok(())
 }
 
 // Refusal 12 (LAYER-6): the last passed vertex is the highest.
-pub fn height_test(coords: &[i32], order: &[u32], n: usize, h: i32) -> Verdict
+pub fn height_test(coords: &[i32], order: &[u32], n: usize, h: i32) -> Result<(), Refusal>
     requires fact_1 { n ≤ vertex_count coords.now }
     requires fact_2 { InOrder coords.now order.now }
     ensures told { tell_verdict result ≡ test (not_above coords.now order.now n h) }
 {
-    if n == 0 {
-        return Verdict::Fine;
+    if n == 0 || height_behind(coords, order, n) < h {
+        return Ok(());
     }
-    if height_behind(coords, order, n) < h {
-        return Verdict::Fine;
-    }
-    Verdict::Refused(Refusal::Height(0))
+    Err(Refusal::Height(0))
 }

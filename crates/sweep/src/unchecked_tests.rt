@@ -9,7 +9,7 @@ ghost use Rattle.sweep.specs.SweepTests.{sweep_condition, SweepAskable};
 use crate::SweepTest;
 use crate::tests::{length_test, passed_test};
 use crate::unchecked::{height_test, ring_test};
-use mesh::Verdict;
+use mesh::Refusal;
 
 // One test of a rise to h, by name.
 pub fn one_sweep_test(
@@ -21,7 +21,7 @@ pub fn one_sweep_test(
     ring: &[u32],
     n: usize,
     h: i32,
-) -> Verdict
+) -> Result<(), Refusal>
     requires { SweepAskable which
         (sweep (ordered coords.now corners.now pairing.now order.now) ring.now n) }
     ensures told { tell_verdict result ≡ test (sweep_condition which

@@ -7,6 +7,7 @@ use Rattle.mesh.specs.Meshes.{PairedMesh, paired}
 use Rattle.mesh.specs.Operation.{Condition, verdict}
 use Rattle.mesh.specs.OperationLaws.{join_stop, join_next, verdict_one}
 use Rattle.mesh.specs.Refusals.{Told, tell_verdict}
+use Rattle.mesh.proofs.Raising.{handed_on}
 use Rattle.mesh_tables.specs.MeshTests.{opening_tests}
 use Rattle.mesh_tables.specs.OpeningLaws.{opening_bare}
 use Rattle.sweep.specs.Operations.{short_ring, linked_tests, state_tests}
@@ -28,28 +29,30 @@ third start = short_ring start.args.corners.now (length start.args.ring.now) ∷
 bare : (start : Start) → verdict (opening_tests (mesh_of start) true true) ≡ verdict (first start)
 bare start = opening_bare (mesh_of start)
 
-pub returns-in-Refused : goal.returns-in-Refused
-returns-in-Refused c =
-    let start = (goal.at.returns-in-Refused c).Start in
+pub returns-in_err-opening_test : goal.returns-in_err-opening_test
+returns-in_err-opening_test c =
+    let start = (goal.at.returns-in_err-opening_test c).Start in
     record {
-      told = join_stop (first start) (second start ++ third start) (c.opening_test-a.ensures.told ∙ bare start) (ap tell_verdict c.in-Refused.is);
+      told = ap tell_verdict (handed_on c.in_err-opening_test.was c.from_residual.ensures.1)
+          ∙ join_stop (first start) (second start ++ third start) (c.opening_test.ensures.told ∙ bare start) (ap tell_verdict c.in_err-opening_test.was);
     }
 
-pub returns-in-Refused-b : goal.returns-in-Refused-b
-returns-in-Refused-b c =
-    let start = (goal.at.returns-in-Refused-b c).Start in
+pub returns-in_err-state_test : goal.returns-in_err-state_test
+returns-in_err-state_test c =
+    let start = (goal.at.returns-in_err-state_test c).Start in
     record {
-      told = join_next (first start) (second start ++ third start) (c.opening_test-a.ensures.told ∙ bare start)
-          (ap tell_verdict c.in_default.is)
-          (join_stop (second start) (third start) c.state_test-b.ensures.told (ap tell_verdict c.in-Refused-b.is));
+      told = ap tell_verdict (handed_on c.in_err-state_test.was c.from_residual-in_err-state_test.ensures.1)
+          ∙ join_next (first start) (second start ++ third start) (c.opening_test.ensures.told ∙ bare start)
+          (ap tell_verdict c.in_ok-opening_test.was)
+          (join_stop (second start) (third start) c.state_test.ensures.told (ap tell_verdict c.in_err-state_test.was));
     }
 
 pub returns : goal.returns
 returns c =
     let start = (goal.at.returns c).Start in
     record {
-      told = join_next (first start) (second start ++ third start) (c.opening_test-a.ensures.told ∙ bare start)
-          (ap tell_verdict c.in_default.is)
-          (join_next (second start) (third start) c.state_test-b.ensures.told (ap tell_verdict c.in_default-b.is)
+      told = join_next (first start) (second start ++ third start) (c.opening_test.ensures.told ∙ bare start)
+          (ap tell_verdict c.in_ok-opening_test.was)
+          (join_next (second start) (third start) c.state_test.ensures.told (ap tell_verdict c.in_ok-state_test.was)
           (c.one_sweep_test.ensures.told ∙ verdict_one _));
     }

@@ -5,7 +5,7 @@ use native.Mathlib.Omega.{arith}
 use lib.ListN.{length}
 use lib.IntN.{ℤ}
 use Rattle.laws.specs.Least.{least}
-use Rattle.laws.specs.LeastLaws.{scan_start, scan_hit, scan_miss, scan_end}
+use Rattle.laws.specs.LeastLaws.{scan_start, scan_hit, scan_miss, scan_over}
 use Rattle.section.specs.Section.{under}
 use Rattle.sweep.specs.Places.{wrong_for}
 use Rattle.sweep.proofs.Moves.{back}
@@ -34,15 +34,8 @@ returns-then-is_wrong c = record {
       ∙ ap (first (goal.at.returns-then-is_wrong c).Start) (back c.ranges.h);
 }
 
-pub overflow_add-c : goal.overflow_add-c
-overflow_add-c c =
-    omega (arith, c.loop-c-test.true, c.requires.fact_1.whole.few)
-
-pub loop-c-smaller : goal.loop-c-smaller
-loop-c-smaller c = omega (arith, c.loop-c-test.true)
-
 pub loop-c-preserved : goal.loop-c-preserved
 loop-c-preserved c = scan_miss c.loop-c.invariant c.loop-c-test.true (sym c.is_wrong.ensures.value ∙ c.if-is_wrong.false)
 
 pub returns : goal.returns
-returns c = record { value = scan_end c.loop-c.invariant c.loop-c-test.false ∙ ap (first (goal.at.returns c).Start) (back c.ranges.h) }
+returns c = record { value = scan_over c.loop-c.invariant (omega arith) ∙ ap (first (goal.at.returns c).Start) (back c.ranges.h) }

@@ -1,5 +1,4 @@
 -- `unchecked::first_wrong` meets its contract.
-use Prim.Native.Nat.{◌-◌}
 use lib.ListN.{length}
 use Rattle.laws.specs.LeastLaws.{Scanned}
 use Rattle.section.specs.Section.{under}
@@ -8,6 +7,3 @@ use Rattle.sweep.proofs.unchecked.first_wrong.Given as goal
 
 abbrev pub invariant-loop-c : goal.invariant-loop-c
 invariant-loop-c l = Scanned (length l.corners) (wrong_for (under l.coords l.h l.k) l.corners l.pairing l.ring) l.c
-
-abbrev pub decreases-loop-c : goal.decreases-loop-c
-decreases-loop-c l = length l.corners - l.c

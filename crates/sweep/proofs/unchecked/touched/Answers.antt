@@ -1,18 +1,23 @@
 -- `unchecked::touched` meets its contract.
-use mathlib.Core.Path.{sym, ◌∙◌}
+use mathlib.Core.Path.{refl, sym, ◌∙◌}
+use borrow.Author.Tests.{eqb-true, eqb-false, eq-eqb}
+use Rattle.laws.specs.Booleans.{clash}
 use Rattle.sweep.proofs.Moves.{touches_1, touches_2, touches_3}
 use Rattle.sweep.proofs.unchecked.touched.Goals as goal
+use Rattle.sweep.proofs.unchecked.touched.Goals.{then-corners-i, else-corners-i}
 
-pub returns-then-wide-v : goal.returns-then-wide-v
-returns-then-wide-v c = record { value = touches_1 _ _ _ (sym c.wide.ensures.value ∙ c.if-wide-v.true) }
-
-pub returns-then-wide-v-2 : goal.returns-then-wide-v-2
-returns-then-wide-v-2 c = record {
-  value = touches_2 _ _ _ (λ e. c.if-wide-v.false (c.wide.ensures.value ∙ e)) (sym c.wide-2.ensures.value ∙ c.if-wide-v-2.true);
+pub returns-then-corners-j : goal.returns-then-corners-j
+returns-then-corners-j c = record {
+  value = elim c.if-corners-i.branch [
+    | then-corners-i w ↦ c.if-corners-j.true ∙ touches_1 _ _ _ w.if-corners-i.true
+    | else-corners-i w ↦ c.if-corners-j.true ∙ touches_2 _ _ _ w.if-corners-i.false (eqb-true _ _ (sym w.value-is ∙ c.if-corners-j.true))
+  ];
 }
 
-pub returns : goal.returns
-returns c = record {
-  value = touches_3 _ _ _ (λ e. c.if-wide-v.false (c.wide.ensures.value ∙ e)) (λ e. c.if-wide-v-2.false (c.wide-2.ensures.value ∙ e)) _
-      c.wide-3.ensures.value;
+pub returns-else-corners-j : goal.returns-else-corners-j
+returns-else-corners-j c = record {
+  value = elim c.if-corners-i.branch [
+    | then-corners-i w ↦ absurd (clash (eq-eqb _ _ w.if-corners-i.true) (sym w.value-is ∙ c.if-corners-j.false))
+    | else-corners-i w ↦ touches_3 _ _ _ w.if-corners-i.false (eqb-false _ _ (sym w.value-is ∙ c.if-corners-j.false)) _ refl
+  ];
 }
