@@ -1,10 +1,11 @@
 -- All layers (ALL-1 to ALL-15, ALLCLEAN-1): a start, Layer up the heights taken, and the layer file of what that gives, as it is
 -- or cleaned; its refusals in order, what it answers, and what it leaves in the lent tables.
-use Rattle.std.specs.Prelude.{ℕ, ◌*◌, Bool, not, ◌&&◌, List, [], ◌∷◌, ◌++◌, map, ltb, leb, length, replicate, ℤ, pos}
+use Rattle.std.specs.Prelude.{ℕ, ◌*◌, Bool, not, ◌&&◌, List, [], ◌∷◌, ◌++◌, map, ltb, leb, length, replicate, ℤ, pos, Result}
 use Rattle.laws.specs.Tables.{overwrite}
 use Rattle.mesh.specs.Meshes.{Mesh, PairedMesh, OrderedMesh}
-use Rattle.mesh.specs.Operation.{Answer, gives, refuses, Finding, Condition, whole, after, Operation, Does}
-use Rattle.mesh.specs.Refusals.{Told, refusal, numbered, told_of}
+use Rattle.mesh.specs.Operation.{Answer, Finding, Condition, whole, after, Operation, Does}
+use Rattle.mesh.specs.Refusals.{Told, refusal, numbered, tell}
+use Rattle.mesh.specs.declared.Refusal.{Refusal}
 use Rattle.mesh.specs.Tests.{size, orders}
 use Rattle.mesh_tables.specs.MeshTests.{content_tests}
 use Rattle.cleaning.specs.declared.Profile.{Profile}
@@ -14,8 +15,6 @@ use Rattle.cut.specs.Cut.{CutTables, lent, Lengths, lengths_of, cut_room_for, us
 use Rattle.sweep.specs.Sweep.{Sweep, sweep, mesh_of, fresh_ring}
 use Rattle.sweep.specs.Operations.{unless_refused, risen_passed, risen_table, risen_section}
 use Rattle.all_heights.specs.Heights.{heights_taken, too_many_heights, falling_height}
-use Rattle.all_sweep.specs.declared.AllLayersAnswer.{AllLayersAnswer}
-use Rattle.all_sweep.specs.declared.AllLayersAnswer.TheVariants.{Length, Refused}
 
 -- ---- the layers
 
@@ -113,9 +112,8 @@ filing = λ (p, m, heights, w, output).
     }
 
 -- what its answer says: the length of the file (ALL-3)
-abbrev pub tell_all_layers : AllLayersAnswer → Answer Told ℕ
-tell_all_layers (Length n) = gives n
-tell_all_layers (Refused r) = refuses (told_of r)
+abbrev pub tell_all_layers : Result ℕ Refusal → Answer Told ℕ
+tell_all_layers = tell (λ n. n)
 
-abbrev pub Files : Profile → OrderedMesh → List ℤ → WorkTables → List ℕ → AllLayersAnswer → WorkTables → List ℕ → Type 0
+abbrev pub Files : Profile → OrderedMesh → List ℤ → WorkTables → List ℕ → Result ℕ Refusal → WorkTables → List ℕ → Type 0
 Files p m heights w output result w' output' = Does filing tell_all_layers (p, m, heights, w, output) result (w', output')

@@ -1,6 +1,6 @@
 -- What All layers promises: it refuses exactly if a listed condition holds, at the least place; its outcome is the only one; what an unrefused call has tested;
 -- its file is that of Cut at each height, keeps the rules of the layer file, and is read back as the layers that it was written from.
-use Rattle.std.specs.Prelude.{ℕ, suc, ◌<◌, ◌≤◌, ◌≡◌, refl, ◌↔◌, length, get_or, ℤ, pos, negsuc, ◌<ℤ◌}
+use Rattle.std.specs.Prelude.{ℕ, suc, ◌<◌, ◌≤◌, ◌≡◌, refl, ◌↔◌, length, get_or, ℤ, pos, negsuc, ◌<ℤ◌, Result, Ok, Err}
 use Rattle.std.proofs.Math.Path.{ap}
 use Rattle.std.proofs.Common.{◌∙◌, arith}
 use mathlib.Core.List.{List, [], ◌∷◌, ◌++◌, map}
@@ -14,6 +14,7 @@ use Rattle.mesh.specs.OrderTableLaws.{ordered_rank}
 use Rattle.mesh.specs.Operation.{gives, refuses, fine, Condition, verdict}
 use Rattle.mesh.specs.OperationLaws.{First, None, more, fine_none, join_fine, Recovers, given_verdict, refused_exactly, given_exactly, left_given, only_outcome}
 use Rattle.mesh.specs.Refusals.{Told}
+use Rattle.mesh.specs.declared.Refusal.{Refusal}
 use Rattle.mesh.specs.RefusalLaws.{refusal_of, refusal_once}
 use Rattle.cleaning.proofs.CleaningLaws.{cleaned_twice}
 use Rattle.cleaning.specs.declared.Profile.{Profile}
@@ -35,8 +36,6 @@ use Rattle.all_heights.specs.Heights.{heights_taken}
 use Rattle.all_heights.specs.Taking.{RisingHeights, Words}
 use Rattle.all_heights.specs.HeightLaws.{nowhere_rising}
 use Rattle.all_heights.proofs.DefaultLaws.{taken_fit}
-use Rattle.all_sweep.specs.declared.AllLayersAnswer.{AllLayersAnswer}
-use Rattle.all_sweep.specs.declared.AllLayersAnswer.TheVariants.{Length, Refused}
 use Rattle.all_sweep.specs.AllLayers.{cut_layer, cut_file, swept_file, climbed, WorkTables, work_room_for, layers_tests, used_at, short_output, filing}
 use Rattle.all_sweep.specs.AllLayers.{tell_all_layers, Files}
 use Rattle.all_sweep.specs.ClimbLaws.{swept_is_cut}
@@ -102,11 +101,11 @@ cuts_stay p m (h ∷ hs) = λ i. cut_stays p m h i ∷ cuts_stay p m hs i
 
 pub all_layers_recovers : Recovers tell_all_layers
 all_layers_recovers = record {
-  back = elim [ gives n ↦ Length n | refuses r ↦ Refused (refusal_of r) ];
-  once = elim [ Length n ↦ refl | Refused r ↦ ap Refused (refusal_once r) ];
+  back = elim [ gives n ↦ Ok n | refuses r ↦ Err (refusal_of r) ];
+  once = elim [ Ok n ↦ refl | Err r ↦ ap Err (refusal_once r) ];
 }
 
-module _ {p : Profile} {m : OrderedMesh} {heights : List ℤ} {w w' : WorkTables} {output output' : List ℕ} {result : AllLayersAnswer}
+module _ {p : Profile} {m : OrderedMesh} {heights : List ℤ} {w w' : WorkTables} {output output' : List ℕ} {result : Result ℕ Refusal}
     (f : Files p m heights w output result w' output') where
   -- refused exactly if a listed condition holds, the first that fits, at the least place; the length of the file exactly if none does; and one outcome only
   pub all_layers_refused : (r : Told) → (tell_all_layers result ≡ refuses r) ↔ First (filing (p, m, heights, w, output)).refusals r
@@ -116,7 +115,7 @@ module _ {p : Profile} {m : OrderedMesh} {heights : List ℤ} {w w' : WorkTables
       ↔ None (filing (p, m, heights, w, output)).refusals
   all_layers_given = given_exactly f
 
-  pub all_layers_only : {other : AllLayersAnswer} {u' : WorkTables} {o' : List ℕ} → Files p m heights w output other u' o'
+  pub all_layers_only : {other : Result ℕ Refusal} {u' : WorkTables} {o' : List ℕ} → Files p m heights w output other u' o'
       → (result ≡ other) × (w' ≡ u') × (output' ≡ o')
   all_layers_only g =
       let q = only_outcome all_layers_recovers f g in

@@ -1,9 +1,10 @@
 -- What a pass over the heights may change in the work tables, when they hold the layer of a height, and the heights taken by their number.
-use Rattle.std.specs.Prelude.{ℕ, ◌*◌, ◌≤◌, ◌<◌, ◌≡◌, List, [], ◌∷◌, length, drop, ℤ}
+use Rattle.std.specs.Prelude.{ℕ, ◌*◌, ◌≤◌, ◌<◌, ◌≡◌, List, [], ◌∷◌, length, drop, ℤ, Result}
 use Rattle.laws.specs.Tables.{overwrite}
 use Rattle.mesh.specs.Meshes.{PairedMesh}
 use Rattle.mesh.specs.Operation.{fine, Operation, Does}
 use Rattle.mesh.specs.Refusals.{Told}
+use Rattle.mesh.specs.declared.Refusal.{Refusal}
 use Rattle.cleaning.specs.declared.Profile.{Profile}
 use Rattle.file_formats.specs.LayerFile.{most_layers, layer_in}
 use Rattle.sweep.specs.Operations.{unless_refused}
@@ -11,7 +12,6 @@ use Rattle.all_heights.specs.Heights.{heights_taken}
 use Rattle.all_heights.specs.Taking.{RisingHeights, base_z, height_at, Takable}
 use Rattle.file_write.specs.Written.{layer_of}
 use Rattle.file_write.specs.LayerTables.{LayerTables}
-use Rattle.all_sweep.specs.declared.AllLayersAnswer.{AllLayersAnswer}
 use Rattle.all_sweep.specs.AllLayers.{cut_layer, cut_file, WorkTables, work_after, short_output, tell_all_layers}
 
 -- ---- the work tables
@@ -75,5 +75,5 @@ putting = λ (file, output). record {
   leaves = unless_refused (overwrite file output) output;
 }
 
-abbrev pub PutsFile : List ℕ → List ℕ → AllLayersAnswer → List ℕ → Type 0
+abbrev pub PutsFile : List ℕ → List ℕ → Result ℕ Refusal → List ℕ → Type 0
 PutsFile file output result output' = Does putting tell_all_layers (file, output) result output'

@@ -21,7 +21,6 @@ use cut_points::unchecked_points::put_points;
 use file_formats::numbers::number_length;
 use file_formats::unchecked::write_number;
 use file_write::unchecked_layers::{layer_length, write_layer};
-use mesh::numbers::wide;
 
 // Where the sweep stands after a height: the head of the list of its crossings, and the count of its contours.
 #[derive(Drop)]
@@ -92,15 +91,15 @@ fn next_layer(
         (corner_lists ring.new heads.now marks.new result.active) }
 {
     let h = taken_height(low, heights, k);
-    let b = wide(heads[k]);
+    let b = heads[k] as usize;
     let a = advance(coords, corners, h, ring, active, b);
     let s = (k + 1) as u32;
     let f = outline_crossings(coords, corners, pairing, h, s, ring, a, names, ends, marks);
-    put_points(coords, corners, h, names, points, f.names);
+    put_points(coords, corners, h, names, points, f.points);
     let contours = bring_into(profile, points, ends, f.contours);
     Level {
         active: a,
-        contours: contours,
+        contours,
     }
 }
 
@@ -133,8 +132,7 @@ pub fn layers_length(
 {
     let mut total = number_length(count as u64);
     let mut active = corners.len();
-    let mut k: usize = 0;
-    while k < count {
+    for k in 0..count {
         let s = next_layer(
             profile, coords, corners, pairing, low, heights, count, k, active, heads, names,
             points, ends, marks, ring,
@@ -142,7 +140,6 @@ pub fn layers_length(
         let h = taken_height(low, heights, k);
         total += layer_length(h, points, ends, s.contours);
         active = s.active;
-        k += 1;
     }
     total
 }
@@ -184,8 +181,7 @@ pub fn write_layers(
 {
     let mut p = write_number(output, 0, count as u64);
     let mut active = corners.len();
-    let mut i: usize = 0;
-    while i < count {
+    for i in 0..count {
         let s = next_layer(
             profile, coords, corners, pairing, low, heights, count, i, active, heads, names,
             points, ends, marks, ring,
@@ -193,7 +189,6 @@ pub fn write_layers(
         let h = taken_height(low, heights, i);
         p = write_layer(h, points, ends, s.contours, output, p);
         active = s.active;
-        i += 1;
     }
     p
 }

@@ -1,5 +1,4 @@
 -- `unchecked_sweep::layers_length` meets its contract.
-use native.Mathlib.Omega.{arith}
 use mir.Syntax.{w32}
 use mir.ValLaws.{to_z-of_z}
 use Rattle.mesh.specs.Meshes.{paired}
@@ -55,14 +54,6 @@ overflow_add-total c =
       fits = measured_fits _ _ ready.listed ready.right c.loop-k.invariant.measured c.loop-k-test.true c.taken_height-h.type_inv
           c.taken_height-h.ensures.value c.next_layer-s.ensures.layer c.layer_length-total.ensures.value;
     }
-
-pub overflow_add-k : goal.overflow_add-k
-overflow_add-k c =
-    record { fits = omega (arith, c.loop-k-test.true, c.requires.fact_1.listed.few) }
-
-pub loop-k-smaller : goal.loop-k-smaller
-loop-k-smaller c =
-    omega (arith, c.loop-k-test.true)
 
 pub loop-k-preserved : goal.loop-k-preserved
 loop-k-preserved c =

@@ -1,5 +1,4 @@
 -- k layers are measured, and the sweep stands before height k.
-use Prim.Native.Nat.{◌-◌}
 use lib.ListN.{length}
 use Rattle.mesh.specs.Meshes.{mesh, paired}
 use Rattle.all_sweep.specs.AllLayers.{work}
@@ -17,6 +16,3 @@ invariant-loop-k l =
           (work l.names l.points l.ends l.marks l.ring);
       sweeps : Sweeping (mesh l.coords l.corners) taken l.k (corner_lists l.ring l.heads l.marks l.active);
     }
-
-abbrev pub decreases-loop-k : goal.decreases-loop-k
-decreases-loop-k l = l.count - l.k

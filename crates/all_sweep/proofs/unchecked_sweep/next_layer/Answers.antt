@@ -32,7 +32,7 @@ pub taken_height-h-requires : goal.taken_height-h-requires
 taken_height-h-requires c = (climbing_held (to_z-of_z w32 c.args.low c.ranges.low) c.requires.fact_3).each c.args.k c.requires.fact_5
 
 pub advance-a-requires : goal.advance-a-requires
-advance-a-requires c = advancing (level (goal.at.advance-a-requires c).After-taken_height-h) c.wide-b.ensures.value
+advance-a-requires c = advancing (level (goal.at.advance-a-requires c).After-taken_height-h) refl
 
 pub outline_crossings-f-requires : goal.outline_crossings-f-requires
 outline_crossings-f-requires c =

@@ -1,5 +1,4 @@
 -- `unchecked_sweep::write_layers` meets its contract.
-use native.Mathlib.Omega.{arith}
 use mir.Syntax.{w32}
 use mir.ValLaws.{to_z-of_z}
 use Rattle.mesh.specs.Meshes.{paired}
@@ -52,12 +51,6 @@ write_layer-p-requires c =
       fact_2 = wrote_room _ _ (tested (goal.at.write_layer-p-requires c).Start).listed c.loop-i.invariant.put c.loop-i-test.true
           c.taken_height-h.type_inv c.taken_height-h.ensures.value layer;
     }
-
-pub overflow_add-i : goal.overflow_add-i
-overflow_add-i c = record { fits = omega (arith, c.loop-i-test.true, c.requires.fact_1.listed.few) }
-
-pub loop-i-smaller : goal.loop-i-smaller
-loop-i-smaller c = omega (arith, c.loop-i-test.true)
 
 pub loop-i-preserved : goal.loop-i-preserved
 loop-i-preserved c =

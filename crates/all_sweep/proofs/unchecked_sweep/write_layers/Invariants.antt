@@ -1,5 +1,4 @@
 -- i layers are written, and the sweep stands before height i.
-use Prim.Native.Nat.{◌-◌}
 use lib.ListN.{length}
 use Rattle.mesh.specs.Meshes.{mesh, paired}
 use Rattle.all_sweep.specs.AllLayers.{work}
@@ -17,6 +16,3 @@ invariant-loop-i l =
           (work l.names l.points l.ends l.marks l.ring);
       sweeps : Sweeping (mesh l.coords l.corners) taken l.i (corner_lists l.ring l.heads l.marks l.active);
     }
-
-abbrev pub decreases-loop-i : goal.decreases-loop-i
-decreases-loop-i l = l.count - l.i
