@@ -13,7 +13,7 @@ use Rattle.mesh.specs.OperationLaws.{verdict_one, whole_refused, whole_fine, doe
 use Rattle.mesh.specs.Refusals.{refusal}
 use Rattle.mesh.specs.declared.Refusal.TheVariants.{Output}
 use Rattle.sweep.specs.Operations.{unless_refused}
-use Rattle.all_sweep.specs.declared.AllLayersAnswer.TheVariants.{Length, Refused}
+use Rattle.std.specs.Prelude.{Ok, Err}
 use Rattle.all_sweep.specs.Works.{PutsFile}
 
 -- ---- the room
@@ -31,12 +31,12 @@ not_short {room} e h = sym (le-ltb _ _ (subst (λ (k : ℕ). k ≤ room) e h))
 
 module _ (file output : List ℕ) where
   -- it is shorter than the file
-  pub puts_short : ltb (length output) (length file) ≡ true → PutsFile file output (Refused (Output 0)) output
+  pub puts_short : ltb (length output) (length file) ≡ true → PutsFile file output (Err (Output 0)) output
   unfolding unless_refused
   puts_short e = does_refuse (whole_refused (refusal 14) _ e ∙ verdict_one _) refl refl refl
 
   -- it has room
   pub puts_whole : {n : ℕ} {output' : List ℕ} → ltb (length output) (length file) ≡ false → n ≡ length file → output' ≡ overwrite file output
-      → PutsFile file output (Length n) output'
+      → PutsFile file output (Ok n) output'
   unfolding unless_refused
   puts_whole e n is = does_give (whole_fine (refusal 14) _ e ∙ verdict_one _) refl (ap gives n) is

@@ -11,7 +11,6 @@ ghost use Rattle.all_sweep.specs.Sweeps.{LayersTested, corner_lists, Sweeping};
 ghost use Rattle.all_output.specs.Bounds.{longest_file};
 
 use all_heights::unchecked::taken_height;
-use all_sweep::AllLayersAnswer;
 use all_sweep::unchecked_sweep::{begin, layers_length, write_layers};
 use cleaning::Profile;
 use file_formats::numbers::{number_length, unsigned_of};
@@ -31,11 +30,9 @@ fn longest(low: i32, heights: &[i32], count: usize, crossings: usize) -> usize
     ensures value { result ≡ longest_file (taken_heights low heights.now count) crossings }
 {
     let mut total = number_length(count as u64) + 10 * crossings;
-    let mut k: usize = 0;
-    while k < count {
+    for k in 0..count {
         let h = taken_height(low, heights, k);
         total += height_length(h) + 3;
-        k += 1;
     }
     total
 }
@@ -106,7 +103,7 @@ pub fn put_layers(
     ring: &mut [u32],
     heads: &mut [u32],
     output: &mut [u8],
-) -> AllLayersAnswer
+) -> Result<usize, Refusal>
     requires fact_1 { LayersTested (paired coords.now corners.now pairing.now) (taken_heights low heights.now count)
         (work names.old points.old ends.old marks.old ring.old) }
     requires fact_2 { count ≤ length heads.old }
@@ -137,11 +134,11 @@ pub fn put_layers(
         output.len(),
     );
     if short {
-        return AllLayersAnswer::Refused(Refusal::Output(0));
+        return Err(Refusal::Output(0));
     }
     let n = write_layers(
         profile, coords, corners, pairing, low, heights, count, names, points, ends, marks, ring,
         heads, output,
     );
-    AllLayersAnswer::Length(n)
+    Ok(n)
 }

@@ -43,13 +43,6 @@ overflow_add-total-in-loop-k-2 c =
       );
     }
 
-pub overflow_add-k : goal.overflow_add-k
-overflow_add-k c =
-    record { fits = omega (arith, c.loop-k-test.true, c.requires.fact_1.few) }
-
-pub loop-k-smaller : goal.loop-k-smaller
-loop-k-smaller c = omega (arith, c.loop-k-test.true)
-
 pub loop-k-preserved : goal.loop-k-preserved
 loop-k-preserved c =
     bounding_next c.loop-k.invariant c.loop-k-test.true
