@@ -1,10 +1,11 @@
 -- All layers as a whole: its tests in turn, the work tables, and what each return leaves.
 use Prim.Native.Nat.{ℕ, ◌*◌, ◌≤◌, ◌<◌}
+use Rattle.std.specs.Prelude.{Result, Err}
 use mathlib.Core.Path.{◌≡◌, refl, sym, ap, ◌∙◌, subst}
 use mathlib.Core.Bool.{Bool, true, false, not, ◌&&◌}
 use mathlib.Core.List.{List, [], ◌∷◌, ◌++◌, map}
 use native.Mathlib.Omega.{arith}
-use borrow.Author.Tests.{le-leb, lt-leb, le-ltb, lt-ltb, not-true, not-false}
+use borrow.Author.Tests.{le-leb, lt-leb, le-ltb, lt-ltb}
 use lib.Dec.{ltb, leb}
 use lib.ListN.{length, get_or, replicate}
 use lib.IntN.{ℤ, pos}
@@ -28,10 +29,8 @@ use Rattle.all_heights.specs.Heights.{heights_taken, too_many_heights, falling_h
 use Rattle.all_heights.specs.HeightLaws.{falling_taken}
 use Rattle.all_heights.specs.Taking.{base_z, Takable}
 use Rattle.all_heights.proofs.DefaultLaws.{takable}
-use Rattle.all_sweep.specs.declared.AllLayersAnswer.{AllLayersAnswer}
-use Rattle.all_sweep.specs.declared.AllLayersAnswer.TheVariants.{Refused}
 use Rattle.all_sweep.specs.AllLayers.{cut_file, swept_file, climbed, WorkTables, work, work_room_for, work_room, work_after}
-use Rattle.all_sweep.specs.AllLayers.{layers_tests, used_at, short_output, filing, Files}
+use Rattle.all_sweep.specs.AllLayers.{layers_tests, used_at, short_output, filing, tell_all_layers, Files}
 use Rattle.all_sweep.specs.Works.{Works, Zeroed, taken_heights, PutsFile}
 use Rattle.all_sweep.specs.Sweeps.{LayersTested}
 use Rattle.all_sweep.specs.CutLayerLaws.{spent_zeros}
@@ -42,13 +41,13 @@ use Rattle.all_sweep.specs.LayersLaws.{FileTested, file_tested}
 
 -- 9: Cut's tables, and then the ring table
 module _ (n : ℕ) (l : Lengths) (ring : ℕ) {b : Bool} (e : b ≡ cut_room_for n l) where
-  pub room_short : not b ≡ true → false ≡ work_room_for n l ring
+  pub room_short : b ≡ false → b ≡ work_room_for n l ring
   unfolding work_room_for
-  room_short h = ap (λ (c : Bool). c && leb n ring) (sym (not-true b h) ∙ e)
+  room_short h = h ∙ ap (λ (c : Bool). c && leb n ring) (sym h ∙ e)
 
-  pub room_long : not b ≡ false → leb n ring ≡ work_room_for n l ring
+  pub room_long : b ≡ true → leb n ring ≡ work_room_for n l ring
   unfolding work_room_for
-  room_long h = ap (λ (c : Bool). c && leb n ring) (sym (not-false b h) ∙ e)
+  room_long h = ap (λ (c : Bool). c && leb n ring) (sym h ∙ e)
 
 -- 1, 9, 2, 3, 4 and 7; then 8 and 12
 module _ (m : OrderedMesh) (heights : List ℤ) (l : Lengths) (ring : ℕ) where
@@ -163,11 +162,11 @@ module _ (p : Profile) (m : OrderedMesh) (heights : List ℤ) (w : WorkTables) (
       let no : (i : ℕ) → false ≡ false = λ i. refl in
       refused_every (λ q. numbered (16 ∷ 14 ∷ []) q ≡ false) tests r (no, (no, (no, (no, (no, (no, (no, (no, (no, tt))))))))) (sym is ∙ e)
 
-  pub files_refused : {r : Refusal} → f ≡ refuses (told_of r) → Files p m heights w output (Refused r) w output
+  pub files_refused : {r : Refusal} {result : Result ℕ Refusal} → result ≡ Err r → f ≡ refuses (told_of r) → Files p m heights w output result w output
   unfolding unless_refused
-  files_refused {r} e =
+  files_refused {r} q e =
       let n = length m.paired.mesh.corners in
-      does_refuse (join_stop tests (sixteens ++ fourteen) is e) e refl (λ i. (work_kept n w (told_of r) (other e) i, output))
+      does_refuse (join_stop tests (sixteens ++ fourteen) is e) e (ap tell_all_layers q) (λ i. (work_kept n w (told_of r) (other e) i, output))
 
   -- none does
   module _ (e : f ≡ fine) where
@@ -184,7 +183,7 @@ module _ (p : Profile) (m : OrderedMesh) (heights : List ℤ) (w : WorkTables) (
         join_next tests (sixteens ++ fourteen) is e
         (join_next sixteens fourteen (sym (used_never m w.ring t.right t.ranked t.ring_long hs t.rises)) refl refl)
 
-    pub files_put : {result : AllLayersAnswer} {output' : List ℕ} {w₁ w' : WorkTables}
+    pub files_put : {result : Result ℕ Refusal} {output' : List ℕ} {w₁ w' : WorkTables}
         → PutsFile (cut_file p m.paired (heights_taken m.paired.mesh.coords heights)) output result output'
         → Works (length m.paired.mesh.corners) w w₁ → Zeroed (length m.paired.mesh.corners) w₁ w' → Files p m heights w output result w' output'
     files_put {result} {output'} put s z =

@@ -10,10 +10,9 @@ ghost use Rattle.all_sweep.specs.AllLayers.{work, work_room_for, layers_tests, F
 
 use crate::unchecked::{clear_work, put_file};
 use all_heights::{base_z, few_heights, heights_test, taken_count};
-use all_sweep::AllLayersAnswer;
 use cleaning::Profile;
 use cut::cut_room_for;
-use mesh::Verdict;
+use mesh::Refusal;
 use mesh_tables::MeshTest;
 use mesh_tables::tests::opening_test;
 use mesh_tables::unchecked_tests::one_mesh_test;
@@ -31,10 +30,7 @@ fn work_room_for(
 ) -> bool
     ensures value { result ≡ work_room_for n (lengths names points ends marks) ring }
 {
-    if !cut_room_for(n, names, points, ends, marks) {
-        return false;
-    }
-    n <= ring
+    cut_room_for(n, names, points, ends, marks) && n <= ring
 }
 
 // All refusals but 16 and 14, for lent tables of these lengths (ALL-7).
@@ -49,21 +45,15 @@ fn layers_test(
     ends: usize,
     marks: usize,
     ring: usize,
-) -> Verdict
+) -> Result<(), Refusal>
     ensures told { tell_verdict result ≡ verdict (layers_tests
         (ordered coords.now corners.now pairing.now order.now)
         heights.now (lengths names points ends marks) ring) }
 {
     let few = few_heights(coords, heights);
     let room = work_room_for(corners.len(), names, points, ends, marks, ring);
-    let a = opening_test(coords, corners, pairing, few, room);
-    if let Verdict::Refused(_) = a {
-        return a;
-    }
-    let b = one_mesh_test(MeshTest::Order, coords, corners, pairing, order);
-    if let Verdict::Refused(_) = b {
-        return b;
-    }
+    opening_test(coords, corners, pairing, few, room)?;
+    one_mesh_test(MeshTest::Order, coords, corners, pairing, order)?;
     heights_test(heights)
 }
 
@@ -81,7 +71,7 @@ pub fn all_layers(
     marks: &mut [u32],
     ring: &mut [u32],
     output: &mut [u8],
-) -> AllLayersAnswer
+) -> Result<usize, Refusal>
     ensures outcome { Files profile
         (ordered coords.now corners.now pairing.now order.now)
         heights.now
@@ -90,7 +80,7 @@ pub fn all_layers(
         (work names.new points.new ends.new marks.new ring.new)
         output.new }
 {
-    let v = layers_test(
+    layers_test(
         coords,
         corners,
         pairing,
@@ -101,10 +91,7 @@ pub fn all_layers(
         ends.len(),
         marks.len(),
         ring.len(),
-    );
-    if let Verdict::Refused(r) = v {
-        return AllLayersAnswer::Refused(r);
-    }
+    )?;
     let low = base_z(coords, heights);
     let count = taken_count(coords, heights);
     let f = put_file(

@@ -9,10 +9,9 @@ ghost use Rattle.all_sweep.specs.Works.{Works, Zeroed, PutsFile, taken_heights, 
 ghost use Rattle.all_sweep.specs.Sweeps.{LayersTested};
 
 use all_output::unchecked::put_layers;
-use all_sweep::AllLayersAnswer;
 use cleaning::Profile;
-use cut::unchecked::clear_points;
 use file_formats::MOST_LAYERS;
+use mesh::Refusal;
 use mesh::unchecked::fill;
 
 // Writes the layer file in the profile, unless the output is shorter.
@@ -30,7 +29,7 @@ pub fn put_file(
     marks: &mut [u32],
     ring: &mut [u32],
     output: &mut [u8],
-) -> AllLayersAnswer
+) -> Result<usize, Refusal>
     requires { LayersTested (paired coords.now corners.now pairing.now) (taken_heights low heights.now count)
         (work names.old points.old ends.old marks.old ring.old) }
     ensures outcome { PutsFile (taken_file profile
@@ -64,7 +63,7 @@ pub fn clear_work(
         (work names.new points.new ends.new marks.new ring.new) }
 {
     fill(names, n, 0);
-    clear_points(points, 2 * n);
+    fill(points, 2 * n, 0);
     fill(ends, n, 0);
     fill(marks, n, 0);
     fill(ring, n, 0);

@@ -11,21 +11,21 @@ pub overflow_mul-n : goal.overflow_mul-n
 overflow_mul-n c =
     omega (arith, c.requires.fact_3)
 
-pub clear_points-requires : goal.clear_points-requires
-clear_points-requires c =
-    c.requires.fact_1.points_long
-
 pub fill-requires-2 : goal.fill-requires-2
 fill-requires-2 c =
-    c.requires.fact_1.ends_long
+    c.requires.fact_1.points_long
 
 pub fill-requires-3 : goal.fill-requires-3
 fill-requires-3 c =
-    c.requires.fact_1.marks_long
+    c.requires.fact_1.ends_long
 
 pub fill-requires-4 : goal.fill-requires-4
 fill-requires-4 c =
+    c.requires.fact_1.marks_long
+
+pub fill-requires-5 : goal.fill-requires-5
+fill-requires-5 c =
     omega (arith, c.requires.fact_2)
 
 pub returns : goal.returns
-returns c = record { left = work_zeroed c.fill.ensures.left c.clear_points.ensures.left c.fill-2.ensures.left c.fill-3.ensures.left c.fill-4.ensures.left }
+returns c = record { left = work_zeroed c.fill.ensures.left c.fill-2.ensures.left c.fill-3.ensures.left c.fill-4.ensures.left c.fill-5.ensures.left }
