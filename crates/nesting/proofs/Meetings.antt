@@ -1,7 +1,7 @@
 -- What `is_closer`, `is_held` and `meet_one` are handed, and what they leave.
 use Prim.Native.Nat.{ℕ, ◌+◌, ◌^◌, ◌<◌}
 use mathlib.Core.Path.{◌≡◌, sym, ap, ◌∙◌, subst}
-use mathlib.Core.Bool.{Bool, true, false, not, cond, ◌&&◌}
+use mathlib.Core.Bool.{Bool, true, false, cond}
 use mathlib.Core.List.{List}
 use mathlib.Core.Logic.{⊎_elim}
 use native.Mathlib.Omega.{arith}
@@ -10,13 +10,11 @@ use lib.Dec.{eqb, ltb}
 use lib.ListN.{length, get_or, set}
 use lib.Seq.{set-get_or}
 use lib.IntN.{ℤ, nat_abs}
-use Rattle.polygons.specs.Flat.{Point, PointNear, FlatLayer, points_in, polygons_of}
+use Rattle.polygons.specs.Flat.{Point, FlatLayer, points_in, polygons_of}
 use Rattle.polygons.proofs.FlatLaws.{LayerTested}
 use Rattle.polygons.specs.ContourAreas.{contour_area}
 use Rattle.contours.specs.Contours.{contour_of}
 use Rattle.contours.specs.Runs.{PointRun}
-use Rattle.inside.specs.Inside.{lies_in}
-use Rattle.inside.specs.PointLaws.{read_back, back_lies}
 use Rattle.nesting.specs.Nests.{size_of, no_parent}
 use Rattle.nesting.specs.Nesting.{NestTables, nest_tables}
 use Rattle.nesting.specs.Steps.{closer, next_depth, next_parent, met_by, ParentTo, Meeting}
@@ -38,23 +36,13 @@ pub parent_there : {m q : ℕ} → ParentTo m q → (q ≡ no_parent → ⊥) �
 parent_there p h = ⊎_elim (λ e. absurd (h e)) (λ l. l) p
 
 module _ (cs : List (List Point)) (size q : ℕ) where
-  pub closer_none : q ≡ no_parent → true ≡ closer cs size q
+  pub closer_none : q ≡ no_parent → eqb q no_parent ≡ closer cs size q
   unfolding closer
-  closer_none e = sym (ap (λ (b : Bool). cond b true (ltb size (size_of cs q))) (eq-eqb q no_parent e))
+  closer_none e = let none = eq-eqb q no_parent e in none ∙ sym (ap (λ (b : Bool). cond b true (ltb size (size_of cs q))) none)
 
   pub closer_than : {other : ℕ} → (q ≡ no_parent → ⊥) → other ≡ size_of cs q → ltb size other ≡ closer cs size q
   unfolding closer
   closer_than h e = ap (ltb size) e ∙ sym (ap (λ (b : Bool). cond b true (ltb size (size_of cs q))) (ne_eqb q no_parent h))
-
--- ---- `is_held`
-
-module _ {j i : ℕ} where
-  pub by_itself : (b : Bool) → j ≡ i → false ≡ (not (eqb j i) && b)
-  by_itself b e = sym (ap (λ (s : Bool). not s && b) (eq-eqb j i e))
-
-  -- by what `lies_within` told of a point in range that was read back
-  pub by_another : (p : Point) (c : List Point) {r : Bool} → (j ≡ i → ⊥) → PointNear p → r ≡ lies_in (read_back p) c → r ≡ (not (eqb j i) && lies_in p c)
-  by_another p c h near e = e ∙ back_lies p near c ∙ sym (ap (λ (s : Bool). not s && lies_in p c) (ne_eqb j i h))
 
 -- ---- `meet_one`
 

@@ -1,11 +1,10 @@
 -- Nesting (NEST-8 to NEST-11): its refusals in order, what it answers, and what it leaves in the two lent tables.
-use Rattle.std.specs.Prelude.{ℕ, Bool, not, ◌&&◌, List, [], ◌∷◌, ◌++◌, leb, length}
+use Rattle.std.specs.Prelude.{ℕ, Bool, not, ◌&&◌, List, [], ◌∷◌, ◌++◌, leb, length, Result}
 use Rattle.laws.specs.Tables.{refill}
-use Rattle.mesh.specs.Operation.{Answer, gives, refuses, Condition, whole, unless_refused, Operation, Does}
-use Rattle.mesh.specs.Refusals.{Told, refusal, told_of}
+use Rattle.mesh.specs.Operation.{Answer, Condition, whole, unless_refused, Operation, Does}
+use Rattle.mesh.specs.Refusals.{Told, refusal, tell}
+use Rattle.mesh.specs.declared.Refusal.{Refusal}
 use Rattle.polygons.specs.Flat.{Point, FlatLayer, polygons_of, layer_tests}
-use Rattle.nesting.specs.declared.NestingAnswer.{NestingAnswer}
-use Rattle.nesting.specs.declared.NestingAnswer.TheVariants.{Nested, Refused}
 use Rattle.nesting.specs.Nests.{depth_of, parent_of}
 
 -- the two lent tables
@@ -44,10 +43,9 @@ contour_nesting = λ (t, u). record {
 }
 
 -- what its answer says
-abbrev pub tell_nesting : NestingAnswer → Answer Told Unit
-tell_nesting Nested = gives tt
-tell_nesting (Refused r) = refuses (told_of r)
+abbrev pub tell_nesting : Result Unit Refusal → Answer Told Unit
+tell_nesting = tell (λ _. tt)
 
 -- the contract of Nesting
-abbrev pub FindsNesting : FlatLayer → NestTables → NestingAnswer → NestTables → Type 0
+abbrev pub FindsNesting : FlatLayer → NestTables → Result Unit Refusal → NestTables → Type 0
 FindsNesting t u result u' = Does contour_nesting tell_nesting (t, u) result u'

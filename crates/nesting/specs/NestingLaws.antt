@@ -1,7 +1,7 @@
 -- What Nesting promises: it refuses exactly if a listed condition holds, at its place; its outcome is the only one; a refusal writes nothing;
 -- else the first entries of the two tables are depth and parent of each contour. Of these: a parent is one of the contours that are counted,
 -- the smallest, the lower number at a tie; there is none exactly at depth 0; a contour that no other holds has depth 0 and no parent.
-use Rattle.std.specs.Prelude.{ℕ, ◌≤◌, ◌<◌, ◌≡◌, refl, true, ◌↔◌, leb, length, get_or}
+use Rattle.std.specs.Prelude.{ℕ, ◌≤◌, ◌<◌, ◌≡◌, refl, true, ◌↔◌, leb, length, get_or, Result, Ok, Err}
 use Rattle.std.proofs.Common.{ap, ◌∙◌, subst, arith, leb-true}
 use Rattle.std.proofs.lemmas.Bool.{not-false}
 use Rattle.laws.specs.Booleans.{and_parts}
@@ -11,10 +11,9 @@ use Rattle.mesh.specs.OperationLaws.{First, None, more, done, Recovers, refused_
 use Rattle.mesh.specs.OperationLaws.{left_given, left_refused, only_outcome}
 use Rattle.mesh.specs.Refusals.{Told}
 use Rattle.mesh.specs.RefusalLaws.{refusal_of, refusal_once}
+use Rattle.mesh.specs.declared.Refusal.{Refusal}
 use Rattle.polygons.specs.Flat.{FlatLayer, polygons_of}
 use Rattle.polygons.proofs.FlatLaws.{LayerTested, none_tested}
-use Rattle.nesting.specs.declared.NestingAnswer.{NestingAnswer}
-use Rattle.nesting.specs.declared.NestingAnswer.TheVariants.{Nested, Refused}
 use Rattle.nesting.specs.Nests.{depth_of, no_parent, parent_of}
 use Rattle.nesting.specs.Nesting.{NestTables, nest_room_for, nesting_tests, nested, tell_nesting, FindsNesting}
 use Rattle.nesting.specs.NestsLaws.{ParentAmong, UnheldTo, depth_few, parent_smallest, none_exactly, unheld_none}
@@ -44,8 +43,8 @@ module _ {t : FlatLayer} (l : LayerTested t) (i : ℕ) where
 
 pub nesting_recovers : Recovers tell_nesting
 nesting_recovers = record {
-  back = elim [ gives _ ↦ Nested | refuses r ↦ Refused (refusal_of r) ];
-  once = elim [ Nested ↦ refl | Refused r ↦ ap Refused (refusal_once r) ];
+  back = elim [ gives _ ↦ Ok tt | refuses r ↦ Err (refusal_of r) ];
+  once = elim [ Ok _ ↦ refl | Err r ↦ ap Err (refusal_once r) ];
 }
 
 -- ---- what is not refused
@@ -69,7 +68,7 @@ none_nested {t} {u} (more a (more b (more c done))) =
 
 -- ---- Nesting
 
-module _ {t : FlatLayer} {u : NestTables} {result : NestingAnswer} {u' : NestTables} (d : FindsNesting t u result u') where
+module _ {t : FlatLayer} {u : NestTables} {result : Result Unit Refusal} {u' : NestTables} (d : FindsNesting t u result u') where
   -- refused exactly if a listed condition holds, the first that fits; answered exactly if none does; and one outcome only
   pub nesting_refused : (r : Told) → (tell_nesting result ≡ refuses r) ↔ First (nesting_tests t u) r
   nesting_refused = refused_exactly d
@@ -77,7 +76,7 @@ module _ {t : FlatLayer} {u : NestTables} {result : NestingAnswer} {u' : NestTab
   pub nesting_given : (tell_nesting result ≡ gives tt) ↔ None (nesting_tests t u)
   nesting_given = given_exactly d
 
-  pub nesting_only : {other : NestingAnswer} {w : NestTables} → FindsNesting t u other w → (result ≡ other) × (u' ≡ w)
+  pub nesting_only : {other : Result Unit Refusal} {w : NestTables} → FindsNesting t u other w → (result ≡ other) × (u' ≡ w)
   nesting_only = only_outcome nesting_recovers d
 
   -- a refusal writes nothing (NEST-11)

@@ -11,22 +11,17 @@ ghost use Rattle.nesting.specs.Steps.{closer, met_by, all_met_by, ParentTo, Nest
 use contours::contour;
 use inside::ContourExtent;
 use inside::unchecked::{absolute_area, extent_of, lies_within};
-use mesh::numbers::wide;
 use mesh::unchecked::fill;
 
 // What is written where there is no parent.
-const NO_PARENT: u32 = 4294967295;
+const NO_PARENT: u32 = u32::MAX;
 
 // Whether a contour of this size is to be the parent instead of q. The area of q is found again: no table keeps it.
 fn is_closer(points: &[i32], ends: &[u32], size: u64, q: u32) -> bool
     requires { LayerTested (flat points.now ends.now) × ParentTo (length ends.now) q }
     ensures value { result ≡ closer (polygons_of (flat points.now ends.now)) size q }
 {
-    if q == NO_PARENT {
-        return true;
-    }
-    let c = contour(points, ends, wide(q));
-    size < absolute_area(c)
+    q == NO_PARENT || size < absolute_area(contour(points, ends, q as usize))
 }
 
 // What contour j of this size adds to the depth and the parent of contour i, which it holds or not.
@@ -48,10 +43,8 @@ fn meet_one(
     if !inside {
         return;
     }
-    let d = depths[i];
-    depths[i] = d + 1;
-    let q = parents[i];
-    if is_closer(points, ends, size, q) {
+    depths[i] += 1;
+    if is_closer(points, ends, size, parents[i]) {
         parents[i] = j as u32;
     }
 }
@@ -61,10 +54,7 @@ fn is_held(contour: &[i32], e: ContourExtent, x: i32, y: i32, j: usize, i: usize
     requires { PointRun contour.now × (0 < length contour.now) × PointNear (point x y) × Spans (points_in contour.now) e }
     ensures value { result ≡ (not (eqb j i) && lies_in (point x y) (points_in contour.now)) }
 {
-    if j == i {
-        return false;
-    }
-    lies_within(contour, e, x, y)
+    j != i && lies_within(contour, e, x, y)
 }
 
 // What contour j, with its extent and its size, adds to the depths and parents of all.
@@ -84,17 +74,14 @@ fn meet_all(
         ≡ all_met_by (polygons_of (flat points.now ends.now)) j
         (nest_tables depths.old parents.old) }
 {
-    let mut i: usize = 0;
     let mut start: usize = 0;
-    while i < ends.len() {
+    for (i, end) in ends.iter().enumerate() {
         let a = 2 * start;
-        let b = a + 1;
         let x = points[a];
-        let y = points[b];
+        let y = points[a + 1];
         let inside = is_held(contour, e, x, y, j, i);
         meet_one(points, ends, size, j, i, inside, depths, parents);
-        start = wide(ends[i]);
-        i += 1;
+        start = *end as usize;
     }
 }
 
@@ -123,9 +110,7 @@ pub fn nest(points: &[i32], ends: &[u32], depths: &mut [u32], parents: &mut [u32
     let n = ends.len();
     fill(depths, n, 0);
     fill(parents, n, NO_PARENT);
-    let mut j: usize = 0;
-    while j < n {
+    for j in 0..n {
         nest_contour(points, ends, j, depths, parents);
-        j += 1;
     }
 }

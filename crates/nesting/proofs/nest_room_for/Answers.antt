@@ -2,8 +2,8 @@
 use Rattle.nesting.proofs.Answers.{depths_short, depths_enough}
 use Rattle.nesting.proofs.nest_room_for.Goals as goal
 
-pub returns-then-depths-contours : goal.returns-then-depths-contours
-returns-then-depths-contours c = record { value = depths_short _ _ _ c.if-depths-contours.true }
+pub returns-then-contours-depths : goal.returns-then-contours-depths
+returns-then-contours-depths c = record { value = depths_enough _ _ _ c.if-contours-depths.true }
 
-pub returns : goal.returns
-returns c = record { value = depths_enough _ _ _ c.if-depths-contours.false }
+pub returns-else-contours-depths : goal.returns-else-contours-depths
+returns-else-contours-depths c = record { value = depths_short _ _ _ c.if-contours-depths.false }

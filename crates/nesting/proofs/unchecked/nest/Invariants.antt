@@ -1,5 +1,4 @@
 -- `unchecked::nest` meets its contract: after the first j contours the tables have depth and parent among these (`NestsTo`); emptied, among none.
-use Prim.Native.Nat.{◌-◌}
 use Rattle.polygons.specs.Flat.{flat}
 use Rattle.nesting.specs.Nesting.{nest_tables}
 use Rattle.nesting.proofs.Filling.{NestsTo}
@@ -7,6 +6,3 @@ use Rattle.nesting.proofs.unchecked.nest.Given as goal
 
 abbrev pub invariant-loop-j : goal.invariant-loop-j
 invariant-loop-j l = NestsTo (flat l.points l.ends) l.n (nest_tables l.initial.depths l.initial.parents) (nest_tables l.depths l.parents) l.j
-
-abbrev pub decreases-loop-j : goal.decreases-loop-j
-decreases-loop-j l = l.n - l.j
