@@ -2,12 +2,12 @@
 use Prim.Native.Nat.{ℕ, ◌+◌, ◌-◌, ◌*◌, ◌≤◌, ◌<◌}
 use mathlib.Core.Path.{◌≡◌, sym, ap, ◌∙◌, subst}
 use mathlib.Core.Bool.{Bool, true, false, not}
-use mathlib.Core.Option.{none, some}
 use native.Mathlib.Omega.{arith}
-use lib.ListN.{length, get_or, get_elem?}
+use lib.ListN.{length, get_or}
 use lib.IntN.{ℤ, nat_abs}
 use mir.Syntax.{w32}
 use mir.Val.{to_z, of_z}
+use Rattle.std.specs.Prelude.{Some, None, slice_get}
 use Rattle.laws.specs.Machine.{same_in}
 use Rattle.mesh.specs.Corners.{largest}
 use Rattle.mesh.specs.Operation.{Finding, gives, refuses, verdict}
@@ -40,7 +40,7 @@ module _ (t : FlatLayer) (o : Origin) {b : Bool} (b_is : b ≡ whole_origin o) w
 
 module _ (t : FlatLayer) (o : Origin) (d : DrawTested t o) (k j : ℕ) (b : Belongs t.ends k j) where
   -- past the contours there is no call
-  pub fetch_past : length t.ends ≤ j → none ≡ get_elem? (calls_of o t) k
+  pub fetch_past : length t.ends ≤ j → None ≡ slice_get (calls_of o t) k
   fetch_past h =
       let last : j ≡ length t.ends = omega (arith, b.upto) in
       let from : end_before 0 t.ends (length t.ends) + length t.ends ≤ k = subst (λ (i : ℕ). end_before 0 t.ends i + i ≤ k) last b.from in
@@ -53,7 +53,7 @@ module _ (t : FlatLayer) (o : Origin) (d : DrawTested t o) (k j : ℕ) (b : Belo
     abbrev end : ℕ
     end = get_or t.ends j 0
 
-    here : get_elem? (calls_of o t) k ≡ some (call_here o t.points start end (k - j))
+    here : slice_get (calls_of o t) k ≡ Some (call_here o t.points start end (k - j))
     here = call_here_lem o t d.layer.tested k j b there
 
     -- a point before the end is in the table
@@ -62,23 +62,23 @@ module _ (t : FlatLayer) (o : Origin) (d : DrawTested t o) (k j : ℕ) (b : Belo
         let rises = end_rises 0 t.ends d.layer.tested.rising j there in
         omega (arith, rises.1, b.from, b.to there, d.layer.tested.even, d.layer.tested.last)
 
-    pub fetch_close : e ≡ k - j → some Close ≡ get_elem? (calls_of o t) k
-    fetch_close n = sym (here ∙ ap some (here_close o t.points start end (k - j) (sym n ∙ e_is)))
+    pub fetch_close : e ≡ k - j → Some Close ≡ slice_get (calls_of o t) k
+    fetch_close n = sym (here ∙ ap Some (here_close o t.points start end (k - j) (sym n ∙ e_is)))
 
     module _ {s : ℕ} {x y : ℤ} {p : DrawnPoint} (n : e ≡ k - j → ⊥) (s-is : s ≡ end_before 0 t.ends j)
         (x_is : x ≡ (table_point t.points (k - j)).x) (y_is : y ≡ (table_point t.points (k - j)).y) (p_is : p ≡ drawn_at o (point x y)) where
       drawn : p ≡ drawn_at o (table_point t.points (k - j))
       drawn = p_is ∙ (λ i. drawn_at o (point (x_is i) (y_is i)))
 
-      pub fetch_move : s ≡ k - j → some (Move p.x p.y) ≡ get_elem? (calls_of o t) k
+      pub fetch_move : s ≡ k - j → Some (Move p.x p.y) ≡ slice_get (calls_of o t) k
       fetch_move m =
-          ap (λ (q : DrawnPoint). some (Move q.x q.y)) drawn
-          ∙ sym (here ∙ ap some (here_move o t.points start end (k - j) (λ a. n (e_is ∙ sym a)) (sym m ∙ s-is)))
+          ap (λ (q : DrawnPoint). Some (Move q.x q.y)) drawn
+          ∙ sym (here ∙ ap Some (here_move o t.points start end (k - j) (λ a. n (e_is ∙ sym a)) (sym m ∙ s-is)))
 
-      pub fetch_line : (s ≡ k - j → ⊥) → some (Line p.x p.y) ≡ get_elem? (calls_of o t) k
+      pub fetch_line : (s ≡ k - j → ⊥) → Some (Line p.x p.y) ≡ slice_get (calls_of o t) k
       fetch_line m =
-          ap (λ (q : DrawnPoint). some (Line q.x q.y)) drawn
-          ∙ sym (here ∙ ap some (here_line o t.points start end (k - j) (λ a. n (e_is ∙ sym a)) (λ a. m (s-is ∙ sym a))))
+          ap (λ (q : DrawnPoint). Some (Line q.x q.y)) drawn
+          ∙ sym (here ∙ ap Some (here_line o t.points start end (k - j) (λ a. n (e_is ∙ sym a)) (λ a. m (s-is ∙ sym a))))
 
 -- ---- the two numbers of a point, as the code reads them
 

@@ -3,11 +3,11 @@ use Prim.Native.Nat.{ℕ, suc, ◌+◌, ◌-◌, ◌/◌, ◌≤◌, ◌<◌, mi
 use mathlib.Core.Path.{◌≡◌, refl, sym, ap, ◌∙◌, subst}
 use mathlib.Core.List.{List}
 use mathlib.Core.Logic.{⊎_elim}
-use mathlib.Core.Option.{some}
 use native.Mathlib.Omega.{arith}
 use native.Mathlib.Numerals.{add-one}
-use lib.ListN.{length, get_or, get_elem?, take, drop, length-take, length-drop}
+use lib.ListN.{length, get_or, take, drop, length-take, length-drop}
 use lib.Seq.{take_all, take-take, take-add, drop-drop}
+use Rattle.std.specs.Prelude.{Some, slice_get}
 use Rattle.laws.specs.Booleans.{split_lt}
 use Rattle.laws.specs.EntryLaws.{part_entries}
 use Rattle.polygons.specs.Flat.{FlatLayer, end_before}
@@ -100,14 +100,14 @@ module _ (t : FlatLayer) (o : Origin) (number : ℕ) (u₀ : CallTables) where
         rest_is : take (length rest) (drop (number + n) calls) ≡ rest
         rest_is = part_entries calls rest (number + n) at
           where
-            at : (m : ℕ) → m < length rest → get_elem? calls (number + n + m) ≡ get_elem? rest m
+            at : (m : ℕ) → m < length rest → slice_get calls (number + n + m) ≡ slice_get rest m
             at m l =
                 let within : i + m ≤ e = omega (arith, rest_count, next_within.1) in
                 let here : number + n + m - j ≡ i + m = omega (arith, own.from) in
                 let belongs : Belongs t.ends (number + n + m) j =
                 record { upto = own.upto; from = omega (arith, own.from); to = λ h. omega (arith, own.from) } in
                 call_here_lem o t d.layer.tested (number + n + m) j belongs there
-                ∙ (λ x. some (call_here o t.points (sym s-is x) (sym e_is x) (here x)))
+                ∙ (λ x. Some (call_here o t.points (sym s-is x) (sym e_is x) (here x)))
                 ∙ sym (left_here o t.points s e i m next_within.0 (omega (arith, own.from)) within)
 
         -- so many of them are filled

@@ -1,10 +1,9 @@
 -- Which call has which number, and how many there are (PREVIEW-1, PREVIEW-5).
-use Rattle.std.specs.Prelude.{ℕ, zero, suc, ◌+◌, ◌-◌, ◌≤◌, ◌<◌, ◌≡◌, refl, cond, eqb, length, get_or}
+use Rattle.std.specs.Prelude.{ℕ, zero, suc, ◌+◌, ◌-◌, ◌≤◌, ◌<◌, ◌≡◌, refl, cond, eqb, length, get_or, Some, slice_get}
 use Rattle.std.proofs.Common.{sym, ap, ◌∙◌, ⊎_elim, arith, not-suc-le-zero, length-append, get_or-append-add}
 use mathlib.Core.List.{List, [], ◌∷◌, ◌++◌, map, flatten, append_assoc}
-use Rattle.std.proofs.Math.Option.{some}
 use borrow.Author.Tests.{eq-eqb, ne_eqb}
-use Rattle.std.proofs.Math.ListN.{get_elem?, get_or-append}
+use Rattle.std.proofs.Math.ListN.{get_or-append}
 use Rattle.std.proofs.lemmas.List.{length-map}
 use Rattle.laws.specs.EntryLaws.{entry_front, entry_behind}
 use Rattle.laws.specs.Booleans.{split_lt, split_eq}
@@ -45,33 +44,33 @@ module _ (ps : List Point) (s e i : ℕ) where
   stroke_line h k = rw (ne_eqb i e h, ne_eqb i s k)
 
 contour_at_lem : (c : List Point) (rest : List Stroke) (k : ℕ) → 0 < length c → k ≤ length c
-    → get_elem? (contour_strokes c ++ rest) k ≡ some (stroke_at c 0 (length c) k)
+    → slice_get (contour_strokes c ++ rest) k ≡ Some (stroke_at c 0 (length c) k)
 unfolding contour_strokes
 contour_at_lem [] rest k h l = absurd (not-suc-le-zero h)
-contour_at_lem (p ∷ c) rest zero h l = ap some (sym (stroke_move (p ∷ c) 0 (suc (length c)) 0 (λ e. omega arith) refl))
+contour_at_lem (p ∷ c) rest zero h l = ap Some (sym (stroke_move (p ∷ c) 0 (suc (length c)) 0 (λ e. omega arith) refl))
 contour_at_lem (p ∷ c) rest (suc k) h l =
-    ap (λ (r : List Stroke). get_elem? r k) (append_assoc (map line c) (close ∷ []) rest) ∙ ⊎_elim inner last (split_lt k (length c))
+    ap (λ (r : List Stroke). slice_get r k) (append_assoc (map line c) (close ∷ []) rest) ∙ ⊎_elim inner last (split_lt k (length c))
   where
-    inner : k < length c → get_elem? (map line c ++ (close ∷ rest)) k ≡ some (stroke_at (p ∷ c) 0 (suc (length c)) (suc k))
+    inner : k < length c → slice_get (map line c ++ (close ∷ rest)) k ≡ Some (stroke_at (p ∷ c) 0 (suc (length c)) (suc k))
     inner q =
         entry_front (map line c) (close ∷ rest) close k (omega (arith, length-map c line))
-        ∙ ap some (lines_at c k q ∙ sym (stroke_line (p ∷ c) 0 (suc (length c)) (suc k) (λ e. omega arith) (λ e. omega arith)))
+        ∙ ap Some (lines_at c k q ∙ sym (stroke_line (p ∷ c) 0 (suc (length c)) (suc k) (λ e. omega arith) (λ e. omega arith)))
       where
         lines_at : (c : List Point) (k : ℕ) → k < length c → get_or (map line c) k close ≡ line (get_or c k no_point)
         lines_at [] k h = absurd (not-suc-le-zero h)
         lines_at (p ∷ c) zero h = refl
         lines_at (p ∷ c) (suc k) h = lines_at c k (omega arith)
 
-    last : length c ≤ k → get_elem? (map line c ++ (close ∷ rest)) k ≡ some (stroke_at (p ∷ c) 0 (suc (length c)) (suc k))
+    last : length c ≤ k → slice_get (map line c ++ (close ∷ rest)) k ≡ Some (stroke_at (p ∷ c) 0 (suc (length c)) (suc k))
     last q =
         let n : k ≡ length (map line c) + 0 = omega (arith, length-map c line) in
-        ap (get_elem? (map line c ++ (close ∷ rest))) n
+        ap (slice_get (map line c ++ (close ∷ rest))) n
         ∙ entry_behind (map line c) (close ∷ rest) 0
-        ∙ ap some (sym (stroke_close (p ∷ c) 0 (suc (length c)) (suc k) (omega arith)))
+        ∙ ap Some (sym (stroke_close (p ∷ c) 0 (suc (length c)) (suc k) (omega arith)))
 
-contour_past : (c : List Point) (rest : List Stroke) (k : ℕ) → get_elem? (contour_strokes c ++ rest) (suc (length c) + k) ≡ get_elem? rest k
+contour_past : (c : List Point) (rest : List Stroke) (k : ℕ) → slice_get (contour_strokes c ++ rest) (suc (length c) + k) ≡ slice_get rest k
 contour_past c rest k =
-    ap (λ (n : ℕ). get_elem? (contour_strokes c ++ rest) (n + k)) (sym (contour_count c))
+    ap (λ (n : ℕ). slice_get (contour_strokes c ++ rest) (n + k)) (sym (contour_count c))
     ∙ entry_behind (contour_strokes c) rest k
 
 -- ---- the strokes of a layer, by the points of all contours
@@ -117,14 +116,14 @@ before_least a (c ∷ cs) (suc j) h =
 -- a number k that lies from the start of contour j up to its end, counted with the j closes before it; the points of `front`, so many, came before
 pub strokes_at : (front : List Point) (a : ℕ) (cs : List (List Point)) (j k : ℕ) → a ≡ length front → Each (λ (c : List Point). 0 < length c) cs → j < length cs
     → end_before a (ends_from a cs) j + j ≤ a + k → a + k ≤ get_or (ends_from a cs) j 0 + j
-    → get_elem? (strokes_of cs) k ≡ some (stroke_at (front ++ flatten cs) (end_before a (ends_from a cs) j) (get_or (ends_from a cs) j 0) (a + k - j))
+    → slice_get (strokes_of cs) k ≡ Some (stroke_at (front ++ flatten cs) (end_before a (ends_from a cs) j) (get_or (ends_from a cs) j 0) (a + k - j))
 unfolding strokes_of flatten ends_from end_before
 strokes_at front a [] j k is e h from to = absurd (not-suc-le-zero h)
 strokes_at front a (c ∷ cs) zero k is e h from to =
     let n : length front + k ≡ a + k - 0 = omega arith in
     contour_at_lem c (strokes_of cs) k e.0 (omega arith)
-    ∙ ap some (shifted front c (flatten cs) k (omega arith))
-    ∙ (λ i. some (stroke_at (front ++ (c ++ flatten cs)) (sym is i) (sym is i + length c) (n i)))
+    ∙ ap Some (shifted front c (flatten cs) k (omega arith))
+    ∙ (λ i. Some (stroke_at (front ++ (c ++ flatten cs)) (sym is i) (sym is i + length c) (n i)))
 strokes_at front a (c ∷ cs) (suc j) k is e h from to =
     let left = k - suc (length c) in
     let ends = ends_from (a + length c) cs in
@@ -133,7 +132,7 @@ strokes_at front a (c ∷ cs) (suc j) k is e h from to =
     let n : k ≡ suc (length c) + left = omega arith in
     let m : a + length c + left - j ≡ a + k - suc j = omega arith in
     let so_far : a + length c ≡ length (front ++ c) = omega (arith, length-append front c) in
-    ap (get_elem? (contour_strokes c ++ strokes_of cs)) n
+    ap (slice_get (contour_strokes c ++ strokes_of cs)) n
     ∙ contour_past c (strokes_of cs) left
     ∙ strokes_at (front ++ c) (a + length c) cs j left so_far e.1 (omega arith) (omega arith) (omega arith)
-    ∙ (λ i. some (stroke_at (append_assoc front c (flatten cs) i) (later i) (get_or ends j 0) (m i)))
+    ∙ (λ i. Some (stroke_at (append_assoc front c (flatten cs) i) (later i) (get_or ends j 0) (m i)))

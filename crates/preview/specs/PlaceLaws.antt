@@ -1,14 +1,13 @@
 -- The calls of a tested layer by the numbers of its two tables.
-use Rattle.std.specs.Prelude.{ℕ, ◌+◌, ◌-◌, ◌/◌, ◌≤◌, ◌<◌, ◌≡◌, Bool, cond, ◌↔◌, eqb, ℤ}
+use Rattle.std.specs.Prelude.{ℕ, ◌+◌, ◌-◌, ◌/◌, ◌≤◌, ◌<◌, ◌≡◌, Bool, cond, ◌↔◌, eqb, ℤ, Some, None, slice_get, option_map}
 use Rattle.std.proofs.Math.Path.{refl, ap}
 use Rattle.std.proofs.Common.{sym, ◌∙◌, subst}
 use Rattle.std.proofs.Math.Bool.{true, false}
 use mathlib.Core.List.{List, [], ◌∷◌, flatten}
-use Rattle.std.proofs.Math.Option
-use Rattle.std.proofs.Math.Option.{none, some}
+use Rattle.std.proofs.lemmas.Option.{slice_get-map}
 use native.Mathlib.Omega.{arith}
-use Rattle.std.proofs.Math.ListN.{length, get_or, get_elem?, length-map}
-use Rattle.laws.specs.EntryLaws.{entry_map, entry_none}
+use Rattle.std.proofs.Math.ListN.{length, get_or, length-map}
+use Rattle.laws.specs.EntryLaws.{entry_none}
 use Rattle.polygons.specs.Flat.{Point, no_point, point, Each, FlatLayer, fewest_points, ends_of, numbers_of, polygons_of, end_before}
 use Rattle.polygons.proofs.FlatLaws.{number_x, number_y, length_ends, length_points, FlatTested, flat_polygons, layer_polygons}
 use Rattle.preview_floats.specs.declared.Origin.{Origin}
@@ -39,7 +38,7 @@ module _ (o : Origin) (t : FlatLayer) (h : FlatTested t) where
       omega (arith, length-map (strokes_of cs) (drawn_call o), strokes_count cs, points, ap length points_are, ap length ends_are, length_ends 0 cs)
 
   -- past the last exactly from there on (PREVIEW-5)
-  pub past_exactly : (k : ℕ) → (get_elem? (calls_of o t) k ≡ none) ↔ (length t.points / 2 + length t.ends ≤ k)
+  pub past_exactly : (k : ℕ) → (slice_get (calls_of o t) k ≡ None) ↔ (length t.points / 2 + length t.ends ≤ k)
   past_exactly k =
       let p = entry_none (calls_of o t) k in
       (λ e. omega (arith, p.0 e, calls_count), λ l. p.1 (omega (arith, calls_count)))
@@ -61,24 +60,24 @@ module _ (o : Origin) (t : FlatLayer) (h : FlatTested t) where
       abbrev stroke : Stroke
       stroke = stroke_at (flatten cs) start end (k - j)
 
-      call_at : get_elem? (calls_of o t) k ≡ some (drawn_call o stroke)
+      call_at : slice_get (calls_of o t) k ≡ Some (drawn_call o stroke)
       unfolding calls_of
       call_at =
-          entry_map (drawn_call o) (strokes_of cs) k
-          ∙ ap (Option.map (drawn_call o))
+          slice_get-map (drawn_call o) (strokes_of cs) k
+          ∙ ap (option_map (drawn_call o))
           (subst (λ (es : List ℕ). j < length cs → end_before 0 es j + j ≤ 0 + k → 0 + k ≤ get_or es j 0 + j
-          → get_elem? (strokes_of cs) k ≡ some (stroke_at (flatten cs) (end_before 0 es j) (get_or es j 0) (0 + k - j))) ends_are
+          → slice_get (strokes_of cs) k ≡ Some (stroke_at (flatten cs) (end_before 0 es j) (get_or es j 0) (0 + k - j))) ends_are
           (λ q f g. strokes_at [] 0 cs j k refl (some_points cs (layer_polygons t h).each) q f g)
           (omega (arith, there, ap length ends_are, length_ends 0 cs)) (omega (arith, b.from)) (omega (arith, b.to there))
-          ∙ (let n : 0 + k - j ≡ k - j = omega arith in ap (λ (i : ℕ). some (stroke_at (flatten cs) start end i)) n))
+          ∙ (let n : 0 + k - j ≡ k - j = omega arith in ap (λ (i : ℕ). Some (stroke_at (flatten cs) start end i)) n))
 
-      pub call_here_lem : get_elem? (calls_of o t) k ≡ some (call_here o t.points start end (k - j))
+      pub call_here_lem : slice_get (calls_of o t) k ≡ Some (call_here o t.points start end (k - j))
       unfolding stroke_at call_here
       call_here_lem = call_at ∙ go (eqb (k - j) end) (eqb (k - j) start)
         where
           go : (a c : Bool)
-              → some (drawn_call o (cond a close (cond c (move (get_or (flatten cs) (k - j) no_point)) (line (get_or (flatten cs) (k - j) no_point)))))
-              ≡ some (cond a Close (cond c (drawn_call o (move (table_point t.points (k - j)))) (drawn_call o (line (table_point t.points (k - j))))))
+              → Some (drawn_call o (cond a close (cond c (move (get_or (flatten cs) (k - j) no_point)) (line (get_or (flatten cs) (k - j) no_point)))))
+              ≡ Some (cond a Close (cond c (drawn_call o (move (table_point t.points (k - j)))) (drawn_call o (line (table_point t.points (k - j))))))
           go true c = refl
-          go false true = ap (λ (p : Point). some (drawn_call o (move p))) (point_is (k - j))
-          go false false = ap (λ (p : Point). some (drawn_call o (line p))) (point_is (k - j))
+          go false true = ap (λ (p : Point). Some (drawn_call o (move p))) (point_is (k - j))
+          go false false = ap (λ (p : Point). Some (drawn_call o (line p))) (point_is (k - j))

@@ -1,20 +1,15 @@
 -- Preview (PREVIEW-5 to PREVIEW-7) and Preview of a run of calls (PREVIEW-8 to PREVIEW-11): their refusals in order, what they answer, and
 -- what they leave in the lent tables.
-use Rattle.std.specs.Prelude.{ℕ, ◌-◌, ◌/◌, min, ◌≡◌, not, List, [], ◌∷◌, map, length, take, drop, Float}
-use Rattle.std.proofs.Math.Option.{Option, none, some}
-use Rattle.std.proofs.Math.ListN.{get_elem?}
+use Rattle.std.specs.Prelude.{ℕ, ◌-◌, ◌/◌, min, ◌≡◌, not, List, [], ◌∷◌, map, length, take, drop, slice_get, Float, Option, Result}
 use Rattle.laws.specs.Tables.{overwrite}
-use Rattle.mesh.specs.Operation.{Answer, gives, refuses, Condition, whole, fine, verdict, unless_refused, Operation, Does}
-use Rattle.mesh.specs.Refusals.{Told, refusal, told_of}
+use Rattle.mesh.specs.Operation.{Answer, Condition, whole, fine, verdict, unless_refused, Operation, Does}
+use Rattle.mesh.specs.Refusals.{Told, refusal, tell}
+use Rattle.mesh.specs.declared.Refusal.{Refusal}
 use Rattle.polygons.specs.Flat.{FlatLayer, layer_tests}
 use Rattle.preview_floats.specs.declared.Origin.{Origin}
 use Rattle.preview_floats.specs.DrawnPoints.{whole_origin}
 use Rattle.preview.specs.declared.PathCall.{PathCall}
 use Rattle.preview.specs.declared.PathCall.TheVariants.{Move, Line, Close}
-use Rattle.preview.specs.declared.PreviewAnswer.{PreviewAnswer}
-use Rattle.preview.specs.declared.PreviewAnswer.TheVariants.{Call, Past, Refused}
-use Rattle.preview.specs.declared.PreviewRunAnswer.{PreviewRunAnswer}
-use Rattle.preview.specs.declared.PreviewRunAnswer.TheVariants.{Calls, Refused as RunRefused}
 use Rattle.preview.specs.Calls.{calls_of}
 
 -- ---- refusals in order (PREVIEW-6)
@@ -35,15 +30,13 @@ Drawable t o = verdict (preview_tests t o) ≡ fine
 
 -- it gives the call of a number, or none past the last (PREVIEW-5), and is lent no table
 abbrev pub previewing : FlatLayer × Origin × ℕ → Operation Told (Option PathCall) Unit
-previewing = λ (t, o, number). record { refusals = preview_tests t o; values = get_elem? (calls_of o t) number; leaves = λ f. tt }
+previewing = λ (t, o, number). record { refusals = preview_tests t o; values = slice_get (calls_of o t) number; leaves = λ f. tt }
 
 -- what its answer says
-abbrev pub tell_preview : PreviewAnswer → Answer Told (Option PathCall)
-tell_preview (Call c) = gives (some c)
-tell_preview Past = gives none
-tell_preview (Refused r) = refuses (told_of r)
+abbrev pub tell_preview : Result (Option PathCall) Refusal → Answer Told (Option PathCall)
+tell_preview = tell (λ call. call)
 
-abbrev pub Previews : FlatLayer → Origin → ℕ → PreviewAnswer → Type 0
+abbrev pub Previews : FlatLayer → Origin → ℕ → Result (Option PathCall) Refusal → Type 0
 Previews t o number result = Does previewing tell_preview (t, o, number) result tt
 
 -- ---- Preview of a run
@@ -99,9 +92,8 @@ preview_running = λ (t, o, number, u).
     }
 
 -- what its answer says
-abbrev pub tell_preview_run : PreviewRunAnswer → Answer Told ℕ
-tell_preview_run (Calls n) = gives n
-tell_preview_run (RunRefused r) = refuses (told_of r)
+abbrev pub tell_preview_run : Result ℕ Refusal → Answer Told ℕ
+tell_preview_run = tell (λ n. n)
 
-abbrev pub PreviewsRun : FlatLayer → Origin → ℕ → CallTables → PreviewRunAnswer → CallTables → Type 0
+abbrev pub PreviewsRun : FlatLayer → Origin → ℕ → CallTables → Result ℕ Refusal → CallTables → Type 0
 PreviewsRun t o number u result u' = Does preview_running tell_preview_run (t, o, number, u) result u'

@@ -1,22 +1,19 @@
 -- What Preview and Preview of a run promise: each refuses exactly if a listed condition holds, gives its values exactly if none does, and the outcome is the
 -- only one. Before that what a layer and an origin that are not refused are.
-use Rattle.std.specs.Prelude.{ℕ, ◌+◌, ◌/◌, ◌≤◌, ◌≡◌, refl, true, ◌↔◌, length}
+use Rattle.std.specs.Prelude.{ℕ, ◌+◌, ◌/◌, ◌≤◌, ◌≡◌, refl, true, ◌↔◌, length, Option, None as NoCall, Result, Ok, Err}
 use Rattle.std.proofs.Common.{sym, ap, ◌∙◌, arith}
-use Rattle.std.proofs.Math.Option.{none, some}
 use Rattle.std.proofs.lemmas.Bool.{not-false}
 use Rattle.mesh.specs.Operation.{gives, refuses}
 use Rattle.mesh.specs.OperationLaws.{First, None, more, done, fine_none, Recovers, given_verdict, refused_exactly, given_exactly, only_outcome}
 use Rattle.mesh.specs.Refusals.{Told}
 use Rattle.mesh.specs.RefusalLaws.{refusal_of, refusal_once}
+use Rattle.mesh.specs.declared.Refusal.{Refusal}
 use Rattle.polygons.specs.Flat.{FlatLayer}
 use Rattle.polygons.proofs.FlatLaws.{LayerTested, none_tested}
 use Rattle.preview_floats.specs.declared.Origin.{Origin}
 use Rattle.preview_floats.specs.DrawnPoints.{whole_origin}
 use Rattle.preview.specs.PlaceLaws.{past_exactly}
-use Rattle.preview.specs.declared.PreviewAnswer.{PreviewAnswer}
-use Rattle.preview.specs.declared.PreviewAnswer.TheVariants.{Call, Past, Refused}
-use Rattle.preview.specs.declared.PreviewRunAnswer.{PreviewRunAnswer}
-use Rattle.preview.specs.declared.PreviewRunAnswer.TheVariants.{Calls, Refused as RunRefused}
+use Rattle.preview.specs.declared.PathCall.{PathCall}
 use Rattle.preview.specs.Preview.{preview_tests, Drawable, previewing, tell_preview, Previews, CallTables, preview_running, tell_preview_run, PreviewsRun}
 
 -- ---- what is not refused
@@ -36,19 +33,19 @@ draw_tested t o e = go (fine_none (preview_tests t o) e)
 
 pub preview_recovers : Recovers tell_preview
 preview_recovers = record {
-  back = elim [ gives c ↦ elim c [ some call ↦ Call call | none ↦ Past ] | refuses r ↦ Refused (refusal_of r) ];
-  once = elim [ Call c ↦ refl | Past ↦ refl | Refused r ↦ ap Refused (refusal_once r) ];
+  back = elim [ gives call ↦ Ok call | refuses r ↦ Err (refusal_of r) ];
+  once = elim [ Ok call ↦ refl | Err r ↦ ap Err (refusal_once r) ];
 }
 
 pub run_recovers : Recovers tell_preview_run
 run_recovers = record {
-  back = elim [ gives n ↦ Calls n | refuses r ↦ RunRefused (refusal_of r) ];
-  once = elim [ Calls n ↦ refl | RunRefused r ↦ ap RunRefused (refusal_once r) ];
+  back = elim [ gives n ↦ Ok n | refuses r ↦ Err (refusal_of r) ];
+  once = elim [ Ok n ↦ refl | Err r ↦ ap Err (refusal_once r) ];
 }
 
 -- ---- refused exactly if, given exactly if, and one outcome only
 
-module _ {t : FlatLayer} {o : Origin} {number : ℕ} {result : PreviewAnswer} (d : Previews t o number result) where
+module _ {t : FlatLayer} {o : Origin} {number : ℕ} {result : Result (Option PathCall) Refusal} (d : Previews t o number result) where
   pub preview_refused : (r : Told) → (tell_preview result ≡ refuses r) ↔ First (previewing (t, o, number)).refusals r
   preview_refused = refused_exactly d
 
@@ -56,21 +53,21 @@ module _ {t : FlatLayer} {o : Origin} {number : ℕ} {result : PreviewAnswer} (d
   preview_given = given_exactly d
 
   -- past the last exactly from so many calls on as there are points and contours (PREVIEW-5)
-  pub preview_past : (tell_preview result ≡ gives none) ↔ (Drawable t o × (length t.points / 2 + length t.ends ≤ number))
+  pub preview_past : (tell_preview result ≡ gives NoCall) ↔ (Drawable t o × (length t.points / 2 + length t.ends ≤ number))
   preview_past = (
     (λ e. let g = given_verdict d e in (g.0, (past_exactly o t (draw_tested t o g.0).layer.tested number).0 (sym g.1))),
     (λ w. preview_given.1 (fine_none _ w.0) ∙ ap gives ((past_exactly o t (draw_tested t o w.0).layer.tested number).1 w.1)),
   )
 
-  pub preview_only : {other : PreviewAnswer} → Previews t o number other → result ≡ other
+  pub preview_only : {other : Result (Option PathCall) Refusal} → Previews t o number other → result ≡ other
   preview_only e = (only_outcome preview_recovers d e).0
 
-module _ {t : FlatLayer} {o : Origin} {number : ℕ} {u u' : CallTables} {result : PreviewRunAnswer} (d : PreviewsRun t o number u result u') where
+module _ {t : FlatLayer} {o : Origin} {number : ℕ} {u u' : CallTables} {result : Result ℕ Refusal} (d : PreviewsRun t o number u result u') where
   pub run_refused : (r : Told) → (tell_preview_run result ≡ refuses r) ↔ First (preview_running (t, o, number, u)).refusals r
   run_refused = refused_exactly d
 
   pub run_given : (tell_preview_run result ≡ gives (preview_running (t, o, number, u)).values) ↔ None (preview_running (t, o, number, u)).refusals
   run_given = given_exactly d
 
-  pub run_only : {other : PreviewRunAnswer} {u'' : CallTables} → PreviewsRun t o number u other u'' → (result ≡ other) × (u' ≡ u'')
+  pub run_only : {other : Result ℕ Refusal} {u'' : CallTables} → PreviewsRun t o number u other u'' → (result ≡ other) × (u' ≡ u'')
   run_only = only_outcome run_recovers d

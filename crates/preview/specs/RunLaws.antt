@@ -1,13 +1,11 @@
 -- Calls written one after another: the tables that Preview of a run leaves, and the calls of a contour that are left at a point.
 use Prim.Native.Nat.{ℕ, zero, suc, ◌+◌, ◌-◌, ◌*◌, ◌≤◌, ◌<◌}
-use Rattle.std.specs.Prelude.{◌≡◌, length, set, take, ℤ, Float}
+use Rattle.std.specs.Prelude.{◌≡◌, length, set, take, ℤ, Float, Some, slice_get}
 use Rattle.std.proofs.Math.Path.{refl, sym, ap}
 use Rattle.std.proofs.Common.{◌∙◌, ⊎_elim, not-suc-le-zero, add-zero, suc-add, add-suc, length-append, length-set}
 use mathlib.Core.List.{List, [], ◌∷◌, ◌++◌}
-use Rattle.std.proofs.Math.Option.{some}
 use native.Mathlib.Omega.{arith}
 use borrow.Author.Tests.{eq-eqb, ne_eqb}
-use Rattle.std.proofs.Math.ListN.{get_elem?}
 use Rattle.laws.specs.Booleans.{split_eq}
 use Rattle.laws.specs.Tables.{overwrite}
 use Rattle.preview_floats.specs.declared.Origin.{Origin}
@@ -130,16 +128,16 @@ module _ (o : Origin) (points : List ℤ) where
   here_line s e i h k = rw (ne_eqb i e h, ne_eqb i s k)
 
   -- lines and a close, past the start
-  lines_here : (s e i n m : ℕ) → s < i → i + n ≡ e → m ≤ n → get_elem? (lines_from o points i n ++ (Close ∷ [])) m ≡ some (call_here o points s e (i + m))
+  lines_here : (s e i n m : ℕ) → s < i → i + n ≡ e → m ≤ n → slice_get (lines_from o points i n ++ (Close ∷ [])) m ≡ Some (call_here o points s e (i + m))
   unfolding lines_from
-  lines_here s e i zero zero a b h = ap some (sym (here_close s e (i + 0) (omega arith)))
+  lines_here s e i zero zero a b h = ap Some (sym (here_close s e (i + 0) (omega arith)))
   lines_here s e i zero (suc m) a b h = absurd (not-suc-le-zero h)
   lines_here s e i (suc n) zero a b h =
       let first : i + 0 ≡ i = omega arith in
-      ap some (sym (here_line s e (i + 0) (λ q. omega arith) (λ q. omega arith) ∙ ap (λ (k : ℕ). drawn_call o (line (table_point points k))) first))
+      ap Some (sym (here_line s e (i + 0) (λ q. omega arith) (λ q. omega arith) ∙ ap (λ (k : ℕ). drawn_call o (line (table_point points k))) first))
   lines_here s e i (suc n) (suc m) a b h =
       let next : suc i + m ≡ i + suc m = omega arith in
-      lines_here s e (suc i) n m (omega arith) (omega arith) (omega arith) ∙ ap (λ (k : ℕ). some (call_here o points s e k)) next
+      lines_here s e (suc i) n m (omega arith) (omega arith) (omega arith) ∙ ap (λ (k : ℕ). Some (call_here o points s e k)) next
 
   -- ---- what is left at the start, and past it
 
@@ -152,24 +150,24 @@ module _ (o : Origin) (points : List ℤ) where
   left_rest s e i q = rw (ne_eqb i s q)
 
   -- the m-th of those that are left at point i
-  pub left_here : (s e i m : ℕ) → s < e → s ≤ i → i + m ≤ e → get_elem? (calls_left o points s e i) m ≡ some (call_here o points s e (i + m))
+  pub left_here : (s e i m : ℕ) → s < e → s ≤ i → i + m ≤ e → slice_get (calls_left o points s e i) m ≡ Some (call_here o points s e (i + m))
   left_here s e i m full from to = ⊎_elim first later (split_eq i s)
     where
       begun : i ≡ s → (m : ℕ) → i + m ≤ e
-          → get_elem? (drawn_call o (move (table_point points i)) ∷ rest_from o points (suc i) e) m ≡ some (call_here o points s e (i + m))
+          → slice_get (drawn_call o (move (table_point points i)) ∷ rest_from o points (suc i) e) m ≡ Some (call_here o points s e (i + m))
       begun q zero h =
           let at : i + 0 ≡ i = omega arith in
-          ap some (sym (here_move s e (i + 0) (λ z. omega arith) (omega arith) ∙ ap (λ (k : ℕ). drawn_call o (move (table_point points k))) at))
+          ap Some (sym (here_move s e (i + 0) (λ z. omega arith) (omega arith) ∙ ap (λ (k : ℕ). drawn_call o (move (table_point points k))) at))
       begun q (suc m) h =
           let next : suc i + m ≡ i + suc m = omega arith in
-          lines_here s e (suc i) (e - suc i) m (omega arith) (omega arith) (omega arith) ∙ ap (λ (k : ℕ). some (call_here o points s e k)) next
+          lines_here s e (suc i) (e - suc i) m (omega arith) (omega arith) (omega arith) ∙ ap (λ (k : ℕ). Some (call_here o points s e k)) next
 
-      first : i ≡ s → get_elem? (calls_left o points s e i) m ≡ some (call_here o points s e (i + m))
-      first q = ap (λ (l : List PathCall). get_elem? l m) (left_move s e i q) ∙ begun q m to
+      first : i ≡ s → slice_get (calls_left o points s e i) m ≡ Some (call_here o points s e (i + m))
+      first q = ap (λ (l : List PathCall). slice_get l m) (left_move s e i q) ∙ begun q m to
 
-      later : (i ≡ s → ⊥) → get_elem? (calls_left o points s e i) m ≡ some (call_here o points s e (i + m))
+      later : (i ≡ s → ⊥) → slice_get (calls_left o points s e i) m ≡ Some (call_here o points s e (i + m))
       later q =
-          ap (λ (l : List PathCall). get_elem? l m) (left_rest s e i q)
+          ap (λ (l : List PathCall). slice_get l m) (left_rest s e i q)
           ∙ lines_here s e i (e - i) m (omega arith) (omega arith) (omega arith)
 
   -- the first lines, whatever follows

@@ -1,39 +1,36 @@
 // The calls of a layer and an origin that the tests have passed.
-ghost use Rattle.std.specs.Prelude.{◌≡◌, suc, ◌+◌, ◌-◌, ◌*◌, ◌≤◌, ◌<◌, min, length, set, take, drop};
-ghost use Rattle.std.proofs.Math.ListN.{get_elem?};
-ghost use Rattle.mesh.specs.Operation.{gives};
+ghost use Rattle.std.specs.Prelude.{◌≡◌, suc, ◌+◌, ◌-◌, ◌*◌, ◌≤◌, ◌<◌, min, length, set, take, drop, slice_get};
 ghost use Rattle.polygons.specs.Flat.{flat};
 ghost use Rattle.preview.specs.Calls.{calls_of};
-ghost use Rattle.preview.specs.Preview.{Drawable, tell_preview, call_tables, filled_count, filled_with};
+ghost use Rattle.preview.specs.Preview.{Drawable, call_tables, filled_count, filled_with};
 ghost use Rattle.preview.specs.Places.{lines_from, rest_from, calls_left, put_calls, Room, Points};
 
-use crate::{PathCall, PreviewAnswer, contour_with};
-use mesh::numbers::{lesser, wide};
+use crate::{PathCall, contour_with};
 use polygons::unchecked::prior_end;
 use preview_floats::unchecked::drawn_point;
 use preview_floats::{DrawnPoint, Origin};
 
 // The call of a number, or that there is none (PREVIEW-5).
-pub fn call_at(points: &[i32], ends: &[u32], origin: Origin, number: usize) -> PreviewAnswer
+pub fn call_at(points: &[i32], ends: &[u32], origin: Origin, number: usize) -> Option<PathCall>
     requires { Drawable (flat points.now ends.now) origin }
-    ensures told { tell_preview result
-        ≡ gives (get_elem? (calls_of origin (flat points.now ends.now)) number) }
+    ensures value { result ≡ slice_get (calls_of origin (flat points.now ends.now)) number }
 {
     let j = contour_with(ends, number);
     if ends.len() <= j {
-        return PreviewAnswer::Past;
+        return None;
     }
     let i = number - j;
-    if wide(ends[j]) == i {
-        return PreviewAnswer::Call(PathCall::Close);
+    let e = ends[j] as usize;
+    if e == i {
+        return Some(PathCall::Close);
     }
     let k = 2 * i;
     let l = k + 1;
     let p = drawn_point(points[k], points[l], origin);
     if prior_end(ends, j) == i {
-        return PreviewAnswer::Call(PathCall::Move(p.x, p.y));
+        return Some(PathCall::Move(p.x, p.y));
     }
-    PreviewAnswer::Call(PathCall::Line(p.x, p.y))
+    Some(PathCall::Line(p.x, p.y))
 }
 
 // A drawn point as call n.
@@ -63,14 +60,11 @@ fn fill_lines(
         ≡ put_calls n (lines_from origin points.now i (last - n))
         (call_tables kinds.old floats.old) }
 {
-    let mut k = n;
-    let mut a = 2 * i;
-    while k < last {
+    for k in n..last {
+        let a = 2 * (i + (k - n));
         let b = a + 1;
         put_point(floats, k, drawn_point(points[a], points[b], origin));
         kinds[k] = 1;
-        a += 2;
-        k += 1;
     }
 }
 
@@ -93,7 +87,7 @@ fn fill_rest(
         ≡ put_calls n (take (room - n) (rest_from origin points.now i e))
         (call_tables kinds.old floats.old) }
 {
-    let last = lesser(n + (e - i), room);
+    let last = (n + (e - i)).min(room);
     fill_lines(points, origin, i, n, last, kinds, floats);
     if last < room {
         kinds[last] = 2;
@@ -148,15 +142,16 @@ pub fn fill_calls(
         ≡ filled_with (take result (drop number (calls_of origin (flat points.now ends.now))))
         (call_tables kinds.old floats.old) }
 {
-    let room = lesser(kinds.len(), floats.len() / 2);
+    let room = kinds.len().min(floats.len() / 2);
     let mut j = contour_with(ends, number);
     let mut n: usize = 0;
+    // Call and contour go on at different paces: a contour has many calls.
     while n < room {
         if ends.len() <= j {
             return n;
         }
         let s = prior_end(ends, j);
-        let e = wide(ends[j]);
+        let e = ends[j] as usize;
         let i = number + n - j;
         n = fill_contour(points, origin, s, e, i, n, room, kinds, floats);
         j += 1;

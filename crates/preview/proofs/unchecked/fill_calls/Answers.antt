@@ -13,7 +13,7 @@ passed : (start : Start) → DrawTested (flat start.args.points.now start.args.e
 passed start = draw_tested _ _ start.requires
 
 pub loop-n-init : goal.loop-n-init
-loop-n-init c = running_start _ _ _ _ c.lesser-room.ensures.value c.contour_with-j.ensures.result
+loop-n-init c = running_start _ _ _ _ c.min-room.ensures c.contour_with-j.ensures.result
 
 pub shape_of-kinds-then-ends-j : goal.shape_of-kinds-then-ends-j
 shape_of-kinds-then-ends-j c = (running_long _ _ _ _ c.loop-n.invariant).0
@@ -43,11 +43,10 @@ fill_contour-n-requires c =
     let more = c.loop-n-test.true in
     let there = c.if-ends-j.false in
     let s-is = c.prior_end-s.ensures.value in
-    let e_is = c.wide-e.ensures.value in
     record {
-      fact_1 = next_room _ _ _ _ inv (passed (goal.at.fill_contour-n-requires c).Start) more there s-is e_is refl;
-      fact_2 = next_points _ _ _ _ inv (passed (goal.at.fill_contour-n-requires c).Start) more there s-is e_is refl;
-      fact_3 = next_within _ _ _ _ inv (passed (goal.at.fill_contour-n-requires c).Start) more there s-is e_is refl;
+      fact_1 = next_room _ _ _ _ inv (passed (goal.at.fill_contour-n-requires c).Start) more there s-is refl refl;
+      fact_2 = next_points _ _ _ _ inv (passed (goal.at.fill_contour-n-requires c).Start) more there s-is refl refl;
+      fact_3 = next_within _ _ _ _ inv (passed (goal.at.fill_contour-n-requires c).Start) more there s-is refl refl;
     }
 
 pub loop-n-smaller : goal.loop-n-smaller
@@ -56,7 +55,7 @@ loop-n-smaller c = omega (arith, c.fill_contour-n.ensures.value)
 pub loop-n-preserved : goal.loop-n-preserved
 loop-n-preserved c =
     running_next _ _ _ _ c.loop-n.invariant (passed (goal.at.loop-n-preserved c).Start) c.loop-n-test.true c.if-ends-j.false c.prior_end-s.ensures.value
-    c.wide-e.ensures.value refl c.fill_contour-n.ensures.value c.fill_contour-n.ensures.left
+    refl refl c.fill_contour-n.ensures.value c.fill_contour-n.ensures.left
 
 pub shape_of-kinds : goal.shape_of-kinds
 shape_of-kinds c = (running_long _ _ _ _ c.loop-n.invariant).0

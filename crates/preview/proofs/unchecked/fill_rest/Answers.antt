@@ -4,7 +4,7 @@ use Rattle.preview.proofs.unchecked.fill_rest.Goals as goal
 
 pub fill_lines-requires : goal.fill_lines-requires
 fill_lines-requires c =
-    let last_is = c.lesser-last.ensures.value in
+    let last_is = c.min-last.ensures in
     record {
       fact_1 = rest_room c.requires.fact_1 c.requires.fact_2 c.requires.fact_3 last_is;
       fact_2 = rest_points c.requires.fact_1 c.requires.fact_2 c.requires.fact_3 last_is;
@@ -12,7 +12,7 @@ fill_lines-requires c =
 
 pub returns-then-last-room : goal.returns-then-last-room
 returns-then-last-room c =
-    let last_is = c.lesser-last.ensures.value in
+    let last_is = c.min-last.ensures in
     record {
       value = closed_at c.requires.fact_1 c.requires.fact_2 c.requires.fact_3 last_is c.if-last-room.true;
       left = rest_closed c.requires.fact_1 c.requires.fact_2 c.requires.fact_3 last_is c.fill_lines.ensures.left c.if-last-room.true;
@@ -20,7 +20,7 @@ returns-then-last-room c =
 
 pub returns : goal.returns
 returns c =
-    let last_is = c.lesser-last.ensures.value in
+    let last_is = c.min-last.ensures in
     record {
       value = full_at c.requires.fact_1 c.requires.fact_2 c.requires.fact_3 last_is c.if-last-room.false;
       left = rest_full c.requires.fact_1 c.requires.fact_2 c.requires.fact_3 last_is c.fill_lines.ensures.left c.if-last-room.false;
