@@ -1,17 +1,18 @@
 -- Layer: what its tests establish, and what each return leaves, by the verdict of its tests.
-use Prim.Native.Nat.{ℕ}
+use Prim.Native.Nat.{ℕ, ◌≤◌}
+use Rattle.std.specs.Prelude.{Result, Ok, Err}
 use mathlib.Core.Path.{◌≡◌, refl, sym, ap, ◌∙◌, subst}
 use mathlib.Core.Bool.{Bool, false}
-use mathlib.Core.List.{List, [], ◌∷◌}
+use mathlib.Core.List.{List, [], ◌∷◌, ◌++◌}
 use native.Mathlib.Omega.{arith}
 use borrow.Author.Tests.{ltb-false, not-false}
-use lib.ListN.{length, get_or}
+use lib.ListN.{length, take, drop}
 use lib.IntN.{ℤ}
 use mir.Syntax.{w32}
 use mir.Val.{SFits, to_z, of_z}
 use mir.ValLaws.{to_z-of_z}
-use Rattle.laws.specs.Tables.{refill}
-use Rattle.laws.specs.TableLaws.{refill_same, refill_at}
+use Rattle.laws.specs.Tables.{tabulate, overwrite, refill}
+use Rattle.laws.specs.TableLaws.{length_tabulate, length_refill, overwrite_front}
 use Rattle.mesh.specs.Corners.{vertex_count}
 use Rattle.mesh.specs.Meshes.{PairedMesh, OrderedMesh}
 use Rattle.mesh.specs.Operation.{Condition, Finding, gives, refuses, fine, verdict}
@@ -25,16 +26,14 @@ use Rattle.section.proofs.SectionLaws.{below_under}
 use Rattle.section.specs.RightLaws.{right_of}
 use Rattle.section.specs.Contours.{Traced}
 use Rattle.section.specs.Links.{trace_links}
-use Rattle.cut.specs.declared.CutAnswer.{CutAnswer}
-use Rattle.cut.specs.declared.CutAnswer.TheVariants.{Layer as CutLayer, Refused as CutRefused}
+use Rattle.polygons.specs.declared.LayerCounts.{LayerCounts}
 use Rattle.cut.specs.Cut.{CutTables, lent, Lengths, lengths_of, cut_tests, used, section, contours_of, counts_of, tables_after_cut, tell_cut}
 use Rattle.cut.specs.Outlines.{Long, Outlined, Traces}
 use Rattle.cut.specs.OutlineLaws.{outlined, section_is, sliced, section_fine, layer_kept}
-use Rattle.sweep.specs.declared.LayerAnswer.{LayerAnswer}
-use Rattle.sweep.specs.declared.LayerAnswer.TheVariants.{Layer, Refused as LayerRefused}
+use Rattle.sweep.specs.declared.Risen.{Risen}
 use Rattle.sweep.specs.Sweep.{Sweep, mesh_of, sweep_pairing}
 use Rattle.sweep.specs.SweepLaws.{count_few, risen_is}
-use Rattle.sweep.specs.Operations.{at, unless_refused, state_tests, risen_passed, risen_table, risen_section, rise_tests, Rises}
+use Rattle.sweep.specs.Operations.{at, unless_refused, state_tests, risen_passed, risen_table, risen_section, rise_tests, tell_layer, Rises}
 use Rattle.sweep.specs.Places.{Placed, RiseTested, Lifts}
 use Rattle.sweep.proofs.AnswerLaws.{rise_passed}
 use Rattle.sweep.proofs.RiseLaws.{rise_from}
@@ -69,10 +68,10 @@ module _ (s : Sweep) (h : ℤ) (t : CutTables) {f : Finding Told} (e : f ≡ ver
   liftable g = rise_passed s h (lengths_of t) (sym e ∙ g)
 
   -- a test refuses
-  pub rises_refused : {r : Refusal} → f ≡ refuses (told_of r) → Rises s h t (LayerRefused r) s.ring t
+  pub rises_refused : {r : Refusal} {result : Result Risen Refusal} → f ≡ refuses (told_of r) → result ≡ Err r → Rises s h t result s.ring t
   unfolding unless_refused
-  rises_refused {r} g =
-      does_refuse (join_stop (rise_tests s h (lengths_of t)) last e g) g refl
+  rises_refused {r} g a =
+      does_refuse (join_stop (rise_tests s h (lengths_of t)) last e g) g (ap tell_layer a)
       (λ i. (s.ring, layer_kept (mesh_of s) h (contours_of (risen_section s h)) t (told_of r) other i))
     where
       other : numbered (16 ∷ []) (told_of r) ≡ false
@@ -87,7 +86,7 @@ module _ (s : Sweep) (h : ℤ) (t : CutTables) {f : Finding Told} (e : f ≡ ver
           (sym e ∙ g)
 
   -- none does
-  pub rises_lifted : {result : LayerAnswer} {ring' : List ℕ} {t' : CutTables} → f ≡ fine → Lifts s h t result ring' t' → Rises s h t result ring' t'
+  pub rises_lifted : {result : Result Risen Refusal} {ring' : List ℕ} {t' : CutTables} → f ≡ fine → Lifts s h t result ring' t' → Rises s h t result ring' t'
   rises_lifted g d = does_last d (join_next (rise_tests s h (lengths_of t)) last e g refl) refl refl
 
 -- ---- raise
@@ -100,15 +99,23 @@ module _ (s : Sweep) (h : ℤ) (r : RiseTested s h) where
   entry = ring_entry (under (mesh_of s).coords h 0) (mesh_of s).corners (sweep_pairing s)
 
   -- the ring table in one pass, and its copy in the marks
-  module _ (marks : List ℕ) {ring₁ marks₁ : List ℕ}
+  module _ (marks : List ℕ) {ring₁ copy : List ℕ}
       (er : ring₁ ≡ refill (length (mesh_of s).corners) (ring_entry (under (mesh_of s).coords h 0) (mesh_of s).corners (sweep_pairing s)) s.ring)
-      (em : marks₁ ≡ refill (length (mesh_of s).corners) (λ c. get_or ring₁ c 0) marks) where
-    copied : marks₁ ≡ refill (length (mesh_of s).corners) entry marks
-    copied =
-        em ∙ refill_same (length (mesh_of s).corners) (λ c. get_or ring₁ c 0) entry marks
-        (λ c k. ap (λ (t : List ℕ). get_or t c 0) er ∙ refill_at (length (mesh_of s).corners) entry s.ring c 0 k)
+      (ec : copy ≡ take (length (mesh_of s).corners) ring₁) where
+    abbrev marks₁ : List ℕ
+    marks₁ = copy ++ drop (length (mesh_of s).corners) marks
 
-    pub raise_outlined : Outlined (mesh_of s) h marks₁
+    copied : marks₁ ≡ refill (length (mesh_of s).corners) entry marks
+    unfolding overwrite
+    copied =
+        let n = length (mesh_of s).corners in
+        let l = length_tabulate n entry in
+        λ i. (ec ∙ ap (take n) er ∙ overwrite_front (tabulate n entry) s.ring l) i ++ drop (sym l i) marks
+
+    pub copied_long : length (mesh_of s).corners ≤ length marks → length (copy ++ drop (length (mesh_of s).corners) marks) ≡ length marks
+    copied_long h = ap length copied ∙ length_refill (length (mesh_of s).corners) entry marks h
+
+    pub raise_outlined : Outlined (mesh_of s) h (copy ++ drop (length (mesh_of s).corners) marks)
     raise_outlined = outlined s.ordered.paired h right marks₁ marks copied
 
     risen : ring₁ ≡ risen_table s h
@@ -123,22 +130,24 @@ module _ (s : Sweep) (h : ℤ) (r : RiseTested s h) where
     traced : section s.ordered.paired h ≡ risen_section s h
     traced = sym (section_is s.ordered.paired h right ring₁ s.ring er) ∙ ap (trace_links (length (mesh_of s).corners)) risen
 
-    module _ {names : List ℕ} {points : List ℤ} {ends : List ℕ} {result : CutAnswer} {t' : CutTables}
-        (d : Traces (trace_links (length (mesh_of s).corners) marks₁) (mesh_of s) h (lent names points ends marks₁) result t') where
+    module _ {names : List ℕ} {points : List ℤ} {ends : List ℕ} {result : Result LayerCounts Refusal} {t' : CutTables}
+        (d : Traces (trace_links (length (mesh_of s).corners) (copy ++ drop (length (mesh_of s).corners) marks)) (mesh_of s) h
+        (lent names points ends (copy ++ drop (length (mesh_of s).corners) marks)) result t') where
       cut : Traces (section s.ordered.paired h) (mesh_of s) h (lent names points ends marks) result t'
       cut = sliced s.ordered.paired h right marks₁ marks copied d
 
-      pub never_refused : {q : Refusal} → result ≡ CutRefused q → ⊥
+      pub never_refused : {q : Refusal} → result ≡ Err q → ⊥
       never_refused {q} x = apart (sym (refused_verdict cut {r = told_of q} (ap tell_cut x)) ∙ section_fine s.ordered.paired h right)
 
-      pub lifts : {p j k : ℕ} → result ≡ CutLayer j k → p ≡ risen_passed s h → Lifts s h (lent names points ends marks) (Layer (at p) j k) ring₁ t'
+      pub lifts : {p : ℕ} {v : LayerCounts} → result ≡ Ok v → p ≡ risen_passed s h
+          → Lifts s h (lent names points ends marks) (Ok (record { state = at p; counts = v })) ring₁ t'
       unfolding unless_refused
-      lifts {p} {j} {k} x ep =
-          let c = given_verdict cut {g = (j, k)} (ap tell_cut x) in
+      lifts {p} {v} x ep =
+          let c = given_verdict cut {g = (v.contours, v.points)} (ap tell_cut x) in
           does_give refl
           (ap (λ (u : Traced). verdict (used (length (mesh_of s).corners) u ∷ [])) (sym traced) ∙ c.0)
           ((λ i. gives (ep i, c.1 i)) ∙ (λ i. gives (risen_passed s h, counts_of (contours_of (traced i)))))
-          ((λ i. (risen i, left_given cut {g = (j, k)} (ap tell_cut x) i))
+          ((λ i. (risen i, left_given cut {g = (v.contours, v.points)} (ap tell_cut x) i))
           ∙ (λ i. (risen_table s h, tables_after_cut (mesh_of s) h (contours_of (traced i)) (lent names points ends marks) fine)))
 
 -- ---- the height as the code holds it
@@ -147,7 +156,7 @@ module _ (s : Sweep) {h : ℤ} (f : SFits w32 h) where
   pub held_tested : RiseTested s h → RiseTested s (to_z w32 (of_z w32 h))
   held_tested = subst (RiseTested s) (sym (to_z-of_z w32 h f))
 
-  pub at_height : {t t' : CutTables} {result : LayerAnswer} {ring' : List ℕ} → Lifts s (to_z w32 (of_z w32 h)) t result ring' t' → Lifts s h t result ring' t'
+  pub at_height : {t t' : CutTables} {result : Result Risen Refusal} {ring' : List ℕ} → Lifts s (to_z w32 (of_z w32 h)) t result ring' t' → Lifts s h t result ring' t'
   at_height {t} {t'} {result} {ring'} = subst (λ (z : ℤ). Lifts s z t result ring' t') (to_z-of_z w32 h f)
 
   pub held_tests : (l : Lengths) {v : Finding Told} → v ≡ verdict (rise_tests s (to_z w32 (of_z w32 h)) l) → v ≡ verdict (rise_tests s h l)

@@ -11,8 +11,8 @@ ghost use Rattle.sweep.specs.Operations.{rise_tests, Rises};
 
 use crate::unchecked::{raise, sweep_test};
 use cut::tables_test;
-use mesh::Verdict;
-use sweep::{LayerAnswer, State};
+use mesh::Refusal;
+use sweep::{Risen, State};
 
 pub mod unchecked;
 
@@ -29,17 +29,14 @@ fn rise_test(
     points: usize,
     ends: usize,
     marks: usize,
-) -> Verdict
+) -> Result<(), Refusal>
     ensures told { tell_verdict result ≡ verdict (rise_tests
         (sweep
         (ordered coords.now corners.now pairing.now order.now)
         ring.now n)
         h (lengths names points ends marks)) }
 {
-    let a = tables_test(coords, corners, pairing, names, points, ends, marks);
-    if let Verdict::Refused(_) = a {
-        return a;
-    }
+    tables_test(coords, corners, pairing, names, points, ends, marks)?;
     sweep_test(coords, corners, pairing, order, ring, n, h)
 }
 
@@ -57,7 +54,7 @@ pub fn layer(
     points: &mut [i32],
     ends: &mut [u32],
     marks: &mut [u32],
-) -> LayerAnswer
+) -> Result<Risen, Refusal>
     ensures outcome { Rises (sweep
         (ordered coords.now corners.now pairing.now order.now)
         ring.old state.passed) h
@@ -65,7 +62,7 @@ pub fn layer(
         (lent names.new points.new ends.new marks.new) }
 {
     let n = state.passed;
-    let v = rise_test(
+    rise_test(
         coords,
         corners,
         pairing,
@@ -77,10 +74,7 @@ pub fn layer(
         points.len(),
         ends.len(),
         marks.len(),
-    );
-    if let Verdict::Refused(r) = v {
-        return LayerAnswer::Refused(r);
-    }
+    )?;
     raise(
         coords, corners, pairing, order, ring, n, h, names, points, ends, marks,
     )

@@ -1,6 +1,5 @@
 // The parts of Layer. Each `requires` says what the tests before it establish.
-ghost use Rattle.std.specs.Prelude.{◌≡◌, ◌≤◌, length, get_or};
-ghost use Rattle.laws.specs.Tables.{refill};
+ghost use Rattle.std.specs.Prelude.{◌≡◌, ◌≤◌, length};
 ghost use Rattle.mesh.specs.Corners.{vertex_count};
 ghost use Rattle.mesh.specs.Meshes.{ordered, paired};
 ghost use Rattle.mesh.specs.Operation.{verdict};
@@ -12,15 +11,13 @@ ghost use Rattle.sweep.specs.Sweep.{sweep, risen_to};
 ghost use Rattle.sweep.specs.Operations.{sweep_tests};
 ghost use Rattle.sweep.specs.Places.{InOrder, RiseTested, Lifts};
 
-use cut::CutAnswer;
 use cut::unchecked::outline_rings;
-use mesh::Verdict;
-use mesh::numbers::wide;
+use mesh::Refusal;
 use section::unchecked_crossings::{link, link_at};
 use sweep::tests::state_test;
 use sweep::unchecked::{height_behind, number_behind};
 use sweep::unchecked_tests::one_sweep_test;
-use sweep::{LayerAnswer, State, SweepTest};
+use sweep::{Risen, State, SweepTest};
 
 // How many vertices a rise to h passes, from n on: all that it passed and those after them with z < h.
 pub fn risen_to(coords: &[i32], order: &[u32], n: usize, h: i32) -> usize
@@ -30,28 +27,14 @@ pub fn risen_to(coords: &[i32], order: &[u32], n: usize, h: i32) -> usize
         (vertex_count coords.now) n }
 {
     let vertices = coords.len() / 3;
-    let mut p = n;
-    while p < vertices {
-        let w = wide(order[p]);
-        let j = 3 * w + 2;
-        if coords[j] >= h {
+    for p in n..vertices {
+        let w = order[p] as usize;
+        let z = coords[3 * w + 2];
+        if z >= h {
             return p;
         }
-        p += 1;
     }
-    p
-}
-
-// Copies the first n entries.
-pub fn copy_front(from: &[u32], to: &mut [u32], n: usize)
-    requires { (n ≤ length from.now) × (n ≤ length to.old) }
-    ensures left { to.new ≡ refill n (λ c. get_or from.now c 0) to.old }
-{
-    let mut i: usize = 0;
-    while i < n {
-        to[i] = from[i];
-        i += 1;
-    }
+    vertices
 }
 
 // Rises to h from n passed vertices, and writes the layer there from a copy of the ring table.
@@ -67,7 +50,7 @@ pub fn raise(
     points: &mut [i32],
     ends: &mut [u32],
     marks: &mut [u32],
-) -> LayerAnswer
+) -> Result<Risen, Refusal>
     requires fact_1 { RiseTested (sweep (ordered coords.now corners.now pairing.now order.now) ring.old n) h }
     requires fact_2 { Long (length corners.now) (lengths_of (lent names.old points.old ends.old marks.old)) }
     ensures outcome { Lifts (sweep
@@ -76,17 +59,20 @@ pub fn raise(
         (lent names.old points.old ends.old marks.old) result ring.new
         (lent names.new points.new ends.new marks.new) }
 {
-    let p = risen_to(coords, order, n, h);
+    let passed = risen_to(coords, order, n, h);
     link_at(coords, corners, pairing, h, ring);
-    copy_front(ring, marks, corners.len());
-    let s = outline_rings(coords, corners, h, names, points, ends, marks);
-    match s {
-        CutAnswer::Layer(j, k) => LayerAnswer::Layer(State { passed: p }, j, k),
-        CutAnswer::Refused(r) => {
+    let c = corners.len();
+    marks[..c].copy_from_slice(&ring[..c]);
+    match outline_rings(coords, corners, h, names, points, ends, marks) {
+        Ok(counts) => Ok(Risen {
+            state: State { passed },
+            counts,
+        }),
+        Err(r) => {
             let z = height_behind(coords, order, n);
             let i = number_behind(order, n);
             link(coords, corners, pairing, z, i, ring);
-            LayerAnswer::Refused(r)
+            Err(r)
         }
     }
 }
@@ -100,7 +86,7 @@ pub fn sweep_test(
     ring: &[u32],
     n: usize,
     h: i32,
-) -> Verdict
+) -> Result<(), Refusal>
     requires { Right (paired coords.now corners.now pairing.now) }
     ensures told { tell_verdict result ≡ verdict (sweep_tests
         (sweep
@@ -108,14 +94,8 @@ pub fn sweep_test(
         ring.now n)
         h) }
 {
-    let a = state_test(coords, corners, pairing, order, ring, n);
-    if let Verdict::Refused(_) = a {
-        return a;
-    }
-    let b = one_sweep_test(SweepTest::Ring, coords, corners, pairing, order, ring, n, h);
-    if let Verdict::Refused(_) = b {
-        return b;
-    }
+    state_test(coords, corners, pairing, order, ring, n)?;
+    one_sweep_test(SweepTest::Ring, coords, corners, pairing, order, ring, n, h)?;
     one_sweep_test(
         SweepTest::Height,
         coords,

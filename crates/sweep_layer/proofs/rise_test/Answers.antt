@@ -7,6 +7,7 @@ use Rattle.mesh.specs.Meshes.{ordered}
 use Rattle.mesh.specs.Operation.{verdict}
 use Rattle.mesh.specs.OperationLaws.{join_stop, join_next}
 use Rattle.mesh.specs.Refusals.{tell_verdict}
+use Rattle.mesh.proofs.Raising.{handed_on}
 use Rattle.cut.specs.Cut.{Lengths, lengths, cut_tests}
 use Rattle.sweep.specs.Sweep.{Sweep, sweep}
 use Rattle.sweep.specs.Operations.{sweep_tests}
@@ -22,26 +23,27 @@ sweep_of start =
 abbrev room_of : Start → Lengths
 room_of start = lengths start.args.names start.args.points start.args.ends start.args.marks
 
-pub returns-in-Refused : goal.returns-in-Refused
-returns-in-Refused c =
-    let start = (goal.at.returns-in-Refused c).Start in
+pub returns-in_err-tables_test : goal.returns-in_err-tables_test
+returns-in_err-tables_test c =
+    let start = (goal.at.returns-in_err-tables_test c).Start in
     let s = sweep_of start in
     record {
-      told = join_stop (cut_tests s.ordered.paired (room_of start)) (sweep_tests s c.args.h) c.tables_test-a.ensures.told
-          (ap tell_verdict c.in-Refused.is);
+      told = ap tell_verdict (handed_on c.in_err-tables_test.was c.from_residual.ensures.1)
+          ∙ join_stop (cut_tests s.ordered.paired (room_of start)) (sweep_tests s c.args.h) c.tables_test.ensures.told
+          (ap tell_verdict c.in_err-tables_test.was);
     }
 
 pub sweep_test-requires : goal.sweep_test-requires
 sweep_test-requires c =
     let start = (goal.at.sweep_test-requires c).Start in
-    right_tested (sweep_of start).ordered.paired (room_of start) c.tables_test-a.ensures.told (ap tell_verdict c.in_default.is)
+    right_tested (sweep_of start).ordered.paired (room_of start) c.tables_test.ensures.told (ap tell_verdict c.in_ok-tables_test.was)
 
 pub returns : goal.returns
 returns c =
     let start = (goal.at.returns c).Start in
     let s = sweep_of start in
     record {
-      told = join_next (cut_tests s.ordered.paired (room_of start)) (sweep_tests s c.args.h) c.tables_test-a.ensures.told
-          (ap tell_verdict c.in_default.is)
+      told = join_next (cut_tests s.ordered.paired (room_of start)) (sweep_tests s c.args.h) c.tables_test.ensures.told
+          (ap tell_verdict c.in_ok-tables_test.was)
           (c.sweep_test.ensures.told ∙ ap (λ (z : ℤ). verdict (sweep_tests s z)) (to_z-of_z w32 c.args.h c.ranges.h));
     }
