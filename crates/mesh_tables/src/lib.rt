@@ -8,7 +8,7 @@ pub mod unchecked_pairing;
 pub mod unchecked_tests;
 
 // The tests of a mesh, by what they look at.
-#[derive(Drop)]
+#[derive(Clone, Copy, Debug, PartialEq, Eq)]
 pub enum MeshTest {
     Size,
     Range,

@@ -24,7 +24,7 @@ pub mod unchecked;
 pub mod unchecked_tests;
 
 // The tests of a sweep: those of its mesh, of the passed count, of the ring table's length and its entries, and of the height.
-#[derive(Drop)]
+#[derive(Clone, Copy, Debug, PartialEq, Eq)]
 pub enum SweepTest {
     Mesh(MeshTest),
     Passed,
