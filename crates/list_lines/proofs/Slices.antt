@@ -1,7 +1,9 @@
 -- A layer that was cut: its contours can be summed, and its line is that of the definition.
 use Prim.Native.Nat.{ℕ, ◌+◌, ◌^◌, ◌≤◌, ◌<◌}
-use mathlib.Core.Path.{◌≡◌, sym, ap, ◌∙◌, subst}
+use mathlib.Core.Path.{◌≡◌, refl, sym, ap, ◌∙◌, subst}
 use mathlib.Core.List.{List, [], ◌∷◌}
+use Rattle.std.specs.Prelude.{Result, Ok, Err, IsOk}
+use Rattle.std.specs.Result.{is_ok}
 use native.Mathlib.Omega.{arith}
 use lib.ListN.{length, get_or}
 use lib.IntN.{ℤ, pos, nat_abs}
@@ -23,8 +25,7 @@ use Rattle.section.specs.OrbitLaws.{at_member}
 use Rattle.section.proofs.LayerLaws.{trace_layer}
 use Rattle.cut_points.specs.Points.{points_of}
 use Rattle.cut_points.proofs.RoundedLaws.{points_in_lem}
-use Rattle.cut.specs.declared.CutAnswer.{CutAnswer}
-use Rattle.cut.specs.declared.CutAnswer.TheVariants.{Layer, Refused}
+use Rattle.polygons.specs.declared.LayerCounts.{LayerCounts}
 use Rattle.cut.specs.Cut.{CutTables, used, section, contours_of, counts_of, tables_after_cut, tell_cut}
 use Rattle.cut.proofs.CutLaws.{one_each}
 use Rattle.cut.specs.OutlineLaws.{used_fine}
@@ -40,7 +41,7 @@ use Rattle.list_lines.proofs.Places.{areas_here, summable}
 same_sums : {p q : List ℤ} {d e : List ℕ} {j n : ℕ} → p ≡ q → d ≡ e → j ≡ n → Summable q e n → Summable p d j
 same_sums a b c s = rw (a, b, c) s
 
-module _ {m : PairedMesh} {h : ℤ} {t t' : CutTables} {result : CutAnswer} (right : Right m) (few : length m.mesh.corners ≤ held_entries)
+module _ {m : PairedMesh} {h : ℤ} {t t' : CutTables} {result : Result LayerCounts Refusal} (right : Right m) (few : length m.mesh.corners ≤ held_entries)
     (d : Traces (section m h) m.mesh h t result t') where
   all : (rs : List (List ℕ)) × ((section m h ≡ contours rs) × layers.LayerContours (below m.mesh.coords h) m.mesh.corners m.pairing rs)
   all = trace_layer (below m.mesh.coords h) m.mesh.corners m.pairing right.linked
@@ -68,24 +69,31 @@ module _ {m : PairedMesh} {h : ℤ} {t t' : CutTables} {result : CutAnswer} (rig
   inside : (i : ℕ) → i < length (points_of m.mesh h (names_of rs)) → nat_abs (get_or (points_of m.mesh h (names_of rs)) i (pos 0)) ≤ largest
   inside = points_in_lem m.mesh h (names_of rs) (λ i q. crossing_climbs m h right _ (all.1.1.only _ (at_member (names_of rs) i q)))
 
-  -- 16 never arises
-  pub never_met : {r : Refusal} → result ≡ Refused r → ⊥
+  never_met : {r : Refusal} → result ≡ Err r → ⊥
   never_met {r} e = apart (sym (refused_verdict d (ap tell_cut e)) ∙ nothing)
 
-  module _ {j k : ℕ} (e : result ≡ Layer j k) where
-    counts : (j, k) ≡ counts_of (contours_of (section m h))
+  -- 16 never arises
+  pub is_cut : IsOk result
+  is_cut = by result refl
+    where
+      by : (answer : Result LayerCounts Refusal) → result ≡ answer → IsOk result
+      by (Ok v) e = ap is_ok e
+      by (Err r) e = absurd (never_met e)
+
+  module _ {v : LayerCounts} (e : result ≡ Ok v) where
+    counts : (v.contours, v.points) ≡ counts_of (contours_of (section m h))
     counts = (given_verdict d (ap tell_cut e)).1
 
-    count : j ≡ length rs
+    count : v.contours ≡ length rs
     count = (λ i. (counts i).0) ∙ ap length its
 
-    pub sums : Summable t'.points t'.ends j
+    pub sums : Summable t'.points t'.ends v.contours
     sums =
         same_sums points_is ends_is count
         (summable m.mesh h rs t.points t.ends (λ i l. omega (arith, (all.1.1.each i l).two))
         (omega (arith, one_each (below m.mesh.coords h) m.mesh.corners m.pairing rs right.linked all.1.1)) inside)
 
-    line_is : {a : ℤ} → a ≡ areas_in t'.points t'.ends j → layer_line h j k a ≡ line_at m h
+    line_is : {a : ℤ} → a ≡ areas_in t'.points t'.ends v.contours → layer_line h v.contours v.points a ≡ line_at m h
     unfolding line_at line_of
     line_is {a} f =
         let sum : a ≡ area_sum m.mesh h (contours_of (section m h)) =
@@ -93,10 +101,11 @@ module _ {m : PairedMesh} {h : ℤ} {t t' : CutTables} {result : CutAnswer} (rig
         λ i. layer_line h (counts i).0 (counts i).1 (sum i)
 
     -- and this line is written
-    pub line_put : {a : ℤ} {output : List ℕ} {at end : ℕ} {output' : List ℕ} → a ≡ areas_in t'.points t'.ends j
-        → length (layer_line h j k a) ≤ most_line → PutsText output at (layer_line h j k a) end output' → PutsLine output at (line_at m h) end output'
-    line_put {a} {output} {at} {end} {output'} f s v =
-        subst (λ (l : List ℕ). PutsLine output at l end output') (line_is f) (record { puts = v; short = s })
+    pub line_put : {a : ℤ} {output : List ℕ} {at end : ℕ} {output' : List ℕ} → a ≡ areas_in t'.points t'.ends v.contours
+        → length (layer_line h v.contours v.points a) ≤ most_line
+        → PutsText output at (layer_line h v.contours v.points a) end output' → PutsLine output at (line_at m h) end output'
+    line_put {a} {output} {at} {end} {output'} f s w =
+        subst (λ (l : List ℕ). PutsLine output at l end output') (line_is f) (record { puts = w; short = s })
 
 -- ---- the numbers of a line, as calls get them
 

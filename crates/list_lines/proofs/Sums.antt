@@ -1,7 +1,8 @@
 -- Summing the areas of contours: the sum has 64 bits.
-use Prim.Native.Nat.{ℕ, ◌+◌, ◌*◌, ◌^◌, ◌≤◌, ◌<◌}
+use Prim.Native.Nat.{ℕ, ◌+◌, ◌*◌, ◌≤◌, ◌<◌}
 use mathlib.Core.Path.{◌≡◌, refl, sym, ap, ◌∙◌, subst}
 use mathlib.Core.List.{List}
+use Rattle.std.specs.Prelude.{Result, Ok, Err, IsOk}
 use native.Mathlib.Omega.{arith}
 use native.Mathlib.Numerals.{add-one}
 use native.Mathlib.Nat.{mul-le-mul_right, le_trans}
@@ -13,8 +14,6 @@ use Rattle.laws.specs.Integers.{abs_add}
 use Rattle.laws.specs.Machine.{ok}
 use Rattle.mesh.specs.OperationLaws.{apart}
 use Rattle.mesh.specs.declared.Refusal.{Refusal}
-use Rattle.contours.specs.declared.AreaAnswer.{AreaAnswer}
-use Rattle.contours.specs.declared.AreaAnswer.TheVariants.{Area, Refused}
 use Rattle.contours.specs.Areas.{point_count, cross_of, next_point, sum_of, area_of, tell_area, Measures}
 use Rattle.contours.specs.AreaLaws.{sum_bound, cross_bound, run_measured, area_is}
 use Rattle.contours.specs.Contours.{contour_of}
@@ -25,12 +24,14 @@ use Rattle.list_lines.specs.Steps.{areas_in, Summable}
 -- ---- one contour
 
 -- a part of the points that is contour i
-module _ {points run : List ℤ} {result : AreaAnswer} (d : Measures run result) (e : run ≡ points) where
-  pub measured_area : {a : ℤ} → result ≡ Area a → a ≡ area_of points
-  measured_area {a} f = area_is d a (ap tell_area f) ∙ ap area_of e
+module _ {points run : List ℤ} (e : run ≡ points) where
+  pub measured_area : {result : Result ℤ Refusal} → Measures run result → {a : ℤ} → result ≡ Ok a → a ≡ area_of points
+  measured_area d {a} f = area_is d a (ap tell_area f) ∙ ap area_of e
 
-  pub never_refused : {r : Refusal} → PointRun points → result ≡ Refused r → ⊥
-  never_refused runs f = apart (ap tell_area (sym f) ∙ run_measured d (subst PointRun (sym e) runs))
+  -- which is never refused
+  pub run_is_measured : (result : Result ℤ Refusal) → Measures run result → PointRun points → IsOk result
+  run_is_measured (Ok a) d runs = refl
+  run_is_measured (Err r) d runs = absurd (apart (run_measured d (subst PointRun (sym e) runs)))
 
 -- ---- the sum
 

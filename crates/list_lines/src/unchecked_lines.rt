@@ -14,8 +14,7 @@ ghost use Rattle.list_lines.specs.Steps.{most_line, most_refused, areas_in, Summ
 
 use all_heights::unchecked::taken_height;
 use all_heights::{base_z, taken_count};
-use contours::{AreaAnswer, area, contour};
-use cut::CutAnswer;
+use contours::{area, contour};
 use cut::unchecked::slice;
 use list_decimals::unchecked_text::{write_decimal, write_signed, write_text};
 use mesh::Refusal;
@@ -75,11 +74,7 @@ fn contour_area(points: &[i32], ends: &[u32], j: usize) -> i64
     requires { PointRun (contour_of points.now ends.now j) }
     ensures value { result ≡ area_of (contour_of points.now ends.now j) }
 {
-    let a = area(contour(points, ends, j));
-    match a {
-        AreaAnswer::Area(d) => d,
-        AreaAnswer::Refused(_) => 0,
-    }
+    area(contour(points, ends, j)).unwrap()
 }
 
 // The sum of the areas of the first j contours.
@@ -88,10 +83,8 @@ fn sum_areas(points: &[i32], ends: &[u32], j: usize) -> i64
     ensures value { result ≡ areas_in points.now ends.now j }
 {
     let mut sum: i64 = 0;
-    let mut i: usize = 0;
-    while i < j {
+    for i in 0..j {
         sum += contour_area(points, ends, i);
-        i += 1;
     }
     sum
 }
@@ -115,14 +108,9 @@ fn list_layer(
     ensures outcome { PutsLine output.old at
         (line_at (paired coords.now corners.now pairing.now) h) result output.new }
 {
-    let s = slice(coords, corners, pairing, h, names, points, ends, marks);
-    match s {
-        CutAnswer::Layer(j, k) => {
-            let a = sum_areas(points, ends, j);
-            write_layer_line(output, at, h, j, k, a)
-        }
-        CutAnswer::Refused(_) => at,
-    }
+    let counts = slice(coords, corners, pairing, h, names, points, ends, marks).unwrap();
+    let a = sum_areas(points, ends, counts.contours);
+    write_layer_line(output, at, h, counts.contours, counts.points, a)
 }
 
 // Writes a line for each height taken.
@@ -148,13 +136,11 @@ fn list_lines(
     let n = taken_count(coords, heights);
     let low = base_z(coords, heights);
     let mut p = at;
-    let mut k: usize = 0;
-    while k < n {
+    for k in 0..n {
         let h = taken_height(low, heights, k);
         p = list_layer(
             coords, corners, pairing, h, names, points, ends, marks, output, p,
         );
-        k += 1;
     }
     p
 }

@@ -1,7 +1,6 @@
 -- `unchecked_lines::list_layers` meets its contract.
 use native.Mathlib.Omega.{arith}
 use Rattle.list_lines.proofs.Layers.{first_room, first_put, listing_put}
-use borrow.Author.Rules.{rules}
 use Rattle.list_lines.proofs.unchecked_lines.list_layers.Goals as goal
 
 pub write_layers_line-p-requires : goal.write_layers_line-p-requires

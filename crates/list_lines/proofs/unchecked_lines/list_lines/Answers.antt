@@ -1,17 +1,12 @@
 -- `unchecked_lines::list_lines` meets its contract.
-use Prim.Native.Nat.{◌-◌, ◌<◌}
-use mathlib.Core.Path.{◌≡◌, ap}
+use Prim.Native.Nat.{◌<◌}
+use mathlib.Core.Path.{ap}
 use native.Mathlib.Omega.{arith}
-use lib.ListN.{length, get_or}
-use lib.IntN.{pos}
-use mir.Syntax.{w32}
-use mir.Val.{to_z, of_z}
-use Rattle.mesh.specs.Meshes.{paired}
-use Rattle.cut.specs.Cut.{Lengths, lent}
+use lib.ListN.{length}
+use Rattle.cut.specs.Cut.{Lengths}
 use Rattle.all_heights.specs.Heights.{heights_taken}
-use Rattle.list_lines.proofs.Layers.{LinesPut, lines_start, next_line_room, lines_next, lines_end, can_take, height_is}
-use Rattle.list_lines.proofs.Layers.{SameLengths, lengths_start, still_workable, lengths_next}
-use borrow.Author.Rules.{rules}
+use Rattle.list_lines.proofs.Layers.{lines_start, next_line_room, lines_next, lines_end, can_take, height_is}
+use Rattle.list_lines.proofs.Layers.{lengths_start, still_workable, lengths_next}
 use Rattle.list_lines.proofs.unchecked_lines.list_lines.Goals as goal
 use Rattle.list_lines.proofs.unchecked_lines.list_lines.Goals.{In-loop-k}
 
@@ -19,7 +14,7 @@ use Rattle.list_lines.proofs.unchecked_lines.list_lines.Goals.{In-loop-k}
 height-left : (c : In-loop-k)
     →
     c.loop-k.k < length (heights_taken c.args.coords.now c.args.heights.now)
-height-left c = omega (arith, c.loop-k-test.true, c.taken_count-n.ensures.value)
+height-left c = omega (arith, c.taken_count-n.ensures.value)
 
 pub loop-k-init : goal.loop-k-init
 loop-k-init c =
@@ -62,4 +57,4 @@ pub shape_of-output : goal.shape_of-output
 shape_of-output c = c.loop-k.invariant.0.lines.size
 
 pub returns : goal.returns
-returns c = record { outcome = lines_end c.loop-k.invariant.0 (omega (arith, c.loop-k-test.false, c.taken_count-n.ensures.value)) }
+returns c = record { outcome = lines_end c.loop-k.invariant.0 (omega (arith, c.taken_count-n.ensures.value)) }
