@@ -21,7 +21,7 @@ const FIRST_OFFSET: usize = 50;
 const SPACING: usize = 100;
 
 // The lowest and the highest z.
-#[derive(Drop)]
+#[derive(Clone, Copy, Debug, PartialEq, Eq)]
 pub struct Span {
     pub low: i32,
     pub high: i32,

@@ -14,7 +14,7 @@ pub fn taken_height(low: i32, heights: &[i32], k: usize) -> i32
         return heights[k];
     }
     let above = (FIRST_OFFSET + SPACING * k) as i64;
-    (low as i64 + above) as i32
+    (i64::from(low) + above) as i32
 }
 
 // Whether height i has a forerunner and is not above it.

@@ -20,7 +20,7 @@ use mesh::Refusal;
 fn height_length(h: i32) -> usize
     ensures result { (result ≡ length (encode_number (zigzag h))) × (result ≤ 5) }
 {
-    number_length(unsigned_of(h as i64))
+    number_length(unsigned_of(i64::from(h)))
 }
 
 // How many bytes the layer file takes at most, by how many crossings all heights have.

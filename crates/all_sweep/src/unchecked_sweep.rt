@@ -23,7 +23,7 @@ use file_formats::unchecked::write_number;
 use file_write::unchecked_layers::{layer_length, write_layer};
 
 // Where the sweep stands after a height: the head of the list of its crossings, and the count of its contours.
-#[derive(Drop)]
+#[derive(Clone, Copy)]
 struct Level {
     active: usize,
     contours: usize,
