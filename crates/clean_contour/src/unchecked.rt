@@ -122,7 +122,7 @@ fn copy_run(points: &[i32], from: usize, end: usize, table: &mut [i32], at: usiz
     to
 }
 
-// The same within one table.
+// The same within one table. What is read and what is written are there one borrow, and for `copy_run` two: a form for both would be no plainer than each.
 fn move_run(points: &mut [i32], from: usize, end: usize, at: usize) -> usize
     requires fact_1 { CleanRoom points.old points.old from end at }
     requires fact_2 { from < end }

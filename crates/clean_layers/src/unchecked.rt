@@ -40,7 +40,7 @@ pub fn copy_layer(
     }
 }
 
-// Cleans a layer of so many contours where it stands (CLEAN-4).
+// Cleans a layer of so many contours where it stands (CLEAN-4): one borrow for what `copy_layer` has in two.
 fn move_layer(points: &mut [i32], ends: &mut [u32], contours: usize) -> LayerCounts
     requires { LayerTables points.old ends.old contours }
     ensures outcome { Fills

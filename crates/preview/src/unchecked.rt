@@ -16,11 +16,8 @@ pub fn call_at(points: &[i32], ends: &[u32], origin: Origin, number: usize) -> O
     ensures value { result ≡ slice_get (calls_of origin (flat points.now ends.now)) number }
 {
     let j = contour_with(ends, number);
-    if ends.len() <= j {
-        return None;
-    }
+    let e = *ends.get(j)? as usize;
     let i = number - j;
-    let e = ends[j] as usize;
     if e == i {
         return Some(PathCall::Close);
     }
