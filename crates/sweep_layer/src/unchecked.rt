@@ -61,8 +61,7 @@ pub fn raise(
 {
     let passed = risen_to(coords, order, n, h);
     link_at(coords, corners, pairing, h, ring);
-    let c = corners.len();
-    marks[..c].copy_from_slice(&ring[..c]);
+    marks[..corners.len()].copy_from_slice(&ring[..corners.len()]);
     match outline_rings(coords, corners, h, names, points, ends, marks) {
         Ok(counts) => Ok(Risen {
             state: State { passed },
