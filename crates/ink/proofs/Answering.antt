@@ -1,35 +1,26 @@
--- The answer: a lemma for each return of `thickness_fits` and `ink`.
+-- The answer: a lemma for each return of `ink`.
 use Prim.Native.Nat.{ℕ, ◌<◌, ◌≤◌}
 use mathlib.Core.Path.{◌≡◌, refl, sym, ap, ◌∙◌}
-use mathlib.Core.Bool.{Bool, true, false, ◌&&◌}
+use mathlib.Core.Bool.{Bool, true, false}
 use mathlib.Core.List.{List, []}
+use Rattle.std.specs.Prelude.{Result, Ok, Err}
 use native.Mathlib.Omega.{arith}
-use lib.Dec.{leb}
-use borrow.Author.Tests.{le-leb, lt-leb}
 use Rattle.laws.specs.Booleans.{clash}
 use Rattle.mesh.specs.Operation.{gives}
 use Rattle.mesh.specs.OperationLaws.{does_refuse, does_give}
+use Rattle.mesh.specs.declared.Refusal.{Refusal}
 use Rattle.mesh.specs.declared.Refusal.TheVariants.{File, Thickness}
 use Rattle.file_formats.specs.Formats.{Decoded, holds, broken}
 use Rattle.file_formats.specs.LayerFile.{Layer, layers_of}
 use Rattle.file_formats.specs.WholeFileLaws.{held_or_is}
 use Rattle.ink.specs.Charges.{job_charge}
-use Rattle.ink.specs.Inking.{least_thickness, most_thickness, thickness_fits, Inks}
+use Rattle.ink.specs.Inking.{least_thickness, most_thickness, thickness_fits, tell_ink, Inks}
 use Rattle.ink.specs.InkLaws.{thickness_in, ink_verdict_broken, ink_verdict_out, ink_verdict_fine}
 use Rattle.ink.specs.Steps.{charge_of}
-use Rattle.ink.specs.declared.FileCharge.TheVariants.{Charge as FileCharge, Broken}
-use Rattle.ink.specs.declared.InkAnswer.TheVariants.{Charge, Refused}
+use Rattle.file_formats.specs.Positions.{breaks_at}
+use Rattle.file_formats.specs.declared.Broken.{Broken}
 
 -- ---- the thickness
-
-module _ (t : ℕ) where
-  pub too_thin : t < least_thickness → false ≡ thickness_fits t
-  unfolding thickness_fits
-  too_thin h = ap (λ (b : Bool). b && leb t most_thickness) (sym (lt-leb least_thickness t h))
-
-  pub thick_enough : least_thickness ≤ t → leb t most_thickness ≡ thickness_fits t
-  unfolding thickness_fits
-  thick_enough h = ap (λ (b : Bool). b && leb t most_thickness) (sym (le-leb least_thickness t h))
 
 -- the thickness that the file is charged at: its own where it fits
 pub record ChargedAt (t u : ℕ) : Type 0 where
@@ -44,25 +35,25 @@ at_none e f g = record { low = omega arith; is = λ h. absurd (clash (e ∙ h) f
 
 -- ---- the file
 
-broken_of : (u : ℕ) (d : Decoded (List Layer)) {q : ℕ} → Broken q ≡ charge_of u d → d ≡ broken q
+broken_of : (u : ℕ) (d : Decoded (List Layer)) {b : Broken} → Err b ≡ charge_of u d → d ≡ broken b.at
 broken_of u (holds ls) e = let z : ◌≡◌ {A = ℕ} 0 1 = cc in absurd (omega arith)
-broken_of u (broken p) e = cc
+broken_of u (broken p) {b} e = let same : breaks_at p ≡ b = cc in ap (λ (b : Broken). broken b.at) same
 
-charge_of_lem : (u : ℕ) (d : Decoded (List Layer)) {n : ℕ} → FileCharge n ≡ charge_of u d
+charge_of_lem : (u : ℕ) (d : Decoded (List Layer)) {n : ℕ} → Ok n ≡ charge_of u d
     → (ls : List Layer) × (d ≡ holds ls) × (n ≡ job_charge u ls)
 charge_of_lem u (holds ls) e = (ls, refl, cc)
 charge_of_lem u (broken p) e = let z : ◌≡◌ {A = ℕ} 0 1 = cc in absurd (omega arith)
 
 module _ (file : List ℕ) (t u : ℕ) where
-  pub answers_broken : {q : ℕ} → Broken q ≡ charge_of u (layers_of file) → Inks file t (Refused (File q))
-  answers_broken e = does_refuse refl (ink_verdict_broken file t (broken_of u (layers_of file) e)) refl refl
+  pub answers_broken : {b : Broken} → Err b ≡ charge_of u (layers_of file) → {result : Result ℕ Refusal} → result ≡ Err (File b.at) → Inks file t result
+  answers_broken e r = does_refuse refl (ink_verdict_broken file t (broken_of u (layers_of file) e)) (ap tell_ink r) refl
 
-  module _ {n : ℕ} (e : FileCharge n ≡ charge_of u (layers_of file)) where
-    pub answers_charge : ChargedAt t u → thickness_fits t ≡ true → Inks file t (Charge n)
+  module _ {n : ℕ} (e : Ok n ≡ charge_of u (layers_of file)) where
+    pub answers_charge : ChargedAt t u → thickness_fits t ≡ true → Inks file t (Ok n)
     answers_charge a f =
         let q = charge_of_lem u (layers_of file) e in
         does_give refl (ink_verdict_fine file t q.1 f)
         (ap gives (q.2 ∙ (λ i. job_charge (a.is f i) (sym (held_or_is [] q.1) i)))) refl
 
-    pub answers_out : thickness_fits t ≡ false → Inks file t (Refused (Thickness 0))
+    pub answers_out : thickness_fits t ≡ false → Inks file t (Err (Thickness 0))
     answers_out f = does_refuse refl (ink_verdict_out file t (charge_of_lem u (layers_of file) e).1 f) refl refl

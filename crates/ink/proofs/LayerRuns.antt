@@ -1,7 +1,8 @@
 -- Layers charged one by one: a lemma for each return of `charge_layers`. The loop's state is the height of the layer before and the charge so far.
-use Prim.Native.Nat.{ℕ, ◌+◌, ◌-◌, ◌*◌, ◌<◌, ◌≤◌}
+use Prim.Native.Nat.{ℕ, suc, ◌+◌, ◌-◌, ◌*◌, ◌<◌, ◌≤◌}
 use mathlib.Core.Path.{◌≡◌, refl, sym, ap, ◌∙◌, subst}
 use mathlib.Core.List.{List, [], ◌∷◌}
+use Rattle.std.specs.Prelude.{Result, Ok, Err}
 use native.Mathlib.Omega.{arith}
 use lib.ListN.{length, drop}
 use lib.IntN.{ℤ}
@@ -13,13 +14,13 @@ use Rattle.file_check.specs.Answers.{layer_told_at}
 use Rattle.file_check.specs.AnswerLaws.{LayerTold, layer_told, layer_off}
 use Rattle.file_check.specs.AreaLaws.{layer_sum_le}
 use Rattle.file_check.specs.RunLaws.{Running, run_off, run_next, run_end, running_of}
-use Rattle.file_check.specs.declared.LayerExtent.TheVariants.{End as LayerEnd, Refused as LayerRefused}
+use Rattle.file_check.specs.declared.LayerEnd.{LayerEnd}
 use Rattle.ink.specs.Charges.{layer_charge, job_charge}
 use Rattle.ink.specs.ChargeLaws.{most_charge, charge_le}
 use Rattle.ink.specs.Inking.{most_thickness}
 use Rattle.ink.specs.Steps.{charges_at}
-use Rattle.ink.specs.declared.ChargeExtent.{ChargeExtent}
-use Rattle.ink.specs.declared.ChargeExtent.TheVariants.{End, Refused}
+use Rattle.file_formats.specs.Positions.{breaks_at}
+use Rattle.file_formats.specs.declared.Broken.{Broken}
 
 module _ (t : ℕ) where
   abbrev charging : ℤ × ℕ → Layer → ℤ × ℕ
@@ -30,12 +31,18 @@ module _ (t : ℕ) where
   charged_after s [] = omega arith
   charged_after s (l ∷ ls) = omega (arith, charged_after (charging s l) ls)
 
+  abbrev told : ℤ × ℕ → ℕ → Result (ℕ × ℕ) Broken
+  told s next = Ok (s.1, next)
+
+  abbrev off : ℕ → Result (ℕ × ℕ) Broken
+  off q = Err (breaks_at q)
+
   module _ (file : List ℕ) where
-    abbrev Run : ChargeExtent → ℤ × ℕ → ℕ → ℕ → Type 0
-    Run = Running (λ s. layer_format s.0) charging (λ s next. End next s.1) Refused file
+    abbrev Run : Result (ℕ × ℕ) Broken → ℤ × ℕ → ℕ → ℕ → Type 0
+    Run = Running (λ s. layer_format s.0) charging told off file
 
     -- what is left at i gives the answer of the whole, and each layer left is charged a number of bounded size
-    pub record ChargeRun (total : ChargeExtent) (low : ℤ) (charge i left : ℕ) : Type 0 where
+    pub record ChargeRun (total : Result (ℕ × ℕ) Broken) (low : ℤ) (charge i left : ℕ) : Type 0 where
       pub run : Run total (low, charge) i left
       pub thin : t ≤ most_thickness
       pub small : charge + left * most_charge ≤ most_layers * most_charge
@@ -45,44 +52,43 @@ module _ (t : ℕ) where
     run_start {at} {count} h k n =
         record {
           run =
-              running_of layer_format (λ s. s.0) charging height_of (λ s l. refl) (λ s next. End next s.1) (λ ls next. End next (job_charge t ls)) Refused
-              file (lowest, 0) at count (λ ls i. ap (End i) (charged_after (lowest, 0) ls ∙ omega arith)) h;
+              running_of layer_format (λ s. s.0) charging height_of (λ s l. refl) told (λ ls next. Ok (job_charge t ls, next)) off
+              file (lowest, 0) at count (λ ls i. ap (λ (c : ℕ). Ok (c, i)) (charged_after (lowest, 0) ls ∙ omega arith)) h;
           thin = n;
           small = omega arith;
         }
 
-module _ {t : ℕ} {file : List ℕ} {total : ChargeExtent} {low : ℤ} {charge i left : ℕ} (w : ChargeRun t file total low charge i left) where
-  pub run_ends : left ≤ 0 → End i charge ≡ total
-  run_ends h = run_end (λ s. layer_format s.0) (charging t) (λ s next. End next s.1) Refused file left w.run h
+module _ {t : ℕ} {file : List ℕ} {total : Result (ℕ × ℕ) Broken} {low : ℤ} {charge i left : ℕ} (w : ChargeRun t file total low charge i left) where
+  pub run_ends : left ≤ 0 → Ok (charge, i) ≡ total
+  run_ends h = run_end (λ s. layer_format s.0) (charging t) (told t) (off t) file left w.run h
 
-  module _ (h : 0 < left) where
-    pub run_stops : {e : ℕ} → layer_told_at Full low file i ≡ LayerRefused e → Refused e ≡ total
-    run_stops {e} f = run_off (λ s. layer_format s.0) (charging t) (λ s next. End next s.1) Refused file left w.run h e (layer_off Full low file i f)
+  pub run_stops : 0 < left → {b : Broken} → layer_told_at Full low file i ≡ Err b → Err b ≡ total
+  run_stops h {b} f = run_off (λ s. layer_format s.0) (charging t) (told t) (off t) file left w.run h b.at (layer_off Full low file i f)
 
-    module _ {next : ℕ} {z area : ℤ} (f : layer_told_at Full low file i ≡ LayerEnd next z area) where
-      layer : (l : Layer) × LayerTold Full low file i l next z area
-      layer = layer_told Full low file i w.run.inside f
+  module _ {rest : ℕ} (h : suc rest ≡ left) {b : LayerEnd} (f : layer_told_at Full low file i ≡ Ok b) where
+    layer : (l : Layer) × LayerTold Full low file i l b.at b.height b.area
+    layer = layer_told Full low file i w.run.inside f
 
-      layer_small : layer_charge t area ≤ most_charge
-      layer_small =
+    layer_small : layer_charge t b.area ≤ most_charge
+    layer_small =
+        let q = layer.1 in
+        subst (λ (a : ℤ). layer_charge t a ≤ most_charge) q.area_is
+        (charge_le t _ w.thin (layer_sum_le Full low (drop i file) layer.0 (drop b.at file) q.stands.parses))
+
+    module _ {r : ℕ} (g : r ≡ layer_charge t b.area) where
+      -- the sum has less than 64 bits
+      pub sum_small : charge + r ≤ most_layers * most_charge
+      sum_small = omega (arith, w.small, layer_small)
+
+      pub run_passes : {x : ℤ} → x ≡ b.height → ChargeRun t file total x (charge + r) b.at rest
+      run_passes e =
           let q = layer.1 in
-          subst (λ (a : ℤ). layer_charge t a ≤ most_charge) q.area_is
-          (charge_le t _ w.thin (layer_sum_le Full low (drop i file) layer.0 (drop next file) q.stands.parses))
-
-      module _ {r : ℕ} (g : r ≡ layer_charge t area) where
-        -- the sum has less than 64 bits
-        pub sum_small : charge + r ≤ most_layers * most_charge
-        sum_small = omega (arith, w.small, layer_small)
-
-        pub run_passes : {x : ℤ} → x ≡ z → ChargeRun t file total x (charge + r) next (left - 1)
-        run_passes e =
-            let q = layer.1 in
-            let height : layer.0.height ≡ _ = q.height_is ∙ sym e in
-            let more : layer_charge t (layer_area layer.0.contours) ≡ r = ap (layer_charge t) q.area_is ∙ sym g in
-            record {
-              run =
-                  subst (λ (s : ℤ × ℕ). Run t file total s next (left - 1)) (λ j. (height j, charge + more j))
-                  (run_next (λ s. layer_format s.0) (charging t) (λ s next. End next s.1) Refused file left w.run h layer.0 next q.stands);
-              thin = w.thin;
-              small = omega (arith, w.small, layer_small);
-            }
+          let height : layer.0.height ≡ _ = q.height_is ∙ sym e in
+          let more : layer_charge t (layer_area layer.0.contours) ≡ r = ap (layer_charge t) q.area_is ∙ sym g in
+          record {
+            run =
+                subst (λ (s : ℤ × ℕ). Run t file total s b.at rest) (λ j. (height j, charge + more j))
+                (run_next (λ s. layer_format s.0) (charging t) (told t) (off t) file left w.run rest h layer.0 b.at q.stands);
+            thin = w.thin;
+            small = omega (arith, w.small, layer_small);
+          }

@@ -1,5 +1,5 @@
 -- The charge is the formula on the layers that Read layer gives, in either profile (`charge_read`).
-use Rattle.std.specs.Prelude.{ℕ, zero, suc, ◌+◌, ◌<◌, ◌≤◌, ◌≡◌, refl, Bool, true, false, get_or, ℤ, pos, ◌+ℤ◌}
+use Rattle.std.specs.Prelude.{ℕ, zero, suc, ◌+◌, ◌<◌, ◌≤◌, ◌≡◌, refl, Bool, true, false, get_or, ℤ, pos, ◌+ℤ◌, Result}
 use Rattle.std.proofs.Common.{sym, ◌∙◌, ⊎_elim, arith}
 use Rattle.std.proofs.Math.Path.{ap}
 use mathlib.Core.List.{List, [], ◌∷◌}
@@ -8,6 +8,7 @@ use Rattle.laws.specs.Booleans.{split_lt}
 use Rattle.mesh.specs.Operation.{gives, refuses, Finding, verdict, after}
 use Rattle.mesh.specs.OperationLaws.{apart, same_refusal, refused_verdict, given_verdict, left_given}
 use Rattle.mesh.specs.Refusals.{Told, refusal}
+use Rattle.mesh.specs.declared.Refusal.{Refusal}
 use Rattle.polygons.specs.Flat.{Point, Polygons, FlatLayer, flat_of, holding, Each}
 use Rattle.polygons.proofs.FlatLaws.{length_ends, polygons_flat, front_holding, layer_exactly}
 use Rattle.polygons.specs.ContourAreas.{contour_area, layer_area}
@@ -31,7 +32,6 @@ use Rattle.ink.specs.Charges.{layer_charge, job_charge}
 use Rattle.ink.specs.Inking.{tell_ink, Inks}
 use Rattle.ink.specs.InkLaws.{ink_charged}
 use Rattle.ink.specs.ReadAreas.{front_area, ReadAt, ReadPast, ReadAll, areas_charge}
-use Rattle.ink.specs.declared.InkAnswer.{InkAnswer}
 
 -- ---- the areas of a layer in front of two tables
 
@@ -115,7 +115,7 @@ charges_alike t (l ∷ ls) (a ∷ areas) n h =
     let rest = charges_alike t ls areas (omega arith) (λ i k. h (suc i) (omega arith)) in
     λ j. layer_charge t (sym first j) + rest j
 
-pub charge_read : {file : List ℕ} {t : ℕ} {result : InkAnswer} {c : ℕ} → Bytes file → Inks file t result → tell_ink result ≡ gives c
+pub charge_read : {file : List ℕ} {t : ℕ} {result : Result ℕ Refusal} {c : ℕ} → Bytes file → Inks file t result → tell_ink result ≡ gives c
     → {p : Profile} {areas : List ℤ} → ReadAll p file areas → c ≡ areas_charge t areas
 charge_read {file} {t} bytes d e {areas = areas} r =
     let g = ink_charged d e in

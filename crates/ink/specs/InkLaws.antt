@@ -1,7 +1,7 @@
 -- What Ink promises: it refuses exactly if a listed condition holds, at its place; its answer is the only one; 13 exactly where the file breaks a rule,
 -- 19 exactly if the file holds layers and the thickness is out of its range; and all else is charged what its layers are. That it refuses with 13 where
 -- Read layer does, and charges less than 2 ^ 63, is in proofs/InkLaws.antt.
-use Rattle.std.specs.Prelude.{ℕ, ◌<◌, ◌≤◌, ◌≡◌, Bool, not, ◌&&◌, List, [], ◌∷◌, ◌↔◌, ◌⊎◌}
+use Rattle.std.specs.Prelude.{ℕ, ◌<◌, ◌≤◌, ◌≡◌, Bool, not, ◌&&◌, List, [], ◌∷◌, ◌↔◌, ◌⊎◌, Result, Ok, Err}
 use Rattle.std.proofs.Math.Path.{refl}
 use Rattle.std.proofs.Common.{sym, ap, ◌∙◌, arith}
 use Rattle.std.proofs.Math.Bool.{true, false}
@@ -13,6 +13,7 @@ use Rattle.mesh.specs.Operation.{gives, refuses, fine, Condition, verdict}
 use Rattle.mesh.specs.OperationLaws.{First, None, whole_refused, whole_fine, then_refused, then_fine, verdict_one, Recovers, refused_verdict, given_verdict}
 use Rattle.mesh.specs.OperationLaws.{refused_exactly, given_exactly, only_outcome, same_refusal, apart}
 use Rattle.mesh.specs.Refusals.{Told, refusal}
+use Rattle.mesh.specs.declared.Refusal.{Refusal}
 use Rattle.mesh.specs.RefusalLaws.{refusal_of, refusal_once}
 use Rattle.cleaning.specs.declared.Profile.TheVariants.{Full}
 use Rattle.file_formats.specs.Formats.{Decoded, holds, broken}
@@ -22,8 +23,6 @@ use Rattle.file_formats.specs.WholeFileLaws.{held_or_is, form_first, form_next, 
 use Rattle.read_layer.specs.ReadingLaws.{layers_broken_inside}
 use Rattle.ink.specs.Charges.{job_charge}
 use Rattle.ink.specs.Inking.{least_thickness, most_thickness, thickness_fits, wrong_thickness, inking, tell_ink, Inks}
-use Rattle.ink.specs.declared.InkAnswer.{InkAnswer}
-use Rattle.ink.specs.declared.InkAnswer.TheVariants.{Charge, Refused}
 
 -- ---- the thickness
 
@@ -102,8 +101,8 @@ module _ (file : List ℕ) (t : ℕ) where
 
 pub ink_recovers : Recovers tell_ink
 ink_recovers = record {
-  back = elim [ gives n ↦ Charge n | refuses r ↦ Refused (refusal_of r) ];
-  once = elim [ Charge n ↦ refl | Refused r ↦ ap Refused (refusal_once r) ];
+  back = elim [ gives n ↦ Ok n | refuses r ↦ Err (refusal_of r) ];
+  once = elim [ Ok n ↦ refl | Err r ↦ ap Err (refusal_once r) ];
 }
 
 -- c is what the layers of a file are charged, at a thickness in its range
@@ -113,7 +112,7 @@ pub record Charged (file : List ℕ) (t c : ℕ) (ls : List Layer) : Type 0 wher
   pub most : t ≤ most_thickness
   pub is : c ≡ job_charge t ls
 
-module _ {file : List ℕ} {t : ℕ} {result : InkAnswer} (d : Inks file t result) where
+module _ {file : List ℕ} {t : ℕ} {result : Result ℕ Refusal} (d : Inks file t result) where
   -- refused exactly if a listed condition holds, the first that fits; charged exactly if none does; and one answer only
   pub ink_refused : (r : Told) → (tell_ink result ≡ refuses r) ↔ First (inking (file, t)).refusals r
   ink_refused = refused_exactly d
@@ -121,7 +120,7 @@ module _ {file : List ℕ} {t : ℕ} {result : InkAnswer} (d : Inks file t resul
   pub ink_given : (tell_ink result ≡ gives (job_charge t (layers_in file))) ↔ None (inking (file, t)).refusals
   ink_given = given_exactly d
 
-  pub ink_only : {other : InkAnswer} → Inks file t other → result ≡ other
+  pub ink_only : {other : Result ℕ Refusal} → Inks file t other → result ≡ other
   ink_only e = (only_outcome ink_recovers d e).0
 
   -- refusal 13 is that of the file's format

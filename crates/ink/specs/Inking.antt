@@ -1,12 +1,11 @@
 -- Ink (INK-1 to INK-7): its refusals in order, and what it answers. It is lent no table.
-use Rattle.std.specs.Prelude.{ℕ, Bool, not, ◌&&◌, List, [], ◌∷◌, leb}
-use Rattle.mesh.specs.Operation.{Answer, gives, refuses, Condition, whole, Operation, Does}
-use Rattle.mesh.specs.Refusals.{Told, refusal, told_of}
+use Rattle.std.specs.Prelude.{ℕ, Bool, not, ◌&&◌, List, [], ◌∷◌, leb, Result}
+use Rattle.mesh.specs.Operation.{Answer, Condition, whole, Operation, Does}
+use Rattle.mesh.specs.Refusals.{Told, refusal, tell}
+use Rattle.mesh.specs.declared.Refusal.{Refusal}
 use Rattle.file_formats.specs.LayerFile.{layers_of}
 use Rattle.file_formats.specs.WholeFiles.{form, layers_in}
 use Rattle.ink.specs.Charges.{job_charge}
-use Rattle.ink.specs.declared.InkAnswer.{InkAnswer}
-use Rattle.ink.specs.declared.InkAnswer.TheVariants.{Charge, Refused}
 
 -- the least and the most thickness of a layer, in micrometres (LIMIT-13)
 abbrev pub least_thickness : ℕ
@@ -33,10 +32,9 @@ inking = λ (file, t). record {
 }
 
 -- what its answer says
-abbrev pub tell_ink : InkAnswer → Answer Told ℕ
-tell_ink (Charge n) = gives n
-tell_ink (Refused r) = refuses (told_of r)
+abbrev pub tell_ink : Result ℕ Refusal → Answer Told ℕ
+tell_ink = tell (λ n. n)
 
 -- the contract of Ink
-abbrev pub Inks : List ℕ → ℕ → InkAnswer → Type 0
+abbrev pub Inks : List ℕ → ℕ → Result ℕ Refusal → Type 0
 Inks file t result = Does inking tell_ink (file, t) result tt

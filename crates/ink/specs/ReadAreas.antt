@@ -1,13 +1,14 @@
 -- All layers of a file, read one after another by Read layer, with their areas, by Contour and Area; and what layers of such areas are charged.
-use Rattle.std.specs.Prelude.{ℕ, ◌+◌, ◌<◌, ◌≡◌, List, [], ◌∷◌, length, get_or, ℤ, pos}
+use Rattle.std.specs.Prelude.{ℕ, ◌+◌, ◌<◌, ◌≡◌, List, [], ◌∷◌, length, get_or, ℤ, pos, Result}
 use Rattle.mesh.specs.Operation.{gives, refuses}
 use Rattle.mesh.specs.Refusals.{refusal}
+use Rattle.mesh.specs.declared.Refusal.{Refusal}
 use Rattle.polygons.specs.Flat.{FlatLayer, layer_front}
 use Rattle.contours.specs.Areas.{sum_of, area_of}
 use Rattle.contours.specs.Contours.{contour_of}
 use Rattle.cleaning.specs.declared.Profile.{Profile}
 use Rattle.read_layer.specs.Reading.{tell_read_layer, ReadsLayer}
-use Rattle.read_layer.specs.declared.ReadLayerAnswer.{ReadLayerAnswer}
+use Rattle.read_layer.specs.declared.LayerRead.{LayerRead}
 use Rattle.ink.specs.Charges.{layer_charge}
 
 -- the contours in front of two tables come to this, each by Contour and Area
@@ -18,7 +19,7 @@ front_area counts t = let front = layer_front counts t in sum_of counts.0 (λ c.
 pub record ReadAt (p : Profile) (file : List ℕ) (i : ℕ) (area : ℤ) : Type 0 where
   pub lent : FlatLayer
   pub left : FlatLayer
-  pub result : ReadLayerAnswer
+  pub result : Result LayerRead Refusal
   pub reads : ReadsLayer p file i lent result left
   -- the layer count, the height, and the counts of contours and points
   pub told : ℕ × ℤ × ℕ × ℕ
@@ -29,7 +30,7 @@ pub record ReadAt (p : Profile) (file : List ℕ) (i : ℕ) (area : ℤ) : Type 
 pub record ReadPast (p : Profile) (file : List ℕ) (i : ℕ) : Type 0 where
   pub lent : FlatLayer
   pub left : FlatLayer
-  pub result : ReadLayerAnswer
+  pub result : Result LayerRead Refusal
   pub reads : ReadsLayer p file i lent result left
   pub refused_so : tell_read_layer result ≡ refuses (refusal 15 0)
 

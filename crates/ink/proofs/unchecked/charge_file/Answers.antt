@@ -1,43 +1,39 @@
 -- `unchecked::charge_file` meets its contract.
 use mathlib.Core.Path.{◌≡◌, sym, ◌∙◌}
 use native.Mathlib.Omega.{arith}
-use borrow.Author.Rules.{rules}
+use Rattle.std.specs.Prelude.{Ok}
+use Rattle.mesh.proofs.Raising.{raised}
 use Rattle.file_formats.specs.LayerFile.{most_layers}
 use Rattle.file_formats.specs.Positions.{number_at}
 use Rattle.file_formats.specs.PositionLaws.{took}
-use Rattle.file_formats.specs.declared.Number.TheVariants.{Value}
-use Rattle.ink.specs.Steps.{charges_at}
-use Rattle.ink.specs.declared.ChargeExtent.{ChargeExtent}
 use Rattle.ink.proofs.FileCharges.{no_count, layers_refused, left_over_lem, all_charged}
 use Rattle.ink.proofs.unchecked.charge_file.Goals as goal
-use Rattle.ink.proofs.unchecked.charge_file.Goals.{After-charge_layers-c, In-Value}
+use Rattle.ink.proofs.unchecked.charge_file.Goals.{In_ok-count}
 
-pub returns-in_default : goal.returns-in_default
-returns-in_default c = record { value = no_count c.args.thickness _ (sym c.read_number-n.ensures.value ∙ c.in_default.is) }
+pub returns-in_err-count : goal.returns-in_err-count
+returns-in_err-count c = record { value = raised _ c.from_residual.ensures.1 ∙ no_count c.args.thickness _ (sym c.in_err-count.ensures.value) }
 
 -- the layer count, and where the layers start
-count : (c : In-Value) → number_at most_layers c.args.file.now 0 ≡ Value c.in-Value.count c.in-Value.start
-count c = sym c.read_number-n.ensures.value ∙ c.in-Value.is
+count : (c : In_ok-count) → number_at most_layers c.args.file.now 0 ≡ Ok (c.in_ok-count.count, c.in_ok-count.start)
+count c = sym c.in_ok-count.ensures.value
 
-pub charge_layers-c-requires : goal.charge_layers-c-requires
-charge_layers-c-requires c = let n = took (count c) in (n.inside, n.low, c.requires)
+pub charge_layers-requires : goal.charge_layers-requires
+charge_layers-requires c =
+    let n = took (count (goal.at.charge_layers-requires c).In_ok-count) in
+    (n.inside, n.low, c.requires)
 
--- what the layers are charged
-charges : (c : After-charge_layers-c) {s : ChargeExtent} → c.charge_layers-c.result ≡ s
-    → charges_at c.args.thickness c.in-Value.count c.args.file.now c.in-Value.start ≡ s
-charges c e = sym c.charge_layers-c.ensures.value ∙ e
+pub returns-in_err-charge : goal.returns-in_err-charge
+returns-in_err-charge c = record {
+  value = raised _ c.from_residual-in_err-charge.ensures.1
+      ∙ layers_refused _ _ (count (goal.at.returns-in_err-charge c).In_ok-count) (sym c.in_err-charge.ensures.value);
+}
 
-pub returns-then-e-file : goal.returns-then-e-file
-returns-then-e-file c =
-    let at = goal.at.returns-then-e-file c in
-    record { value = left_over_lem _ _ (count at.In-Value) (charges at.After-charge_layers-c c.in-End.is) (omega (arith, c.if-e-file.true)) }
+pub returns-then-end-file : goal.returns-then-end-file
+returns-then-end-file c = record {
+  value = left_over_lem _ _ (count (goal.at.returns-then-end-file c).In_ok-count) (sym c.in_ok-charge.ensures.value) (omega (arith, c.if-end-file.true));
+}
 
-pub returns-in-Refused : goal.returns-in-Refused
-returns-in-Refused c =
-    let at = goal.at.returns-in-Refused c in
-    record { value = layers_refused _ _ (count at.In-Value) (charges at.After-charge_layers-c c.in-Refused.is) }
-
-pub returns-else-e-file : goal.returns-else-e-file
-returns-else-e-file c =
-    let at = goal.at.returns-else-e-file c in
-    record { value = all_charged _ _ (count at.In-Value) (charges at.After-charge_layers-c c.in-End.is) (omega (arith, c.if-e-file.false)) }
+pub returns : goal.returns
+returns c = record {
+  value = all_charged _ _ (count (goal.at.returns c).In_ok-count) (sym c.in_ok-charge.ensures.value) (omega (arith, c.if-end-file.false));
+}

@@ -1,50 +1,50 @@
--- `unchecked::charge_layers` meets its contract. The loop's invariant is `ChargeRun`; the measure is how many layers are left.
+-- `unchecked::charge_layers` meets its contract. The loop's invariant is `ChargeRun`.
 use mathlib.Core.Path.{◌≡◌, sym, ap, ◌∙◌}
+use Prim.Native.Nat.{◌+◌, ◌-◌}
 use native.Mathlib.Omega.{arith}
+use Rattle.std.specs.Prelude.{Ok}
 use mir.Syntax.{w64}
 use mir.Val.{to_z}
-use borrow.Author.Rules.{rules}
 use Rattle.laws.specs.Machine.{same}
+use Rattle.mesh.proofs.Raising.{raised}
 use Rattle.cleaning.specs.declared.Profile.TheVariants.{Full}
 use Rattle.file_check.specs.Answers.{layer_told_at}
-use Rattle.file_check.specs.declared.LayerExtent.TheVariants.{End}
 use Rattle.ink.specs.Charges.{layer_charge}
-use Rattle.ink.specs.Steps.{charges_at}
 use Rattle.ink.proofs.LayerRuns.{ChargeRun, run_start, run_ends, run_stops, sum_small, run_passes}
 use Rattle.ink.proofs.unchecked.charge_layers.Goals as goal
-use Rattle.ink.proofs.unchecked.charge_layers.Goals.{After-layer_charge-charge, In-End}
+use Rattle.ink.proofs.unchecked.charge_layers.Goals.{After-layer_charge-charge, In_ok-l}
 
-pub loop-left-init : goal.loop-left-init
-loop-left-init c = let given = c.requires in run_start _ _ given.0 given.1 given.2
+pub loop-init : goal.loop-init
+loop-init c =
+    let given = c.requires in
+    let all : c.args.count - 0 ≡ c.args.count = omega arith in
+    rw all (run_start _ _ given.0 given.1 given.2)
 
-pub check_layer-l-requires : goal.check_layer-l-requires
-check_layer-l-requires c = c.loop-left.invariant.run.inside
+pub check_layer-requires : goal.check_layer-requires
+check_layer-requires c = c.loop.invariant.run.inside
 
 pub layer_charge-charge-requires : goal.layer_charge-charge-requires
-layer_charge-charge-requires c = omega (arith, c.loop-left.invariant.thin)
+layer_charge-charge-requires c = omega (arith, c.loop.invariant.thin)
+
+pub returns-in_err-l : goal.returns-in_err-l
+returns-in_err-l c = record { value = raised _ c.from_residual.ensures.1 ∙ run_stops c.loop.invariant (omega arith) (sym c.in_err-l.ensures.value) }
 
 -- the layer that was read
-told : (c : In-End) → layer_told_at Full (to_z w64 c.loop-left.last-bits) c.args.file.now c.loop-left.i
-    ≡ End c.in-End.next c.in-End.z c.in-End.area
-told c = sym c.check_layer-l.ensures.value ∙ c.in-End.is
+told : (c : In_ok-l) → layer_told_at Full (to_z w64 c.loop.last-bits) c.args.file.now c.loop.i ≡ Ok c.in_ok-l.l
+told c = sym c.in_ok-l.ensures.value
 
 -- and what it is charged
-charged : (c : After-layer_charge-charge) → c.layer_charge-charge.result ≡ layer_charge c.args.thickness c.in-End.area
-charged c = c.layer_charge-charge.ensures.value ∙ ap (layer_charge _) (same w64 c.in-End.area (omega arith))
+charged : (c : After-layer_charge-charge) → c.layer_charge-charge.result ≡ layer_charge c.args.thickness c.in_ok-l.l.area
+charged c = c.layer_charge-charge.ensures.value ∙ ap (layer_charge _) (same w64 c.in_ok-l.l.area (omega arith))
 
 pub overflow_add-charge : goal.overflow_add-charge
 overflow_add-charge c =
-    omega (arith, sum_small c.loop-left.invariant (omega (arith, c.loop-left-test.true)) (told (goal.at.overflow_add-charge c).In-End) (charged c))
+    omega (arith, sum_small c.loop.invariant {rest = c.args.count - (c.loop.counter + 1)} (omega arith) (told (goal.at.overflow_add-charge c).In_ok-l) (charged c))
 
-pub returns-in-Refused : goal.returns-in-Refused
-returns-in-Refused c = record {
-  value = run_stops c.loop-left.invariant (omega (arith, c.loop-left-test.true)) (sym c.check_layer-l.ensures.value ∙ c.in-Refused.is);
-}
-
-pub loop-left-preserved : goal.loop-left-preserved
-loop-left-preserved c =
-    run_passes c.loop-left.invariant (omega (arith, c.loop-left-test.true)) (told (goal.at.loop-left-preserved c).In-End) (charged c)
-    (same w64 c.in-End.z (omega arith))
+pub loop-preserved : goal.loop-preserved
+loop-preserved c =
+    run_passes c.loop.invariant (omega arith) (told (goal.at.loop-preserved c).In_ok-l) (charged (goal.at.loop-preserved c).After-layer_charge-charge)
+    (same w64 c.in_ok-l.l.height (omega arith))
 
 pub returns : goal.returns
-returns c = record { value = run_ends c.loop-left.invariant (omega (arith, c.loop-left-test.false)) }
+returns c = record { value = run_ends c.loop.invariant (omega arith) }

@@ -8,7 +8,7 @@ use mir.Val.{to_z, of_z}
 use borrow.Author.Rules.{rules}
 use Rattle.laws.specs.Machine.{fit, lit, lt_true, lt_false}
 use Rattle.laws.specs.SignLaws.{Negative, negative, NonNegative, non_negative, plain_ok}
-use Rattle.ink.proofs.LayerCharges.{product_fits, more_fits, parts_fit, none_charged, charged}
+use Rattle.ink.proofs.LayerCharges.{product_fits, parts_fit, none_charged, charged}
 use Rattle.ink.proofs.unchecked.layer_charge.Goals as goal
 use Rattle.ink.proofs.unchecked.layer_charge.Goals.{Else-area-lt0, Then-area-lt0}
 
@@ -35,10 +35,9 @@ pub overflow_mul-rest : goal.overflow_mul-rest
 overflow_mul-rest c = product_fits _ c.requires _ (omega (arith, size c))
 
 pub overflow_add-result : goal.overflow_add-result
-overflow_add-result c = more_fits _ c.requires _ _ (omega (arith, size c)) (omega arith)
-
-pub overflow_add-result-2 : goal.overflow_add-result-2
-overflow_add-result-2 c = parts_fit _ c.requires _ _ _ _ (omega (arith, size c)) (omega (arith, size c)) (omega arith)
+overflow_add-result c =
+    let s = size (goal.at.overflow_add-result c).Else-area-lt0 in
+    parts_fit _ c.requires _ _ (omega (arith, s)) (omega (arith, s)) c.div_ceil.ensures
 
 pub returns : goal.returns
-returns c = record { value = charged c.args.thickness (not_neg c) }
+returns c = record { value = charged c.args.thickness (not_neg (goal.at.returns c).Else-area-lt0) c.div_ceil.ensures }
