@@ -1,6 +1,6 @@
 -- The claim about All layers proved: what Cut leaves at a height is the layer of the file, so does Layer on the way up, and the file is that of Cut at each
 -- height taken, in either profile. With the claim about the list of calls it is demand 3.
-use Rattle.std.specs.Prelude.{ℕ, ◌≤◌, ◌≡◌, refl, true, false, not, length, take, drop, ℤ}
+use Rattle.std.specs.Prelude.{ℕ, ◌≤◌, ◌≡◌, refl, true, false, not, length, take, drop, ℤ, Result}
 use Rattle.std.proofs.Common.{sym, ap, ◌∙◌, subst, arith, leb-true}
 use mathlib.Core.List.{List, [], ◌∷◌, ◌++◌, map, flatten}
 use Rattle.std.proofs.lemmas.Bool.{not-false}
@@ -22,13 +22,13 @@ use Rattle.file_write.specs.WrittenLaws.{layer_held}
 use Rattle.cut_points.specs.Points.{point_of}
 use Rattle.cut.specs.Cut.{CutTables, Lengths, lengths_of, cut_room_for, used, section, contours_of, counts_of, cutting, tell_cut, Cuts}
 use Rattle.cut.specs.OutlineLaws.{section_fine}
-use Rattle.cut.specs.declared.CutAnswer.{CutAnswer}
-use Rattle.sweep.specs.declared.LayerAnswer.{LayerAnswer}
+use Rattle.polygons.specs.declared.LayerCounts.{LayerCounts}
+use Rattle.mesh.specs.declared.Refusal.{Refusal}
+use Rattle.sweep.specs.declared.Risen.{Risen}
 use Rattle.sweep.specs.Sweep.{Sweep, sweep}
 use Rattle.sweep.specs.Operations.{linked_tests, tell_layer, Rises}
 use Rattle.sweep.proofs.RiseLaws.{rise_is_cut}
 use Rattle.all_heights.specs.Heights.{heights_taken}
-use Rattle.all_sweep.specs.declared.AllLayersAnswer.{AllLayersAnswer}
 use Rattle.all_sweep.specs.AllLayers.{drawn, cut_layer, cut_file, swept_file, climbed, WorkTables, work_room_for, layers_tests, used_at, short_output}
 use Rattle.all_sweep.specs.AllLayers.{tell_all_layers, Files}
 use Rattle.all_sweep.specs.CutLayerLaws.{drawn_points, drawn_ends}
@@ -41,7 +41,8 @@ use Rattle.demand_three.specs.RunLaws.{unrefused, start_fine, layers_climb}
 -- ---- what Cut leaves
 
 -- the layer of Cut is in its tables
-pub cut_leaves : {m : PairedMesh} {h : ℤ} {t t' : CutTables} {answer : CutAnswer} {j k : ℕ} → Cuts m h t answer t' → tell_cut answer ≡ gives (j, k)
+pub cut_leaves : {m : PairedMesh} {h : ℤ} {t t' : CutTables} {answer : Result LayerCounts Refusal} {j k : ℕ} → Cuts m h t answer t'
+    → tell_cut answer ≡ gives (j, k)
     → layer_of h t'.points t'.ends j ≡ cut_layer m h
 unfolding cut_layer after
 cut_leaves {m} {h} {t} {t'} {answer} {j} {k} c e =
@@ -56,7 +57,7 @@ cut_leaves {m} {h} {t} {t'} {answer} {j} {k} c e =
     (λ i. layer_of h (points i) (ends i) (count i)) ∙ layer_held cs t.points t.ends h
 
 -- and in those of Layer
-pub rise_leaves : {s : Sweep} {h : ℤ} {t t' : CutTables} {answer : LayerAnswer} {n j k : ℕ} {ring' : List ℕ} → Rises s h t answer ring' t'
+pub rise_leaves : {s : Sweep} {h : ℤ} {t t' : CutTables} {answer : Result Risen Refusal} {n j k : ℕ} {ring' : List ℕ} → Rises s h t answer ring' t'
     → tell_layer answer ≡ gives (n, (j, k)) → layer_of h t'.points t'.ends j ≡ cut_layer s.ordered.paired h
 rise_leaves ok e = let c = rise_is_cut ok e in cut_leaves c.2 c.1
 
@@ -135,7 +136,7 @@ passed_parts m heights w (more s (more y (more u (more r (more v (more x (more p
     let room = work_parts (length m.paired.mesh.corners) (lengths_of w.cut) (length w.ring) (not-false _ (u 0 (omega arith))) in
     (more s (more r (more v (more x (more p (more o none_left))))), room.0)
 
-pub file_passed : {p : Profile} {m : OrderedMesh} {heights : List ℤ} {w w' : WorkTables} {output output' : List ℕ} {answer : AllLayersAnswer} {n : ℕ}
+pub file_passed : {p : Profile} {m : OrderedMesh} {heights : List ℤ} {w w' : WorkTables} {output output' : List ℕ} {answer : Result ℕ Refusal} {n : ℕ}
     → Files p m heights w output answer w' output' → tell_all_layers answer ≡ gives n
     → None (right_tests m) × (cut_room_for (length m.paired.mesh.corners) (lengths_of w.cut) ≡ true)
 file_passed {p} {m} {heights} {w} {output = output} f e =

@@ -1,6 +1,6 @@
 -- The third demand about the sweep (RUN-1 to RUN-7, RUN-9): a list of vertex steps and rises that follows
 -- a start, the plain sweep that is fed the list (PLAIN-1 to PLAIN-5), and the one claim about the list.
-use Rattle.std.specs.Prelude.{ℕ, suc, ◌<◌, ◌≤◌, ◌≡◌, ◌⊎◌, Bool, true, false, cond, List, [], ◌∷◌, ltb, length, get_or, ℤ}
+use Rattle.std.specs.Prelude.{ℕ, suc, ◌<◌, ◌≤◌, ◌≡◌, ◌⊎◌, Bool, true, false, cond, List, [], ◌∷◌, ltb, length, get_or, ℤ, Option, Result}
 use Rattle.mesh.specs.Corners.{vertex_count, triangle_of}
 use Rattle.mesh.specs.Meshes.{PairedMesh, OrderedMesh}
 use Rattle.mesh.specs.Operation.{Answer, gives, refuses, is_refusal}
@@ -12,10 +12,10 @@ use Rattle.section.specs.Contours.{contours, trace}
 use Rattle.section.specs.Layers as layers
 use Rattle.section.specs.Links.{trace_links}
 use Rattle.cut.specs.Cut.{CutTables, tell_cut, Cuts}
-use Rattle.cut.specs.declared.CutAnswer.{CutAnswer}
-use Rattle.sweep.specs.declared.StartAnswer.{StartAnswer}
-use Rattle.sweep.specs.declared.StepAnswer.{StepAnswer}
-use Rattle.sweep.specs.declared.LayerAnswer.{LayerAnswer}
+use Rattle.polygons.specs.declared.LayerCounts.{LayerCounts}
+use Rattle.mesh.specs.declared.Refusal.{Refusal}
+use Rattle.sweep.specs.declared.State.{State}
+use Rattle.sweep.specs.declared.Risen.{Risen}
 use Rattle.sweep.specs.Sweep.{Sweep, sweep, passed_at, touches, count_below}
 use Rattle.sweep.specs.Operations.{tell_start, Starts, StepGives, passes, top, tell_step, Steps, tell_layer, Rises}
 
@@ -24,8 +24,8 @@ use Rattle.sweep.specs.Operations.{tell_start, Starts, StepGives, passes, top, t
 -- a vertex step is a call of Step, a rise one of Layer (RUN-1). Each carries its
 -- own inputs, its answer and its tables at exit, which its contract ties together
 pub data Call : Type 0 where
-  step : (s : Sweep) (answer : StepAnswer) (ring' : List ℕ) → Steps s answer ring' → Call
-  rise : (s : Sweep) (h : ℤ) (t : CutTables) (answer : LayerAnswer) (ring' : List ℕ) (t' : CutTables) → Rises s h t answer ring' t' → Call
+  step : (s : Sweep) (answer : Result (Option State) Refusal) (ring' : List ℕ) → Steps s answer ring' → Call
+  rise : (s : Sweep) (h : ℤ) (t : CutTables) (answer : Result Risen Refusal) (ring' : List ℕ) (t' : CutTables) → Rises s h t answer ring' t' → Call
 
 -- its answer is a refusal
 unfoldable pub refused : Call → Bool
@@ -108,10 +108,10 @@ pub record OnlyTouched (m : PairedMesh) (v : ℕ) (ring ring' : List ℕ) : Type
 -- a rise to h, lent the tables t, that gave j contours and k points and left t' gave what Cut gives for the same mesh, pairing, height and tables (RUN-6):
 -- Cut's contract allows an answer that gives them and leaves t', and no other outcome
 pub record GivesCut (m : PairedMesh) (h : ℤ) (t : CutTables) (j k : ℕ) (t' : CutTables) : Type 0 where
-  pub answer : CutAnswer
+  pub answer : Result LayerCounts Refusal
   pub tells : tell_cut answer ≡ gives (j, k)
   pub cuts : Cuts m h t answer t'
-  pub alone : (other : CutAnswer) (t'' : CutTables) → Cuts m h t other t'' → (tell_cut other ≡ gives (j, k)) × (t'' ≡ t')
+  pub alone : (other : Result LayerCounts Refusal) (t'' : CutTables) → Cuts m h t other t'' → (tell_cut other ≡ gives (j, k)) × (t'' ≡ t')
 
 -- what a step that told this did: it passed a vertex as above; at the top, and on a refusal, the ring table stayed.
 -- A step that passed one was tested by 8 and was not at the top, so the order has the vertex
@@ -173,6 +173,7 @@ pub record Swept (m : OrderedMesh) (calls : List Call) (n passed : ℕ) (ring : 
 --   call has tested both (7, 8), and before the first one nothing is passed.
 abbrev pub SweepClaim : Type 0
 SweepClaim =
-    (m : OrderedMesh) (ring : List ℕ) (start : StartAnswer) (n : ℕ) (ring₀ : List ℕ) → Starts m.paired.mesh ring start ring₀ → tell_start start ≡ gives n
+    (m : OrderedMesh) (ring : List ℕ) (start : Result State Refusal) (n : ℕ) (ring₀ : List ℕ) → Starts m.paired.mesh ring start ring₀ → tell_start
+    start ≡ gives n
     → (calls : List Call) (passed : ℕ) (ring' : List ℕ) → Run m n ring₀ calls passed ring'
     → Swept m calls (plane_after m.paired.mesh.coords 0 (fed calls)) passed ring'

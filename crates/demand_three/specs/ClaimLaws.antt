@@ -1,7 +1,7 @@
 -- The third demand proved (RUN-1 to RUN-7, RUN-9): what each
 -- call keeps, what each call did, and the claim about the list.
 use Prim.Native.Nat.{ℕ, suc, ◌≤◌, ◌<◌}
-use Rattle.std.specs.Prelude.{◌≡◌, ◌⊎◌, Bool, true, false, cond, length, get_or, ℤ}
+use Rattle.std.specs.Prelude.{◌≡◌, ◌⊎◌, Bool, true, false, cond, length, get_or, ℤ, Option, Result}
 use Rattle.std.proofs.Math.Path.{refl, sym, ap, subst}
 use Rattle.std.proofs.Common.{◌∙◌, arith, lt-ltb, le-ltb, eq-eqb}
 use Rattle.std.proofs.Math.Logic.{inl, inr, ⊎_elim}
@@ -24,9 +24,9 @@ use Rattle.section.proofs.LayerLaws.{Leads, leads_on, trace_all}
 use Rattle.section.proofs.LinkLaws.{same_trace, link_rises, table_trace, table_leads}
 use Rattle.cut.specs.Cut.{CutTables, tell_cut}
 use Rattle.cut.proofs.CutLaws.{cut_only}
-use Rattle.sweep.specs.declared.StartAnswer.{StartAnswer}
-use Rattle.sweep.specs.declared.StepAnswer.{StepAnswer}
-use Rattle.sweep.specs.declared.LayerAnswer.{LayerAnswer}
+use Rattle.mesh.specs.declared.Refusal.{Refusal}
+use Rattle.sweep.specs.declared.State.{State}
+use Rattle.sweep.specs.declared.Risen.{Risen}
 use Rattle.sweep.specs.Sweep.{Sweep, sweep, mesh_of, passed_at, RingAt, fresh_ring}
 use Rattle.sweep.specs.SweepLaws.{step_right, step_length, step_past, step_keeps, count_few}
 use Rattle.sweep.specs.Operations.{tell_start, Starts, StepGives, passes, top, tell_step, Steps, tell_layer, Rises}
@@ -39,7 +39,7 @@ use Rattle.demand_three.specs.Claim.{SweepClaim}
 -- ---- Step and Layer, unrefused
 
 -- it changed only entries whose paired corner's triangle touches the vertex that it passed
-pub stepped_touched : {s : Sweep} {answer : StepAnswer} {n : ℕ} {ring' : List ℕ} → Steps s answer ring' → tell_step answer ≡ gives (passes n)
+pub stepped_touched : {s : Sweep} {answer : Result (Option State) Refusal} {n : ℕ} {ring' : List ℕ} → Steps s answer ring' → tell_step answer ≡ gives (passes n)
     → OnlyTouched s.ordered.paired (get_or s.ordered.order s.passed 0) s.ring ring'
 stepped_touched {s} ok e =
     let d = step_taken ok e in
@@ -53,7 +53,7 @@ stepped_touched {s} ok e =
     })
 
 -- it gave what Cut gives
-pub risen_cut : {s : Sweep} {h : ℤ} {t t' : CutTables} {answer : LayerAnswer} {n j k : ℕ} {ring' : List ℕ} → Rises s h t answer ring' t'
+pub risen_cut : {s : Sweep} {h : ℤ} {t t' : CutTables} {answer : Result Risen Refusal} {n j k : ℕ} {ring' : List ℕ} → Rises s h t answer ring' t'
     → tell_layer answer ≡ gives (n, (j, k)) → GivesCut s.ordered.paired h t j k t'
 risen_cut ok e =
     let c = rise_is_cut ok e in
@@ -95,7 +95,7 @@ module _ (m : OrderedMesh) where
   unfolding ring_entry rising passed_at member
   none_linked c = refl
 
-  pub start_keeps : {ring : List ℕ} {start : StartAnswer} {n : ℕ} {ring₀ : List ℕ} → Starts m.paired.mesh ring start ring₀ → tell_start start ≡ gives n
+  pub start_keeps : {ring : List ℕ} {start : Result State Refusal} {n : ℕ} {ring₀ : List ℕ} → Starts m.paired.mesh ring start ring₀ → tell_start start ≡ gives n
       → SweepKept 0 n ring₀
   unfolding fresh_ring
   start_keeps {ring} ok e =
@@ -111,7 +111,8 @@ module _ (m : OrderedMesh) where
         tested = inl refl;
       }
 
-  pub stepped_keeps : (n passed : ℕ) (ring : List ℕ) {answer : StepAnswer} {u : ℕ} {ring' : List ℕ} → Steps (sweep m ring passed) answer ring'
+  pub stepped_keeps : (n passed : ℕ) (ring : List ℕ) {answer : Result (Option State) Refusal} {u : ℕ} {ring' : List ℕ}
+      → Steps (sweep m ring passed) answer ring'
       → tell_step answer ≡ gives (passes u) → SweepKept n passed ring → SweepKept (moved coords n up) u ring'
   unfolding moved
   stepped_keeps n passed ring {answer} {u} {ring'} ok e k =
@@ -129,7 +130,7 @@ module _ (m : OrderedMesh) where
         tested = inr right.linked;
       })
 
-  pub top_keeps : (n passed : ℕ) (ring : List ℕ) {answer : StepAnswer} {ring' : List ℕ} → Steps (sweep m ring passed) answer ring'
+  pub top_keeps : (n passed : ℕ) (ring : List ℕ) {answer : Result (Option State) Refusal} {ring' : List ℕ} → Steps (sweep m ring passed) answer ring'
       → tell_step answer ≡ gives top → SweepKept n passed ring → SweepKept (moved coords n up) passed ring'
   unfolding moved
   top_keeps n passed ring {answer} {ring'} ok e k =
@@ -137,7 +138,7 @@ module _ (m : OrderedMesh) where
       let all : vertex_count coords ≤ n = subst (λ (i : ℕ). vertex_count coords ≤ i) k.position d.all_passed in
       subst (λ (b : Bool). SweepKept (cond b (suc n) n) passed ring') (sym (le-ltb n (vertex_count coords) all)) (subst (SweepKept n passed) (sym d.stays) k)
 
-  pub risen_keeps : (n passed : ℕ) (ring : List ℕ) (h : ℤ) {t t' : CutTables} {answer : LayerAnswer} {u i j : ℕ} {ring' : List ℕ}
+  pub risen_keeps : (n passed : ℕ) (ring : List ℕ) (h : ℤ) {t t' : CutTables} {answer : Result Risen Refusal} {u i j : ℕ} {ring' : List ℕ}
       → Rises (sweep m ring passed) h t answer ring' t' → tell_layer answer ≡ gives (u, (i, j)) → SweepKept (moved coords n (to h)) u ring'
   unfolding moved
   risen_keeps n passed ring h ok e =
@@ -149,13 +150,15 @@ module _ (m : OrderedMesh) where
       }
 
   -- the position that the plain sweep gives is kept
-  step_on : (n passed : ℕ) (ring : List ℕ) {answer : StepAnswer} {ring' : List ℕ} → Steps (sweep m ring passed) answer ring' → (a : Answer Told StepGives)
+  step_on : (n passed : ℕ) (ring : List ℕ) {answer : Result (Option State) Refusal} {ring' : List ℕ} → Steps (sweep m ring passed) answer ring'
+      → (a : Answer Told StepGives)
       → tell_step answer ≡ a → is_refusal a ≡ false → SweepKept n passed ring → SweepKept (moved coords n up) (count_after_step passed a) ring'
   step_on n passed ring ok (gives (passes u)) q e k = stepped_keeps n passed ring ok q k
   step_on n passed ring ok (gives top) q e k = top_keeps n passed ring ok q k
   step_on n passed ring ok (refuses r) q e k = absurd (clash refl e)
 
-  rise_on : (n passed : ℕ) (ring : List ℕ) (h : ℤ) {t t' : CutTables} {answer : LayerAnswer} {ring' : List ℕ} → Rises (sweep m ring passed) h t answer ring' t'
+  rise_on : (n passed : ℕ) (ring : List ℕ) (h : ℤ) {t t' : CutTables} {answer : Result Risen Refusal} {ring' : List ℕ}
+      → Rises (sweep m ring passed) h t answer ring' t'
       → (a : Answer Told (ℕ × (ℕ × ℕ))) → tell_layer answer ≡ a → is_refusal a ≡ false → SweepKept (moved coords n (to h)) (count_after_rise passed a) ring'
   rise_on n passed ring h ok (gives (u, (i, j))) q e = risen_keeps n passed ring h ok q
   rise_on n passed ring h ok (refuses r) q e = absurd (clash refl e)
@@ -183,7 +186,7 @@ module _ (m : OrderedMesh) where
   -- ---- what each call did
 
   -- where it was refused, or was handed this mesh with this pairing and order
-  step_did : {s : Sweep} {answer : StepAnswer} {ring' : List ℕ} → Steps s answer ring' → (a : Answer Told StepGives) → tell_step answer ≡ a
+  step_did : {s : Sweep} {answer : Result (Option State) Refusal} {ring' : List ℕ} → Steps s answer ring' → (a : Answer Told StepGives) → tell_step answer ≡ a
       → (is_refusal a ≡ true) ⊎ (s.ordered ≡ m) → StepDid m s ring' a
   step_did {s} {ring' = ring'} ok (gives (passes n)) e same =
       ⊎_elim (λ x. absurd (clash x refl))
@@ -191,7 +194,7 @@ module _ (m : OrderedMesh) where
   step_did ok (gives top) e same = (step_top ok e).stays
   step_did ok (refuses r) e same = unstepped_ring ok e
 
-  rise_did : {s : Sweep} {h : ℤ} {t t' : CutTables} {answer : LayerAnswer} {ring' : List ℕ} → Rises s h t answer ring' t'
+  rise_did : {s : Sweep} {h : ℤ} {t t' : CutTables} {answer : Result Risen Refusal} {ring' : List ℕ} → Rises s h t answer ring' t'
       → (a : Answer Told (ℕ × (ℕ × ℕ))) → tell_layer answer ≡ a → (is_refusal a ≡ true) ⊎ (s.ordered ≡ m) → RiseDid m s h t ring' t' a
   rise_did {h = h} {t = t} {t' = t'} ok (gives (n, (j, k))) e same =
       ⊎_elim (λ x. absurd (clash x refl))

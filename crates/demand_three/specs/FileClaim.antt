@@ -1,6 +1,6 @@
 -- The third demand about All layers (RUN-8), in its full and in its clean form (ALLCLEAN-3): its file is the layer file of Cut at each
 -- height taken, as it is or cleaned, which is what Layer leaves on the way up from a start. Below it the demand whole (RUN-10).
-use Rattle.std.specs.Prelude.{ℕ, ◌≡◌, true, List, [], ◌∷◌, ◌++◌, map, length, take, drop, ℤ}
+use Rattle.std.specs.Prelude.{ℕ, ◌≡◌, true, List, [], ◌∷◌, ◌++◌, map, length, take, drop, ℤ, Result}
 use Rattle.mesh.specs.Meshes.{PairedMesh, OrderedMesh}
 use Rattle.mesh.specs.Operation.{gives, fine, Condition, verdict}
 use Rattle.mesh.specs.Refusals.{Told}
@@ -9,14 +9,14 @@ use Rattle.cleaning.specs.declared.Profile.{Profile}
 use Rattle.file_formats.specs.LayerFile as files
 use Rattle.file_write.specs.Written.{layer_of}
 use Rattle.cut.specs.Cut.{CutTables, lengths_of, cut_room_for, tell_cut, Cuts}
-use Rattle.cut.specs.declared.CutAnswer.{CutAnswer}
-use Rattle.sweep.specs.declared.StartAnswer.{StartAnswer}
-use Rattle.sweep.specs.declared.LayerAnswer.{LayerAnswer}
+use Rattle.polygons.specs.declared.LayerCounts.{LayerCounts}
+use Rattle.mesh.specs.declared.Refusal.{Refusal}
+use Rattle.sweep.specs.declared.State.{State}
+use Rattle.sweep.specs.declared.Risen.{Risen}
 use Rattle.sweep.specs.Sweep.{Sweep, fresh_ring}
 use Rattle.sweep.specs.Operations.{linked_tests, tell_start, Starts, tell_layer, Rises}
 use Rattle.all_heights.specs.Heights.{heights_taken}
 use Rattle.all_heights.specs.Taking.{RisingHeights}
-use Rattle.all_sweep.specs.declared.AllLayersAnswer.{AllLayersAnswer}
 use Rattle.all_sweep.specs.AllLayers.{cut_layer, cut_file, WorkTables, tell_all_layers, Files}
 use Rattle.demand_three.specs.Claim.{Call, rise, Run, SweepClaim}
 
@@ -25,9 +25,9 @@ use Rattle.demand_three.specs.Claim.{Call, rise, Run, SweepClaim}
 -- this is the layer of Cut at h: Cut is not refused where its tables have room, whatever is in them, and leaves this layer in them; and so does every
 -- unrefused rise to h
 pub record LayerOfCut (m : PairedMesh) (h : ℤ) (layer : files.Layer) : Type 0 where
-  pub cuts : (t t' : CutTables) (answer : CutAnswer) → cut_room_for (length m.mesh.corners) (lengths_of t) ≡ true → Cuts m h t answer t'
+  pub cuts : (t t' : CutTables) (answer : Result LayerCounts Refusal) → cut_room_for (length m.mesh.corners) (lengths_of t) ≡ true → Cuts m h t answer t'
       → (j : ℕ) × (k : ℕ) × (tell_cut answer ≡ gives (j, k)) × (layer_of h t'.points t'.ends j ≡ layer)
-  pub rises : (s : Sweep) → s.ordered.paired ≡ m → (t t' : CutTables) (answer : LayerAnswer) (n j k : ℕ) (ring' : List ℕ) → Rises s h t answer ring' t'
+  pub rises : (s : Sweep) → s.ordered.paired ≡ m → (t t' : CutTables) (answer : Result Risen Refusal) (n j k : ℕ) (ring' : List ℕ) → Rises s h t answer ring' t'
       → tell_layer answer ≡ gives (n, (j, k)) → layer_of h t'.points t'.ends j ≡ layer
 
 -- ---- up the heights by Layer
@@ -35,7 +35,7 @@ pub record LayerOfCut (m : PairedMesh) (h : ℤ) (layer : files.Layer) : Type 0 
 -- the calls are unrefused rises, and the tables that they leave hold these layers, with the heights of the calls
 pub data Leave : List Call → List files.Layer → Type 0 where
   no_call : Leave [] []
-  next_call : {s : Sweep} {h : ℤ} {t t' : CutTables} {answer : LayerAnswer} {n j k : ℕ} {ring' : List ℕ} {cs : List Call} {ls : List files.Layer}
+  next_call : {s : Sweep} {h : ℤ} {t t' : CutTables} {answer : Result Risen Refusal} {n j k : ℕ} {ring' : List ℕ} {cs : List Call} {ls : List files.Layer}
       (ok : Rises s h t answer ring' t') → tell_layer answer ≡ gives (n, (j, k)) → Leave cs ls
       → Leave (rise s h t answer ring' t' ok ∷ cs) (layer_of h t'.points t'.ends j ∷ ls)
 
@@ -57,7 +57,7 @@ right_tests m = linked_tests m.paired ++ (orders m.paired.mesh.coords m.order �
 abbrev pub ClimbClaim : Type 0
 ClimbClaim =
     (m : OrderedMesh) → verdict (right_tests m) ≡ fine → (t : CutTables) → cut_room_for (length m.paired.mesh.corners) (lengths_of t) ≡ true
-    → (ring : List ℕ) (start : StartAnswer) (n : ℕ) (ring₀ : List ℕ) → Starts m.paired.mesh ring start ring₀ → tell_start start ≡ gives n
+    → (ring : List ℕ) (start : Result State Refusal) (n : ℕ) (ring₀ : List ℕ) → Starts m.paired.mesh ring start ring₀ → tell_start start ≡ gives n
     → (hs : List ℤ) → RisingHeights hs → Ascent m n ring₀ (map (cut_layer m.paired) hs)
 
 -- ---- All layers
@@ -71,7 +71,7 @@ pub record FileOfCuts (p : Profile) (m : OrderedMesh) (hs : List ℤ) (w : WorkT
   -- what was in the output past them stays
   pub past : drop n output' ≡ drop n output
   -- Start is not refused the lent ring table, and calls of Layer from there, none refused, leave the layers of Cut at these heights
-  pub start : (answer : StartAnswer) × (tell_start answer ≡ gives 0) × Starts m.paired.mesh w.ring answer (fresh_ring m.paired.mesh.corners w.ring)
+  pub start : (answer : Result State Refusal) × (tell_start answer ≡ gives 0) × Starts m.paired.mesh w.ring answer (fresh_ring m.paired.mesh.corners w.ring)
   pub ascent : Ascent m 0 (fresh_ring m.paired.mesh.corners w.ring) (map (cut_layer m.paired) hs)
 
 -- The third demand about All layers (RUN-8), and its clean form (ALLCLEAN-3): where it is not refused, it gives the length and the
@@ -80,7 +80,7 @@ pub record FileOfCuts (p : Profile) (m : OrderedMesh) (hs : List ℤ) (w : WorkT
 -- those of heights and room (`FiledAfter`, composed).
 abbrev pub FileClaim : Type 0
 FileClaim =
-    (p : Profile) (m : OrderedMesh) (heights : List ℤ) (w w' : WorkTables) (output output' : List ℕ) (answer : AllLayersAnswer) (n : ℕ)
+    (p : Profile) (m : OrderedMesh) (heights : List ℤ) (w w' : WorkTables) (output output' : List ℕ) (answer : Result ℕ Refusal) (n : ℕ)
     → Files p m heights w output answer w' output' → tell_all_layers answer ≡ gives n
     → FileOfCuts p m (heights_taken m.paired.mesh.coords heights) w output n output'
 

@@ -1,7 +1,7 @@
 -- The claim about a list of calls is not empty: on a right mesh Step is never refused, Layer only at a height too low or with too little room, and every
 -- list of steps and rises that never lowers the plane is a run.
 use Prim.Native.Nat.{ℕ, suc, ◌≤◌, ◌<◌}
-use Rattle.std.specs.Prelude.{◌≡◌, Bool, true, false, cond, ltb, get_or, ℤ, ◌<ℤ◌}
+use Rattle.std.specs.Prelude.{◌≡◌, Bool, true, false, cond, ltb, get_or, ℤ, ◌<ℤ◌, Option, Some, None as NoState, Result, Ok}
 use Rattle.std.proofs.Math.Path.{refl, ap}
 use Rattle.std.proofs.Common.{sym, ◌∙◌, subst, arith, lt-ltb, le-ltb, eq-eqb}
 use Rattle.std.proofs.Math.Bool.{not}
@@ -24,12 +24,9 @@ use Rattle.section.specs.RightLaws.{right_of}
 use Rattle.section.specs.Contours.{Traced, names_of}
 use Rattle.section.proofs.LayerLaws.{trace_layer}
 use Rattle.cut.specs.Cut.{CutTables, lengths_of, cut_room_for, met_at, used, contours_of, tables_after_cut}
-use Rattle.sweep.specs.declared.StartAnswer.{StartAnswer}
-use Rattle.sweep.specs.declared.StartAnswer.TheVariants.{Fresh}
-use Rattle.sweep.specs.declared.StepAnswer.{StepAnswer}
-use Rattle.sweep.specs.declared.StepAnswer.TheVariants.{Stepped, Top}
-use Rattle.sweep.specs.declared.LayerAnswer.{LayerAnswer}
-use Rattle.sweep.specs.declared.LayerAnswer.TheVariants.{Layer}
+use Rattle.mesh.specs.declared.Refusal.{Refusal}
+use Rattle.sweep.specs.declared.State.{State}
+use Rattle.sweep.specs.declared.Risen.{Risen}
 use Rattle.sweep.specs.Sweep.{sweep, RingAt, fresh_ring, step_ring, may_rise, count_below}
 use Rattle.sweep.specs.SweepLaws.{may_rise_lem}
 use Rattle.sweep.specs.Operations.{at, unless_refused, linked_at, passed_high, start_tests, tell_start, Starts, step_tests, passes, top, tell_step, Steps}
@@ -40,6 +37,10 @@ use Rattle.all_heights.specs.HeightLaws.{RisingHeights}
 use Rattle.demand_three.specs.Claim.{Call, step, rise, refused, given, passed_after, ring_after, Run, done, taken, Move, up, to, move_of, moved, fed}
 use Rattle.demand_three.specs.FileClaim.{right_tests}
 use Rattle.demand_three.specs.ClaimLaws.{SweepKept, start_keeps, call_keeps, run_keeps}
+
+-- what a rise gives: so many passed, and the counts of contours and points
+abbrev pub risen_at : ℕ → ℕ → ℕ → Risen
+risen_at n j k = record { state = at n; counts = record { contours = j; points = k } }
 
 module _ (m : OrderedMesh) (right : None (right_tests m)) where
   abbrev coords : List ℤ
@@ -65,9 +66,9 @@ module _ (m : OrderedMesh) (right : None (right_tests m)) where
       go (more s rest) = more s (more (λ i l. le-ltb _ _ long) none_left)
 
   pub start_fine : (ring : List ℕ) → length m.paired.mesh.corners ≤ length ring
-      → (answer : StartAnswer) × (tell_start answer ≡ gives 0) × Starts m.paired.mesh ring answer (fresh_ring m.paired.mesh.corners ring)
+      → (answer : Result State Refusal) × (tell_start answer ≡ gives 0) × Starts m.paired.mesh ring answer (fresh_ring m.paired.mesh.corners ring)
   unfolding unless_refused
-  start_fine ring long = (Fresh (at 0), refl, does_give refl (start_tests_lem ring long) refl refl)
+  start_fine ring long = (Ok (at 0), refl, does_give refl (start_tests_lem ring long) refl refl)
 
   -- ---- Step
 
@@ -123,19 +124,20 @@ module _ (m : OrderedMesh) (right : None (right_tests m)) where
   -- ---- after any run
 
   -- the next Step is not refused, nor is a Layer that is lent tables long enough and does not lower the plane
-  module _ {ring : List ℕ} {start : StartAnswer} {n : ℕ} {ring₀ : List ℕ} (ok : Starts m.paired.mesh ring start ring₀) (e : tell_start start ≡ gives n)
+  module _ {ring : List ℕ} {start : Result State Refusal} {n : ℕ} {ring₀ : List ℕ} (ok : Starts m.paired.mesh ring start ring₀) (e : tell_start start ≡ gives n)
       {calls : List Call} {passed : ℕ} {ring' : List ℕ} (run : Run m n ring₀ calls passed ring') where
     kept : SweepKept m passed passed ring'
     kept =
         let k = run_keeps m 0 run (start_keeps m ok e) in
         subst (λ (i : ℕ). SweepKept m i passed ring') (sym k.position) k
 
-    pub next_step : {answer : StepAnswer} {r : Told} {ring'' : List ℕ} → Steps (sweep m ring' passed) answer ring'' → tell_step answer ≡ refuses r → ⊥
+    pub next_step : {answer : Result (Option State) Refusal} {r : Told} {ring'' : List ℕ} → Steps (sweep m ring' passed) answer ring''
+        → tell_step answer ≡ refuses r → ⊥
     next_step d q = apart (sym (refused_verdict d q) ∙ step_fine (length ring') passed kept.few kept.table.long)
 
     pub next_rise : (h : ℤ) (t : CutTables) → cut_room_for (length m.paired.mesh.corners) (lengths_of t) ≡ true
         → passed ≤ count_below m.paired.mesh.coords h
-        → {answer : LayerAnswer} {r : Told} {ring'' : List ℕ} {t' : CutTables} → Rises (sweep m ring' passed) h t answer ring'' t'
+        → {answer : Result Risen Refusal} {r : Told} {ring'' : List ℕ} {t' : CutTables} → Rises (sweep m ring' passed) h t answer ring'' t'
         → tell_layer answer ≡ refuses r → ⊥
     next_rise h t room low d q = apart (sym (refused_verdict d q) ∙ rise_fine ring' passed h t room kept.few kept.table low)
 
@@ -218,13 +220,13 @@ module _ (m : OrderedMesh) (right : None (right_tests m))
 
       by : (b : Bool) → ltb p vertices ≡ b → MovesMade m p ring (up ∷ ms)
       by true e =
-          let ok : Steps (sweep m ring p) (Stepped (at (suc p))) relinks =
+          let ok : Steps (sweep m ring p) (Ok (Some (at (suc p)))) relinks =
           does_give refl none (λ i. gives (cond (sym e i) (passes (suc p)) top)) (λ i. cond (sym e i) relinks ring) in
-          made_call n p ring (step (sweep m ring p) (Stepped (at (suc p))) relinks ok) ms refl refl k rest
+          made_call n p ring (step (sweep m ring p) (Ok (Some (at (suc p)))) relinks ok) ms refl refl k rest
       by false e =
-          let ok : Steps (sweep m ring p) Top ring =
+          let ok : Steps (sweep m ring p) (Ok NoState) ring =
           does_give refl none (λ i. gives (cond (sym e i) (passes (suc p)) top)) (λ i. cond (sym e i) relinks ring) in
-          made_call n p ring (step (sweep m ring p) Top ring ok) ms refl refl k rest
+          made_call n p ring (step (sweep m ring p) (Ok NoState) ring ok) ms refl refl k rest
 
   made_rise : (n p : ℕ) (ring : List ℕ) (h : ℤ) (ms : List Move) → n ≤ count_below m.paired.mesh.coords h → SweepKept m n p ring → Onward n (to h) ms
       → MovesMade m p ring (to h ∷ ms)
@@ -235,10 +237,11 @@ module _ (m : OrderedMesh) (right : None (right_tests m))
       let none : verdict (layering (s, h, t)).refusals ≡ fine = rise_fine m right ring p h t room (few n p ring k)
       (subst (λ (i : ℕ). RingAt (sweep m ring i)) (sym k.position) k.table)
       (subst (λ (i : ℕ). i ≤ count_below m.paired.mesh.coords h) (sym k.position) low) in
-      let ok : Rises s h t (Layer (at (risen_passed s h)) (length rs) (length (names_of rs))) (risen_table s h) (tables_after_cut m.paired.mesh h rs t fine) =
+      let ok : Rises s h t (Ok (risen_at (risen_passed s h) (length rs) (length (names_of rs)))) (risen_table s h)
+      (tables_after_cut m.paired.mesh h rs t fine) =
       does_give refl none refl refl in
       made_call n p ring
-      (rise s h t (Layer (at (risen_passed s h)) (length rs) (length (names_of rs))) (risen_table s h) (tables_after_cut m.paired.mesh h rs t fine) ok)
+      (rise s h t (Ok (risen_at (risen_passed s h) (length rs) (length (names_of rs)))) (risen_table s h) (tables_after_cut m.paired.mesh h rs t fine) ok)
       ms refl refl k rest
 
   made : (n p : ℕ) (ring : List ℕ) (ms : List Move) → Upward m.paired.mesh.coords n ms → SweepKept m n p ring → MovesMade m p ring ms
@@ -250,11 +253,12 @@ module _ (m : OrderedMesh) (right : None (right_tests m))
       made_rise n p ring h rest low k (λ p' ring' k'. made (moved m.paired.mesh.coords n (to h)) p' ring' rest c k')
 
   -- after an unrefused start every list of moves that never lowers the plane can be made
-  pub every_climb : {ring : List ℕ} {start : StartAnswer} {n : ℕ} {ring₀ : List ℕ} → Starts m.paired.mesh ring start ring₀ → tell_start start ≡ gives n
+  pub every_climb : {ring : List ℕ} {start : Result State Refusal} {n : ℕ} {ring₀ : List ℕ} → Starts m.paired.mesh ring start ring₀ → tell_start start ≡ gives n
       → (ms : List Move) → Upward m.paired.mesh.coords 0 ms → MovesMade m n ring₀ ms
   every_climb {n = n} {ring₀ = ring₀} ok e ms c = made 0 n ring₀ ms c (start_keeps m ok e)
 
   -- so strictly rising heights can be climbed by Layer from a start
-  pub layers_climb : {ring : List ℕ} {start : StartAnswer} {n : ℕ} {ring₀ : List ℕ} → Starts m.paired.mesh ring start ring₀ → tell_start start ≡ gives n
+  pub layers_climb : {ring : List ℕ} {start : Result State Refusal} {n : ℕ} {ring₀ : List ℕ} → Starts m.paired.mesh ring start ring₀
+      → tell_start start ≡ gives n
       → (hs : List ℤ) → RisingHeights hs → MovesMade m n ring₀ (map to hs)
   layers_climb ok e hs above = every_climb ok e (map to hs) (rising_upward m.paired.mesh.coords hs above)

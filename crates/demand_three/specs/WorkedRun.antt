@@ -1,6 +1,6 @@
 -- A worked run on part P, by computation from the definitions: a
 -- start, two refused calls among steps and rises, up to the top.
-use Rattle.std.specs.Prelude.{ℕ, ◌≡◌, refl, true, false, get_or, replicate, ℤ, pos}
+use Rattle.std.specs.Prelude.{ℕ, ◌≡◌, refl, true, false, get_or, replicate, ℤ, pos, Some, None, Ok, Err}
 use Rattle.std.proofs.Common.{subst, inr, arith}
 use mathlib.Core.List.{List, [], ◌∷◌, flatten}
 use Rattle.laws.specs.Count.{count}
@@ -17,14 +17,12 @@ use Rattle.section.specs.Contours.{member, walk, trace_at, trace_to, ends_from}
 use Rattle.section.specs.Links.{has_link, trace_links}
 use Rattle.cut_points.specs.Points.{numerator, denominator, rounded, exact_over, exact_under, point_at, numbers_of}
 use Rattle.cut.specs.Cut.{CutTables, lent, cut_room_for, met_at}
-use Rattle.sweep.specs.declared.StartAnswer.TheVariants.{Fresh}
-use Rattle.sweep.specs.declared.StepAnswer.TheVariants.{Stepped, Top, Refused as StepRefused}
-use Rattle.sweep.specs.declared.LayerAnswer.TheVariants.{Layer, Refused as LayerRefused}
 use Rattle.sweep.specs.Sweep.{Sweep, sweep, passed_at, fresh_ring, touches, relinked, step_ring, may_rise, risen_to, risen_ring, count_below}
 use Rattle.sweep.specs.Operations.{at, unless_refused, linked_at, passed_high, Starts, Steps, Rises}
 use Rattle.demand_three.specs.Claim.{Call, step, rise, refused, given, passed_after, ring_after, Run, done, skipped, taken, up, to, move_of, moved}
 use Rattle.demand_three.specs.Claim.{plane_after, fed, Swept}
 use Rattle.demand_three.specs.ClaimLaws.{sweep_claim}
+use Rattle.demand_three.specs.RunLaws.{risen_at}
 
 -- ---- part P, its pairing and its order
 
@@ -62,7 +60,7 @@ ring3 = no_corner ∷ no_corner ∷ no_corner ∷ no_corner ∷ 10 ∷ no_corner
 
 -- ---- the calls
 
-started : Starts p.paired.mesh ring (Fresh (at 0)) ring0
+started : Starts p.paired.mesh ring (Ok (at 0)) ring0
 unfolding verdict ◌then◌ test some least sizes_fit unless_refused fresh_ring tabulate overwrite
 started = record { answers = refl; leaves = refl }
 
@@ -70,12 +68,12 @@ started = record { answers = refl; leaves = refl }
 abbrev unpaired : Sweep
 unpaired = sweep (ordered coords corners [] order) ring0 0
 
-wrong : Steps unpaired (StepRefused (Pairing 0)) ring0
+wrong : Steps unpaired (Err (Pairing 0)) ring0
 unfolding verdict ◌then◌ test some least sizes_fit out_of_range names_none names_twice reverse paired_at unless_refused
 wrong = record { answers = refl; leaves = refl }
 
 -- the first vertex
-first : Steps (sweep p ring0 0) (Stepped (at 1)) ring1
+first : Steps (sweep p ring0 0) (Ok (Some (at 1))) ring1
 unfolding verdict ◌then◌ test some least sizes_fit out_of_range names_none names_twice reverse paired_at ordered_at order_of order_up_to place before
     unless_refused
     step_ring relinked touches passed_at member ring_entry rising rising_in successor tabulate overwrite
@@ -88,7 +86,7 @@ tables = lent (replicate 12 7) (replicate 24 (pos 7)) (replicate 12 7) (replicat
 abbrev layer5 : CutTables
 layer5 = lent (4 ∷ 10 ∷ 6 ∷ replicate 9 7) (pos 5 ∷ pos 0 ∷ pos 0 ∷ pos 5 ∷ pos 0 ∷ pos 0 ∷ replicate 18 (pos 7)) (3 ∷ replicate 11 7) (replicate 12 0)
 
-risen : Rises (sweep p ring1 1) (pos 5) tables (Layer (at 3) 1 3) ring3 layer5
+risen : Rises (sweep p ring1 1) (pos 5) tables (Ok (risen_at 3 1 3)) ring3 layer5
 unfolding verdict ◌then◌ test some least sizes_fit cut_room_for out_of_range names_none names_twice reverse paired_at ordered_at order_of order_up_to place
     before linked_at
     passed_high met_at unless_refused after may_rise risen_to risen_ring step_ring relinked touches passed_at member ring_entry rising rising_in successor below
@@ -96,21 +94,21 @@ unfolding verdict ◌then◌ test some least sizes_fit cut_room_for out_of_range
 risen = record { answers = refl; leaves = refl }
 
 -- no rise goes down: at height 0 refusal 12, place 0
-low : Rises (sweep p ring3 3) (pos 0) tables (LayerRefused (Height 0)) ring3 tables
+low : Rises (sweep p ring3 3) (pos 0) tables (Err (Height 0)) ring3 tables
 unfolding verdict ◌then◌ test some least sizes_fit cut_room_for out_of_range names_none names_twice reverse paired_at ordered_at order_of order_up_to place
     before linked_at
     passed_high unless_refused after passed_at member ring_entry rising rising_in successor below
 low = record { answers = refl; leaves = refl }
 
 -- the last vertex
-last : Steps (sweep p ring3 3) (Stepped (at 4)) ring0
+last : Steps (sweep p ring3 3) (Ok (Some (at 4))) ring0
 unfolding verdict ◌then◌ test some least sizes_fit out_of_range names_none names_twice reverse paired_at ordered_at order_of order_up_to place before
     unless_refused
     step_ring relinked touches passed_at member ring_entry rising rising_in successor tabulate overwrite
 last = record { answers = refl; leaves = refl }
 
 -- the top
-at_top : Steps (sweep p ring0 4) Top ring0
+at_top : Steps (sweep p ring0 4) (Ok None) ring0
 unfolding verdict ◌then◌ test some least sizes_fit out_of_range names_none names_twice reverse paired_at ordered_at order_of order_up_to place before
     unless_refused
 at_top = record { answers = refl; leaves = refl }
@@ -120,19 +118,19 @@ at_top = record { answers = refl; leaves = refl }
 -- its beginning, where three are passed and the ring 4, 10, 6 is crossed
 abbrev begun : List Call
 begun =
-    step unpaired (StepRefused (Pairing 0)) ring0 wrong
-    ∷ step (sweep p ring0 0) (Stepped (at 1)) ring1 first
-    ∷ rise (sweep p ring1 1) (pos 5) tables (Layer (at 3) 1 3) ring3 layer5 risen
+    step unpaired (Err (Pairing 0)) ring0 wrong
+    ∷ step (sweep p ring0 0) (Ok (Some (at 1))) ring1 first
+    ∷ rise (sweep p ring1 1) (pos 5) tables (Ok (risen_at 3 1 3)) ring3 layer5 risen
     ∷ []
 
 abbrev calls : List Call
 calls =
-    step unpaired (StepRefused (Pairing 0)) ring0 wrong
-    ∷ step (sweep p ring0 0) (Stepped (at 1)) ring1 first
-    ∷ rise (sweep p ring1 1) (pos 5) tables (Layer (at 3) 1 3) ring3 layer5 risen
-    ∷ rise (sweep p ring3 3) (pos 0) tables (LayerRefused (Height 0)) ring3 tables low
-    ∷ step (sweep p ring3 3) (Stepped (at 4)) ring0 last
-    ∷ step (sweep p ring0 4) Top ring0 at_top
+    step unpaired (Err (Pairing 0)) ring0 wrong
+    ∷ step (sweep p ring0 0) (Ok (Some (at 1))) ring1 first
+    ∷ rise (sweep p ring1 1) (pos 5) tables (Ok (risen_at 3 1 3)) ring3 layer5 risen
+    ∷ rise (sweep p ring3 3) (pos 0) tables (Err (Height 0)) ring3 tables low
+    ∷ step (sweep p ring3 3) (Ok (Some (at 4))) ring0 last
+    ∷ step (sweep p ring0 4) (Ok None) ring0 at_top
     ∷ []
 
 -- the plain sweep is fed this
@@ -152,7 +150,7 @@ run = skipped refl (taken refl refl (taken refl refl (skipped refl (taken refl r
 
 -- so the claim holds of it
 swept : Swept p calls 4 4 ring0
-swept = subst (λ (n : ℕ). Swept p calls n 4 ring0) plane_is (sweep_claim p ring (Fresh (at 0)) 0 ring0 started refl calls 4 ring0 run)
+swept = subst (λ (n : ℕ). Swept p calls n 4 ring0) plane_is (sweep_claim p ring (Ok (at 0)) 0 ring0 started refl calls 4 ring0 run)
 
 -- and of its beginning
 run_begun : Run p 0 ring0 begun 3 ring3
@@ -164,7 +162,7 @@ unfolding plane_after fed move_of refused moved count_below count below
 plane_begun = refl
 
 swept_begun : Swept p begun 3 3 ring3
-swept_begun = subst (λ (n : ℕ). Swept p begun n 3 ring3) plane_begun (sweep_claim p ring (Fresh (at 0)) 0 ring0 started refl begun 3 ring3 run_begun)
+swept_begun = subst (λ (n : ℕ). Swept p begun n 3 ring3) plane_begun (sweep_claim p ring (Ok (at 0)) 0 ring0 started refl begun 3 ring3 run_begun)
 
 -- the edge of corners 4 and 11 lies on that ring
 on_ring : Ring (λ k. get_or ring3 k 0) 12 4
@@ -172,8 +170,8 @@ unfolding rising passed_at member
 on_ring = swept_begun.rings 11 4 (omega arith) (inr refl) refl
 
 -- where every call is refused the claim asks nothing of pairing and order
-swept_refused : (pairs order : List ℕ) → Swept (ordered coords corners pairs order) (step unpaired (StepRefused (Pairing 0)) ring0 wrong ∷ []) 0 0 ring0
+swept_refused : (pairs order : List ℕ) → Swept (ordered coords corners pairs order) (step unpaired (Err (Pairing 0)) ring0 wrong ∷ []) 0 0 ring0
 unfolding plane_after fed refused
 swept_refused pairs order =
-    sweep_claim (ordered coords corners pairs order) ring (Fresh (at 0)) 0 ring0 started refl (step unpaired (StepRefused (Pairing 0)) ring0 wrong ∷ []) 0 ring0
+    sweep_claim (ordered coords corners pairs order) ring (Ok (at 0)) 0 ring0 started refl (step unpaired (Err (Pairing 0)) ring0 wrong ∷ []) 0 ring0
     (skipped refl done)
