@@ -15,7 +15,8 @@ use Rattle.all_contours.proofs.unchecked_contours.successor.Goals.{After-is_belo
 
 -- the corners that were read, and the vertex of the third
 across : (c : After-previous_corner-f) {v : ℕ} → v ≡ get_or c.args.corners.now c.previous_corner-f.result 0
-    → Across (paired c.args.coords.now c.args.corners.now c.args.pairing.now) c.args.c (get_or c.args.pairing.now c.args.c 0) c.next_corner-e.result c.previous_corner-f.result v
+    → Across (paired c.args.coords.now c.args.corners.now c.args.pairing.now) c.args.c (get_or c.args.pairing.now c.args.c 0) c.next_corner-e.result
+    c.previous_corner-f.result v
 across c e =
     record {
       pair = refl;
@@ -30,7 +31,9 @@ below_all c = third_below c.requires.fact_1 c.args.h c.requires.fact_2 (across c
 
 -- what the code has found of its vertex
 found : (c : After-is_below) → below c.args.coords.now c.args.h (get_or c.args.corners.now c.previous_corner-f.result 0) ≡ c.is_below.result
-found c = ap (λ (z : ℤ). below c.args.coords.now z (get_or c.args.corners.now c.previous_corner-f.result 0)) (sym (to_z-of_z w32 c.args.h c.ranges.h)) ∙ sym c.is_below.ensures.value
+found c =
+    ap (λ (z : ℤ). below c.args.coords.now z (get_or c.args.corners.now c.previous_corner-f.result 0)) (sym (to_z-of_z w32 c.args.h c.ranges.h))
+    ∙ sym c.is_below.ensures.value
 
 pub bounds-pairing-c : goal.bounds-pairing-c
 bounds-pairing-c c = (c.requires.fact_1.linked.each c.args.c c.requires.fact_2.below).there
