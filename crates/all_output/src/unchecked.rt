@@ -136,9 +136,8 @@ pub fn put_layers(
     if short {
         return Err(Refusal::Output(0));
     }
-    let n = write_layers(
+    Ok(write_layers(
         profile, coords, corners, pairing, low, heights, count, names, points, ends, marks, ring,
         heads, output,
-    );
-    Ok(n)
+    ))
 }

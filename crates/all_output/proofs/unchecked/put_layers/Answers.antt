@@ -40,8 +40,8 @@ returns-then-short c = record {
   work = works_more (works_begun c.begin-crossings.ensures.spent) c.is_short-short.ensures.work;
 }
 
-pub write_layers-n-requires : goal.write_layers-n-requires
-write_layers-n-requires c =
+pub write_layers-requires : goal.write_layers-requires
+write_layers-requires c =
     let t = tested_held (to_z-of_z w32 c.args.low c.ranges.low) c.requires.fact_1 in record {
       fact_1 = tested_more t (works_more (works_begun c.begin-crossings.ensures.spent) c.is_short-short.ensures.work);
       fact_2 = c.is_short-short.ensures.outcome c.if-short.false;
@@ -50,12 +50,12 @@ write_layers-n-requires c =
 
 pub shape_of-marks : goal.shape_of-marks
 shape_of-marks c =
-    (works_more (works_more (works_begun c.begin-crossings.ensures.spent) c.is_short-short.ensures.work) c.write_layers-n.ensures.work
+    (works_more (works_more (works_begun c.begin-crossings.ensures.spent) c.is_short-short.ensures.work) c.write_layers.ensures.work
     ).marks_spent.same_length
 
 pub shape_of-ring : goal.shape_of-ring
 shape_of-ring c =
-    (works_more (works_more (works_begun c.begin-crossings.ensures.spent) c.is_short-short.ensures.work) c.write_layers-n.ensures.work
+    (works_more (works_more (works_begun c.begin-crossings.ensures.spent) c.is_short-short.ensures.work) c.write_layers.ensures.work
     ).ring_spent.same_length
 
 pub shape_of-heads : goal.shape_of-heads
@@ -64,6 +64,6 @@ shape_of-heads c =
 
 pub returns : goal.returns
 returns c = record {
-  outcome = puts_whole _ _ (sym c.is_short-short.ensures.value ∙ c.if-short.false) c.write_layers-n.ensures.value c.write_layers-n.ensures.output_left;
-  work = works_more (works_more (works_begun c.begin-crossings.ensures.spent) c.is_short-short.ensures.work) c.write_layers-n.ensures.work;
+  outcome = puts_whole _ _ (sym c.is_short-short.ensures.value ∙ c.if-short.false) c.write_layers.ensures.value c.write_layers.ensures.output_left;
+  work = works_more (works_more (works_begun c.begin-crossings.ensures.spent) c.is_short-short.ensures.work) c.write_layers.ensures.work;
 }
