@@ -1,23 +1,20 @@
--- Two's complement: what a number below zero and any other is sent as, and a height of 32 bits cast to 64.
-use Prim.Native.Nat.{◌-◌, ◌^◌, ◌<◌}
-use mathlib.Core.Path.{◌≡◌, sym, ap, ◌∙◌, subst}
+-- Two's complement: the word of a signed number, and a height of 32 bits cast to 64.
+use Prim.Native.Nat.{suc, ◌-◌, ◌^◌, ◌<◌}
+use mathlib.Core.Path.{◌≡◌, refl, sym, ◌∙◌, subst}
 use native.Mathlib.Omega.{arith}
-use lib.IntN.{ℤ}
+use lib.IntN.{ℤ, pos, negsuc}
 use lib.Signed.{mag}
 use mir.Syntax.{w32, w64}
 use mir.Val.{SFits, to_z, of_z}
 use mir.ValLaws.{to_z-of_z}
 use Rattle.laws.specs.Machine.{same}
-use Rattle.laws.specs.SignLaws.{Negative, NonNegative}
 use Rattle.out_words.specs.Words.{word_of}
 
-pub word_negative : {z : ℤ} (b : Negative z) → word_of z ≡ 18446744073709551615 - b.k
+-- what 64 bits hold of a signed number
+pub complement : (z : ℤ) → of_z w64 z ≡ word_of z
 unfolding word_of
-word_negative b = ap word_of b.from
-
-pub word_non_negative : {z : ℤ} (b : NonNegative z) → word_of z ≡ b.k
-unfolding word_of
-word_non_negative b = ap word_of b.from
+complement (pos n) = refl
+complement (negsuc n) = let e : 18446744073709551616 - suc n ≡ 18446744073709551615 - n = omega arith in e
 
 module _ (z : ℤ) (f : mag z < 2 ^ 31) where
   pub wide_fits : SFits w64 (to_z w32 (of_z w32 z))

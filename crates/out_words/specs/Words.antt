@@ -1,6 +1,5 @@
 -- An answer as the C interface tells it: the number returned, and the words of `out`.
-use Rattle.std.specs.Prelude.{ℕ, ◌-◌, ◌≡◌, List, [], ◌∷◌, set, ℤ, pos, negsuc, Float}
-use Rattle.std.proofs.Math.Option.{Option, none, some}
+use Rattle.std.specs.Prelude.{ℕ, ◌-◌, ◌≡◌, List, [], ◌∷◌, set, ℤ, pos, negsuc, Float, Option, None, Some}
 use Rattle.std.proofs.lemmas.List.Edits.{sets}
 use Rattle.mesh.specs.Operation.{Answer, gives, refuses}
 use Rattle.mesh.specs.Refusals.{Told, number_in}
@@ -61,14 +60,14 @@ read_part_words (vertices, triangles, heights) = vertices ∷ triangles ∷ heig
 
 -- Preview: 0 for a move, 1 for a line, 2 for a close, 3 past the last
 abbrev pub preview_words : Option PathCall → List ℕ
-preview_words (some c) = kind_of c ∷ []
-preview_words none = 3 ∷ []
+preview_words (Some c) = kind_of c ∷ []
+preview_words None = 3 ∷ []
 
 -- ---- the two floats of Preview, which a move and a line write
 
 abbrev pub xy_after : Answer Told (Option PathCall) → List Float → List Float
-xy_after (gives (some (Move x y))) xy = sets xy 0 (x ∷ y ∷ [])
-xy_after (gives (some (Line x y))) xy = sets xy 0 (x ∷ y ∷ [])
-xy_after (gives (some Close)) xy = xy
-xy_after (gives none) xy = xy
+xy_after (gives (Some (Move x y))) xy = sets xy 0 (x ∷ y ∷ [])
+xy_after (gives (Some (Line x y))) xy = sets xy 0 (x ∷ y ∷ [])
+xy_after (gives (Some Close)) xy = xy
+xy_after (gives None) xy = xy
 xy_after (refuses r) xy = xy

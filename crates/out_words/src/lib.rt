@@ -1,37 +1,118 @@
 // Answers as the C interface tells them: 0 or the refusal's number, and `out` with the place, or the values as words.
 #![tactic(auto)]
 
-ghost use Rattle.std.specs.Prelude.{◌≡◌, set};
-ghost use Rattle.std.proofs.Math.Option.{some};
+ghost use Rattle.std.specs.Prelude.{ℕ, ◌≡◌, List, Some, set};
+ghost use Rattle.std.proofs.lemmas.List.Edits.{sets};
 ghost use Rattle.mesh.specs.Operation.{gives};
-ghost use Rattle.mesh.specs.Refusals.{number_of, place_of};
-ghost use Rattle.check_mesh.specs.Check.{tell_check};
-ghost use Rattle.clean.specs.Clean.{tell_clean};
-ghost use Rattle.cut.specs.Cut.{tell_cut};
-ghost use Rattle.ink.specs.Inking.{tell_ink};
-ghost use Rattle.contours.specs.Areas.{tell_area};
-ghost use Rattle.nesting.specs.Nesting.{tell_nesting};
-ghost use Rattle.sweep.specs.Operations.{tell_start, tell_step, tell_layer};
-ghost use Rattle.all_sweep.specs.AllLayers.{tell_all_layers};
-ghost use Rattle.preview.specs.Preview.{tell_preview, tell_preview_run};
-ghost use Rattle.read_layer.specs.Reading.{tell_read_layer};
-ghost use Rattle.read_part.specs.Parts.{tell_read_part};
+ghost use Rattle.mesh.specs.Refusals.{number_of, place_of, tell};
+ghost use Rattle.sweep.specs.Operations.{tell_step};
+ghost use Rattle.preview.specs.Preview.{tell_preview};
 ghost use Rattle.out_words.specs.Words.{word_of, Says, no_words, one_word, signed_word, cut_words, step_words, layer_words};
 ghost use Rattle.out_words.specs.Words.{read_layer_words, read_part_words, preview_words, xy_after};
 
-use all_sweep::AllLayersAnswer;
-use check_mesh::CheckAnswer;
-use clean::CleanAnswer;
-use contours::AreaAnswer;
-use cut::CutAnswer;
-use ink::InkAnswer;
 use mesh::Refusal;
 use mesh::refusals::{number_of, place_of};
-use nesting::NestingAnswer;
-use preview::{PathCall, PreviewAnswer, PreviewRunAnswer};
-use read_layer::ReadLayerAnswer;
-use read_part::ReadPartAnswer;
-use sweep::{LayerAnswer, StartAnswer, StepAnswer};
+use polygons::LayerCounts;
+use preview::PathCall;
+use read_layer::LayerRead;
+use read_part::PartCounts;
+use sweep::{Risen, State};
+
+// What an operation gives, as words of `out`.
+pub trait Words {
+    ghost words: { Self → List ℕ };
+
+    // Puts them into the first entries; the others stay.
+    fn put(self, out: &mut [u64; 4])
+        ensures { out.new ≡ sets out.old 0 (words self) };
+}
+
+// Check, Nesting.
+impl Words for () {
+    ghost words = { no_words };
+
+    fn put(self, _out: &mut [u64; 4]) {}
+}
+
+// All layers, the run of Preview.
+impl Words for usize {
+    ghost words = { one_word };
+
+    fn put(self, out: &mut [u64; 4]) {
+        out[0] = self as u64;
+    }
+}
+
+// Ink.
+impl Words for u64 {
+    ghost words = { one_word };
+
+    fn put(self, out: &mut [u64; 4]) {
+        out[0] = self;
+    }
+}
+
+// Area.
+impl Words for i64 {
+    ghost words = { signed_word };
+
+    fn put(self, out: &mut [u64; 4]) {
+        out[0] = word_of(self);
+    }
+}
+
+// Cut, Clean.
+impl Words for LayerCounts {
+    ghost words = { λ c. cut_words (c.contours, c.points) };
+
+    fn put(self, out: &mut [u64; 4]) {
+        out[0] = self.contours as u64;
+        out[1] = self.points as u64;
+    }
+}
+
+// Start.
+impl Words for State {
+    ghost words = { λ s. one_word s.passed };
+
+    fn put(self, out: &mut [u64; 4]) {
+        out[0] = self.passed as u64;
+    }
+}
+
+// Layer.
+impl Words for Risen {
+    ghost words = { λ r. layer_words (r.state.passed, (r.counts.contours, r.counts.points)) };
+
+    fn put(self, out: &mut [u64; 4]) {
+        out[0] = self.state.passed as u64;
+        out[1] = self.counts.contours as u64;
+        out[2] = self.counts.points as u64;
+    }
+}
+
+// Read layer.
+impl Words for LayerRead {
+    ghost words = { λ l. read_layer_words (l.layers, l.height, l.counts.contours, l.counts.points) };
+
+    fn put(self, out: &mut [u64; 4]) {
+        out[0] = self.layers as u64;
+        out[1] = word_of(self.height as i64);
+        out[2] = self.counts.contours as u64;
+        out[3] = self.counts.points as u64;
+    }
+}
+
+// Read part.
+impl Words for PartCounts {
+    ghost words = { λ c. read_part_words (c.vertices, c.triangles, c.heights) };
+
+    fn put(self, out: &mut [u64; 4]) {
+        out[0] = self.vertices as u64;
+        out[1] = self.triangles as u64;
+        out[2] = self.heights as u64;
+    }
+}
 
 // Puts a refusal's place into `out`, and returns its number.
 pub fn refuse(r: Refusal, out: &mut [u64; 4]) -> u32
@@ -45,171 +126,47 @@ pub fn refuse(r: Refusal, out: &mut [u64; 4]) -> u32
 pub fn word_of(z: i64) -> u64
     ensures value { result ≡ word_of z }
 {
-    if z < 0 {
-        let k = -1 - z;
-        return 18446744073709551615 - (k as u64);
-    }
-    z as u64
+    z.cast_unsigned()
 }
 
-pub fn tell_check(a: CheckAnswer, out: &mut [u64; 4]) -> u32
-    ensures outcome { Says no_words (tell_check a) out.old result out.new }
+// Tells what an operation answers.
+pub fn tell<V: Words>(answer: Result<V, Refusal>, out: &mut [u64; 4]) -> u32
+    ensures outcome { Says V.words (tell (λ v. v) answer) out.old result out.new }
 {
-    match a {
-        CheckAnswer::Accepted => 0,
-        CheckAnswer::Refused(r) => refuse(r, out),
-    }
-}
-
-pub fn tell_cut(a: CutAnswer, out: &mut [u64; 4]) -> u32
-    ensures outcome { Says cut_words (tell_cut a) out.old result out.new }
-{
-    match a {
-        CutAnswer::Layer(j, k) => {
-            out[0] = j as u64;
-            out[1] = k as u64;
+    match answer {
+        Ok(values) => {
+            values.put(out);
             0
         }
-        CutAnswer::Refused(r) => refuse(r, out),
-    }
-}
-
-pub fn tell_clean(a: CleanAnswer, out: &mut [u64; 4]) -> u32
-    ensures outcome { Says cut_words (tell_clean a) out.old result out.new }
-{
-    match a {
-        CleanAnswer::Layer(j, k) => {
-            out[0] = j as u64;
-            out[1] = k as u64;
-            0
-        }
-        CleanAnswer::Refused(r) => refuse(r, out),
-    }
-}
-
-pub fn tell_area(a: AreaAnswer, out: &mut [u64; 4]) -> u32
-    ensures outcome { Says signed_word (tell_area a) out.old result out.new }
-{
-    match a {
-        AreaAnswer::Area(d) => {
-            out[0] = word_of(d);
-            0
-        }
-        AreaAnswer::Refused(r) => refuse(r, out),
-    }
-}
-
-pub fn tell_start(a: StartAnswer, out: &mut [u64; 4]) -> u32
-    ensures outcome { Says one_word (tell_start a) out.old result out.new }
-{
-    match a {
-        StartAnswer::Fresh(fresh) => {
-            out[0] = fresh.passed as u64;
-            0
-        }
-        StartAnswer::Refused(r) => refuse(r, out),
+        Err(refusal) => refuse(refusal, out),
     }
 }
 
 // With so many passed before the step.
-pub fn tell_step(a: StepAnswer, passed: usize, out: &mut [u64; 4]) -> u32
-    ensures outcome { Says (step_words passed) (tell_step a) out.old result out.new }
+pub fn tell_step(answer: Result<Option<State>, Refusal>, passed: usize, out: &mut [u64; 4]) -> u32
+    ensures outcome { Says (step_words passed) (tell_step answer) out.old result out.new }
 {
-    match a {
-        StepAnswer::Stepped(s) => {
-            out[0] = s.passed as u64;
-            out[1] = 0;
-            0
-        }
-        StepAnswer::Top => {
-            out[0] = passed as u64;
-            out[1] = 1;
-            0
-        }
-        StepAnswer::Refused(r) => refuse(r, out),
-    }
-}
-
-pub fn tell_layer(a: LayerAnswer, out: &mut [u64; 4]) -> u32
-    ensures outcome { Says layer_words (tell_layer a) out.old result out.new }
-{
-    match a {
-        LayerAnswer::Layer(s, j, k) => {
-            out[0] = s.passed as u64;
-            out[1] = j as u64;
-            out[2] = k as u64;
-            0
-        }
-        LayerAnswer::Refused(r) => refuse(r, out),
-    }
-}
-
-pub fn tell_nesting(a: NestingAnswer, out: &mut [u64; 4]) -> u32
-    ensures outcome { Says no_words (tell_nesting a) out.old result out.new }
-{
-    match a {
-        NestingAnswer::Nested => 0,
-        NestingAnswer::Refused(r) => refuse(r, out),
-    }
-}
-
-pub fn tell_all_layers(a: AllLayersAnswer, out: &mut [u64; 4]) -> u32
-    ensures outcome { Says one_word (tell_all_layers a) out.old result out.new }
-{
-    match a {
-        AllLayersAnswer::Length(n) => {
-            out[0] = n as u64;
-            0
-        }
-        AllLayersAnswer::Refused(r) => refuse(r, out),
-    }
-}
-
-pub fn tell_ink(a: InkAnswer, out: &mut [u64; 4]) -> u32
-    ensures outcome { Says one_word (tell_ink a) out.old result out.new }
-{
-    match a {
-        InkAnswer::Charge(n) => {
-            out[0] = n;
-            0
-        }
-        InkAnswer::Refused(r) => refuse(r, out),
-    }
-}
-
-pub fn tell_read_layer(a: ReadLayerAnswer, out: &mut [u64; 4]) -> u32
-    ensures outcome { Says read_layer_words (tell_read_layer a) out.old result out.new }
-{
-    match a {
-        ReadLayerAnswer::Layer(n, z, j, k) => {
-            out[0] = n as u64;
-            out[1] = word_of(z as i64);
-            out[2] = j as u64;
-            out[3] = k as u64;
-            0
-        }
-        ReadLayerAnswer::Refused(r) => refuse(r, out),
-    }
-}
-
-pub fn tell_read_part(a: ReadPartAnswer, out: &mut [u64; 4]) -> u32
-    ensures outcome { Says read_part_words (tell_read_part a) out.old result out.new }
-{
-    match a {
-        ReadPartAnswer::Counts(v, t, k) => {
-            out[0] = v as u64;
-            out[1] = t as u64;
-            out[2] = k as u64;
-            0
-        }
-        ReadPartAnswer::Refused(r) => refuse(r, out),
+    match answer {
+        Ok(next) => match next {
+            Some(s) => {
+                out[0] = s.passed as u64;
+                out[1] = 0;
+                0
+            }
+            None => {
+                out[0] = passed as u64;
+                out[1] = 1;
+                0
+            }
+        },
+        Err(r) => refuse(r, out),
     }
 }
 
 // A call's kind and, for a move and a line, its two floats.
 pub fn tell_call(c: PathCall, xy: &mut [f32; 2], out: &mut [u64; 4]) -> u32
-    ensures outcome { Says preview_words (gives (some c)) out.old result out.new }
-    ensures left { xy.new ≡ xy_after (gives (some c)) xy.old }
+    ensures outcome { Says preview_words (gives (Some c)) out.old result out.new }
+    ensures left { xy.new ≡ xy_after (gives (Some c)) xy.old }
 {
     match c {
         PathCall::Move(x, y) => {
@@ -231,28 +188,22 @@ pub fn tell_call(c: PathCall, xy: &mut [f32; 2], out: &mut [u64; 4]) -> u32
     }
 }
 
-pub fn tell_preview(a: PreviewAnswer, xy: &mut [f32; 2], out: &mut [u64; 4]) -> u32
-    ensures outcome { Says preview_words (tell_preview a) out.old result out.new }
-    ensures left { xy.new ≡ xy_after (tell_preview a) xy.old }
+pub fn tell_preview(
+    answer: Result<Option<PathCall>, Refusal>,
+    xy: &mut [f32; 2],
+    out: &mut [u64; 4],
+) -> u32
+    ensures outcome { Says preview_words (tell_preview answer) out.old result out.new }
+    ensures left { xy.new ≡ xy_after (tell_preview answer) xy.old }
 {
-    match a {
-        PreviewAnswer::Call(c) => tell_call(c, xy, out),
-        PreviewAnswer::Past => {
-            out[0] = 3;
-            0
-        }
-        PreviewAnswer::Refused(r) => refuse(r, out),
-    }
-}
-
-pub fn tell_preview_run(a: PreviewRunAnswer, out: &mut [u64; 4]) -> u32
-    ensures outcome { Says one_word (tell_preview_run a) out.old result out.new }
-{
-    match a {
-        PreviewRunAnswer::Calls(n) => {
-            out[0] = n as u64;
-            0
-        }
-        PreviewRunAnswer::Refused(r) => refuse(r, out),
+    match answer {
+        Ok(call) => match call {
+            Some(c) => tell_call(c, xy, out),
+            None => {
+                out[0] = 3;
+                0
+            }
+        },
+        Err(r) => refuse(r, out),
     }
 }

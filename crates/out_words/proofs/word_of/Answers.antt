@@ -1,33 +1,10 @@
 -- `word_of` meets its contract.
-use mathlib.Core.Path.{ap}
-use native.Mathlib.Omega.{arith}
-use lib.IntN.{pos, nat_abs}
-use Rattle.laws.specs.Machine.{fit, lit, lt_true, lt_false}
-use Rattle.laws.specs.SignLaws.{Negative, negative, below_fits, below_is, NonNegative, non_negative, plain_ok}
-use Rattle.out_words.proofs.Complements.{word_negative, word_non_negative}
+use mathlib.Core.Path.{◌∙◌, ap}
+use mir.Syntax.{w64}
+use mir.Val.{of_z}
+use Rattle.laws.specs.Machine.{same}
+use Rattle.out_words.proofs.Complements.{complement}
 use Rattle.out_words.proofs.word_of.Goals as goal
-use Rattle.out_words.proofs.word_of.Goals.{Else-z-lt0, Then-z-lt0}
-
-neg : (c : Then-z-lt0) → Negative c.args.z
-neg c = negative _ c.ranges.z (lt_true (fit c.ranges.z) (lit (pos 0) tt) c.if-z-lt0.true)
-
-not_neg : (c : Else-z-lt0) → NonNegative c.args.z
-not_neg c = non_negative _ c.ranges.z (lt_false (fit c.ranges.z) (lit (pos 0) tt) c.if-z-lt0.false)
-
-pub overflow_sub-k : goal.overflow_sub-k
-overflow_sub-k c = below_fits (neg c)
-
-pub overflow_cast-result : goal.overflow_cast-result
-overflow_cast-result c = plain_ok (below_is (neg c)) (neg c).small
-
-pub overflow_sub-result : goal.overflow_sub-result
-overflow_sub-result c = omega (arith, (neg c).small, ap nat_abs (below_is (neg c)))
-
-pub returns-then-z-lt0 : goal.returns-then-z-lt0
-returns-then-z-lt0 c = record { value = omega (arith, ap nat_abs (below_is (neg c)), word_negative (neg c)) }
-
-pub overflow_cast-result-2 : goal.overflow_cast-result-2
-overflow_cast-result-2 c = plain_ok (not_neg c).is (not_neg c).small
 
 pub returns : goal.returns
-returns c = record { value = omega (arith, ap nat_abs (not_neg c).is, word_non_negative (not_neg c)) }
+returns c = record { value = c.cast_unsigned.ensures ∙ ap (of_z w64) (same w64 c.args.z c.ranges.z.sfits) ∙ complement c.args.z }
