@@ -7,15 +7,6 @@ use Rattle.cut_trace.proofs.unchecked_rings.leap.Goals as goal
 pub loop-d-init : goal.loop-d-init
 loop-d-init c = sought_none c.requires.begins
 
-pub overflow_add-d : goal.overflow_add-d
-overflow_add-d c = omega (arith, c.loop-d.invariant.upto, c.requires.few)
-
 pub loop-d-preserved : goal.loop-d-preserved
 loop-d-preserved c =
     sought_more c.loop-d.invariant (c.loop-d.d + 4) (omega arith) c.loop-d-test.true (c.no_links.ensures.sound c.if-no_links.true)
-
-pub returns-else-no_links : goal.returns-else-no_links
-returns-else-no_links c = record { sought = c.loop-d.invariant }
-
-pub returns-after-loop-d : goal.returns-after-loop-d
-returns-after-loop-d c = record { sought = c.loop-d.invariant }

@@ -4,19 +4,6 @@ use native.Mathlib.Omega.{arith}
 use Rattle.cut_trace.proofs.Seeking.{sought_more, one_none}
 use Rattle.cut_trace.proofs.unchecked_rings.seek.Goals as goal
 
-pub leap-d-requires : goal.leap-d-requires
-leap-d-requires c = c.requires
-
-pub loop-d-init : goal.loop-d-init
-loop-d-init c = c.leap-d.ensures.sought
-
-pub offset_bounds-links-d : goal.offset_bounds-links-d
-offset_bounds-links-d c = omega (arith, c.loop-d-test.true, c.requires.few)
-
-pub bounds-links-d : goal.bounds-links-d
-bounds-links-d c =
-    omega (arith, c.loop-d-test.true, c.requires.there)
-
 pub returns-then-links-d : goal.returns-then-links-d
 returns-then-links-d c = record {
   sought = c.loop-d.invariant;

@@ -1,10 +1,8 @@
 -- `unchecked_rings::walk` meets its contract.
-use mathlib.Core.Path.{refl, ap, ◌∙◌}
+use mathlib.Core.Path.{refl, ap}
 use native.Mathlib.Omega.{arith}
-use lib.ListN.{length-set}
 use Rattle.std.specs.Prelude.{Ok}
-use Rattle.section.specs.Section.{no_corner}
-use Rattle.cut_trace.proofs.RingWalking.{walking_start, names_length, links_length, c_inside, c_small, k_inside, d_inside, d_small}
+use Rattle.cut_trace.proofs.RingWalking.{walking_start, names_length, c_inside, c_small, k_inside, d_inside}
 use Rattle.cut_trace.proofs.RingWalking.{walking_next, walking_end, never_met}
 use Rattle.cut_trace.proofs.unchecked_rings.walk.Goals as goal
 
@@ -35,32 +33,13 @@ bounds-links-c-in-loop-start c = c_inside c.loop-start.invariant
 pub overflow_add-k : goal.overflow_add-k
 overflow_add-k c = let l = k_inside c.loop-start.invariant in omega arith
 
-pub shape_of-links-then-d-start : goal.shape_of-links-then-d-start
-shape_of-links-then-d-start c = let l = c.loop-start in length-set l.links l.c no_corner ∙ links_length l.invariant
-
-pub shape_of-names-then-d-start : goal.shape_of-names-then-d-start
-shape_of-names-then-d-start c = let l = c.loop-start in length-set l.names l.k l.c ∙ names_length l.invariant
-
 pub returns-then-d-start : goal.returns-then-d-start
 returns-then-d-start c =
     let e = walking_end c.loop-start.invariant refl c.if-d-start.true in
     record { value = ap Ok e.0; names_left = e.1.0; links_left = e.1.1 }
 
-pub offset_bounds-links-d : goal.offset_bounds-links-d
-offset_bounds-links-d c = omega (arith, d_small c.loop-start.invariant refl)
-
 pub bounds-links-d : goal.bounds-links-d
 bounds-links-d c = d_inside c.loop-start.invariant refl
-
-pub shape_of-links-then-links-d : goal.shape_of-links-then-links-d
-shape_of-links-then-links-d c =
-    let l = c.loop-start in
-    length-set l.links l.c no_corner ∙ links_length l.invariant
-
-pub shape_of-names-then-links-d : goal.shape_of-names-then-links-d
-shape_of-names-then-links-d c =
-    let l = c.loop-start in
-    length-set l.names l.k l.c ∙ names_length l.invariant
 
 pub returns-then-links-d : goal.returns-then-links-d
 returns-then-links-d c =
