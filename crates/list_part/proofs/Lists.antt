@@ -3,6 +3,7 @@ use Prim.Native.Nat.{ℕ, ◌*◌, ◌≤◌, ◌<◌}
 use mathlib.Core.Path.{◌≡◌, refl, sym, ap, ◌∙◌}
 use mathlib.Core.Bool.{false}
 use mathlib.Core.List.{List, []}
+use Rattle.std.specs.Prelude.{Some, None}
 use native.Mathlib.Omega.{arith}
 use borrow.Author.Tests.{lt-ltb, le-ltb}
 use lib.ListN.{length}
@@ -14,7 +15,6 @@ use Rattle.mesh.specs.OperationLaws.{whole_refused, whole_fine, verdict_one, aft
 use Rattle.cut.specs.Cut.{Lengths}
 use Rattle.list_decimals.specs.Texts.{PutsText}
 use Rattle.list_lines.specs.Limits.{held_entries, most_output}
-use Rattle.list_part.specs.declared.ListAnswer.TheVariants.{Length, Short}
 use Rattle.list_part.specs.Listing.{listed, short_list, Lists}
 use Rattle.list_part.specs.Steps.{ListingTables}
 
@@ -35,12 +35,12 @@ front {text} {output} v =
     ∙ overwrite_more text [] output 0 refl (omega (arith, v.within, v.ends))
 
 module _ {input output : List ℕ} where
-  pub too_short : length output < most_output → Lists input output Short output
+  pub too_short : length output < most_output → Lists input output None output
   too_short h =
       does_refuse (whole_refused (λ i. tt) _ (lt-ltb (length output) most_output h) ∙ verdict_one (short_list output)) refl refl
       (after_kept (λ r. false) (listed input) 0 0 output tt refl)
 
-  pub written : {n : ℕ} {output' : List ℕ} → most_output ≤ length output → PutsText output 0 (listed input) n output' → Lists input output (Length n) output'
+  pub written : {n : ℕ} {output' : List ℕ} → most_output ≤ length output → PutsText output 0 (listed input) n output' → Lists input output (Some n) output'
   written {n} h v =
       let size : n ≡ length (listed input) = omega (arith, v.ends) in
       does_give (whole_fine (λ i. tt) _ (le-ltb (length output) most_output h) ∙ verdict_one (short_list output)) refl (ap gives size)

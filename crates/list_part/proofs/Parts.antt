@@ -1,13 +1,14 @@
 -- The refusals of a part at each return of the code, and what a part without any gives.
-use Prim.Native.Nat.{ℕ, ◌≤◌, ◌<◌}
+use Prim.Native.Nat.{ℕ, ◌≤◌}
 use mathlib.Core.Path.{◌≡◌, refl, sym, ap, ◌∙◌, subst}
 use mathlib.Core.Bool.{Bool, true, false, ◌||◌}
 use mathlib.Core.List.{List, [], ◌∷◌, ◌++◌}
+use Rattle.std.specs.Prelude.{Result}
 use native.Mathlib.Omega.{arith}
 use lib.Dec.{ltb}
 use lib.ListN.{length, take, length-take}
-use borrow.Author.Tests.{lt-ltb, le-ltb, ltb-false, not-false}
-use Rattle.laws.specs.Booleans.{or_left, or_right, or_parts}
+use borrow.Author.Tests.{ltb-false, not-false}
+use Rattle.laws.specs.Booleans.{or_parts}
 use Rattle.laws.specs.TableLaws.{length_tabulate, get_d_tabulate, overwrite_front}
 use Rattle.mesh.specs.Corners.{vertex_count, triangle_count}
 use Rattle.mesh.specs.Meshes.{paired}
@@ -18,7 +19,7 @@ use Rattle.mesh.specs.Refusals.{Told, refusal, numbered}
 use Rattle.mesh.specs.Tests.{pairs}
 use Rattle.check_pairing.specs.Partners.{partner_of, pairing_of}
 use Rattle.check_pairing.proofs.PartnerLaws.{pairing_right}
-use Rattle.check_mesh.specs.declared.CheckAnswer.{CheckAnswer}
+use Rattle.mesh.specs.declared.Refusal.{Refusal}
 use Rattle.check_mesh.specs.Check.{CheckTables, check_tests, edge_tests, checking, tell_check, Checks}
 use Rattle.section.specs.Section.{Right}
 use Rattle.section.specs.RightLaws.{right_of}
@@ -47,22 +48,6 @@ module _ (p : Part) where
   abbrev more_vertices : Bool
   more_vertices = ltb held_vertices (vertex_count p.coords)
 
-  pub many_vertices : held_vertices < vertex_count p.coords → true ≡ beyond p
-  unfolding beyond
-  many_vertices h = sym (or_left more_vertices (more_triangles || ltb held_heights counted) (lt-ltb held_vertices (vertex_count p.coords) h))
-
-  pub many_triangles : held_triangles < triangle_count p.corners → true ≡ beyond p
-  unfolding beyond
-  many_triangles h =
-      sym (or_right more_vertices (more_triangles || ltb held_heights counted)
-      (or_left more_triangles (ltb held_heights counted) (lt-ltb held_triangles (triangle_count p.corners) h)))
-
-  pub by_heights : {n : ℕ} → vertex_count p.coords ≤ held_vertices → triangle_count p.corners ≤ held_triangles
-      → n ≡ length (heights_taken p.coords p.heights) → ltb held_heights n ≡ beyond p
-  unfolding beyond
-  by_heights {n} h g e =
-      ap (ltb held_heights) e ∙ sym (simp (le-ltb held_vertices (vertex_count p.coords) h, le-ltb held_triangles (triangle_count p.corners) g))
-
   pub within : beyond p ≡ false → (vertex_count p.coords ≤ held_vertices) × (triangle_count p.corners ≤ held_triangles)
       × (length (heights_taken p.coords p.heights) ≤ held_heights)
   unfolding beyond
@@ -79,18 +64,18 @@ module _ (p : Part) where
   pub limit_stop : {pairing pairing' : List ℕ} → beyond p ≡ true → PartTested p pairing (refuses (refusal 1 0)) pairing'
   limit_stop e = record { is = verdict_stop (limits p) _ (whole_refused (refusal 1) (beyond p) e) refl; pairs = apart }
 
-  module _ {t t' : CheckTables} {result : CheckAnswer} (e : beyond p ≡ false) (k : Checks (part_mesh p) t result t')
+  module _ {t t' : CheckTables} {result : Result Unit Refusal} (e : beyond p ≡ false) (k : Checks (part_mesh p) t result t')
       (lp : length t.pairing ≡ held_entries) (lo : length t.order ≡ held_entries) where
     same : verdict (checking (part_mesh p, t)).refusals ≡ verdict (part_check_tests p)
     same = λ i. verdict (check_tests (part_mesh p) (lp i) (lo i) ++ edge_tests p.corners)
 
-    pub check_stop : {r : Told} → tell_check result ≡ refuses r → PartTested p t.pairing (refuses r) t'.pairing
-    check_stop {r} g =
+    pub check_stop : {r : Told} {f : Finding Told} → tell_check result ≡ refuses r → f ≡ refuses r → PartTested p t.pairing f t'.pairing
+    check_stop g is =
         record {
           is =
-              verdict_next (limits p) _ (whole_fine (refusal 1) (beyond p) e) refl
+              is ∙ verdict_next (limits p) _ (whole_fine (refusal 1) (beyond p) e) refl
               (join_stop (part_check_tests p) (falling_height p.heights ∷ []) (sym (refused_verdict k g) ∙ same) refl);
-          pairs = apart;
+          pairs = λ q. apart (sym is ∙ q);
         }
 
     pub heights_next : {f : Finding Told} → tell_check result ≡ gives tt → f ≡ test (falling_height p.heights)

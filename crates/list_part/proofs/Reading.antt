@@ -3,6 +3,9 @@ use Prim.Native.Nat.{ℕ, ◌*◌, ◌/◌, ◌≤◌, ◌<◌}
 use mathlib.Core.Path.{◌≡◌, refl, sym, ap, ◌∙◌, subst}
 use mathlib.Core.Bool.{Bool, true, false, cond}
 use mathlib.Core.List.{List, [], ◌∷◌}
+use Rattle.std.specs.Prelude.{Result, Ok, Err, MatchResult}
+use Rattle.std.specs.Result.{IsErrAnd}
+use Rattle.std.proofs.lemmas.Result.{err_from_is_err_and}
 use mathlib.Core.Logic.{⊎_elim}
 use native.Mathlib.Omega.{arith}
 use lib.ListN.{length, take, drop, length-append}
@@ -23,7 +26,7 @@ use Rattle.file_formats.specs.PartFile.{Part, PartRules, part_of}
 use Rattle.file_formats.specs.RoundTripLaws.{part_read_back, part_written_lem}
 use Rattle.file_formats.specs.WholeFiles.{form}
 use Rattle.file_formats.specs.WholeFileLaws.{form_refused, form_fine}
-use Rattle.read_part.specs.declared.ReadPartAnswer.{ReadPartAnswer}
+use Rattle.read_part.specs.declared.PartCounts.{PartCounts}
 use Rattle.read_part.specs.Parts.{part, PartSizes, part_sizes_of, read_part_room_for, part_in, part_counts, part_tests, tell_read_part, ReadsPart}
 use Rattle.read_part.proofs.PartLaws.{room_of, part_broken_inside, broken_verdict, held_part, short_verdict, fine_verdict, read_written}
 use Rattle.all_heights.specs.Heights.{heights_taken}
@@ -33,13 +36,11 @@ use Rattle.list_lines.specs.Limits.{most_input, held_entries}
 use Rattle.list_lines.specs.Lines.{refused_line, listing}
 use Rattle.list_part.specs.Listing.{paired_part, beyond, long_input, limits, part_refusals, refusals_of, bytes_of, listed}
 use Rattle.list_part.specs.Steps.{held_sizes, front_of, PartRead, part_listed, limited, Takes}
-use Rattle.list_part.specs.declared.unchecked.Taken.{Taken}
-use Rattle.list_part.specs.declared.unchecked.Taken.TheVariants.{Counts, Refused}
 use Rattle.list_part.proofs.Parts.{within}
 
 -- ---- 1 for the input
 
-pub long_stop : (input : List ℕ) (tables : Part) → most_input < length input → Takes input (Refused (Size 0)) tables
+pub long_stop : (input : List ℕ) (tables : Part) → most_input < length input → Takes input (Err (Size 0)) tables
 unfolding Takes
 long_stop input tables h = sym (verdict_stop (long_input input) _ (whole_refused (refusal 1) _ (lt-ltb most_input (length input) h)) refl)
 
@@ -68,11 +69,15 @@ unfolding overwrite
 front vs t {t'} {n} e f =
     (omega (arith, ap length e, length-append vs (drop (length vs) t)), ap (take n) e ∙ overwrite_front vs t (sym f))
 
-module _ {input : List ℕ} {t t' : Part} {result : ReadPartAnswer} (k : ReadsPart input t result t') (bytes : Bytes input)
+module _ {input : List ℕ} {t t' : Part} {result : Result PartCounts Refusal} (k : ReadsPart input t result t') (bytes : Bytes input)
     (short : length input ≤ most_input) where
-  pub read_counts : {v n h : ℕ} → tell_read_part result ≡ gives (v, n, h) → Takes input (Counts v n h) t'
+  pub read_counts : (counts : PartCounts) → result ≡ Ok counts → Takes input (Ok counts) t'
   unfolding Takes after
-  read_counts {v} {n} {h} e =
+  read_counts counts f =
+      let v = counts.vertices in
+      let n = counts.triangles in
+      let h = counts.heights in
+      let e = ap tell_read_part f in
       let w = read_written k bytes e in
       let p = w.0 in
       let is : part_of input ≡ holds p = ap part_of w.2 ∙ part_read_back p w.1 in
@@ -93,7 +98,7 @@ module _ {input : List ℕ} {t t' : Part} {result : ReadPartAnswer} (k : ReadsPa
 
   -- a refusal of Read part, by what the file holds
   pub read_stop : (q : Refusal) {r : Told} → part_sizes_of t ≡ held_sizes → tell_read_part result ≡ refuses r → told_of q ≡ limited r
-      → Takes input (Refused q) t'
+      → Takes input (Err q) t'
   unfolding Takes limited
   read_stop q {r} sizes e f = by (part_of input) refl ∙ ap refuses (sym f)
     where
@@ -116,6 +121,18 @@ module _ {input : List ℕ} {t t' : Part} {result : ReadPartAnswer} (k : ReadsPa
               (verdict_stop (limits (part_in input)) _ (whole_refused (refusal 1) _ over) refl)))
               ∙ ap (λ (s : Told). refuses (limited s)) (same_refusal (sym (short_verdict input held_sizes h g) ∙ said))
 
+  -- so what is told where a refusal is limited
+  pub read_taken : part_sizes_of t ≡ held_sizes → (met : Result PartCounts Refusal)
+      → MatchResult result (λ c. met ≡ Ok c) (λ r. IsErrAnd met (λ q. told_of q ≡ limited (told_of r))) → Takes input met t'
+  read_taken sizes met = by result refl
+    where
+      by : (answer : Result PartCounts Refusal) → result ≡ answer
+          → MatchResult answer (λ c. met ≡ Ok c) (λ r. IsErrAnd met (λ q. told_of q ≡ limited (told_of r))) → Takes input met t'
+      by (Ok c) e is = subst (λ (a : Result PartCounts Refusal). Takes input a t') (sym is) (read_counts c e)
+      by (Err r) e is =
+          let p = err_from_is_err_and met is in
+          subst (λ (a : Result PartCounts Refusal). Takes input a t') (sym p.1) (read_stop p.0 sizes (ap tell_read_part e) p.2)
+
 -- ---- 9 of Read part
 
 module _ (r : Refusal) {n : ℕ} (is : n ≡ (told_of r).number) where
@@ -129,10 +146,10 @@ module _ (r : Refusal) {n : ℕ} (is : n ≡ (told_of r).number) where
 
 -- ---- what is written
 
-pub part_read_lem : (input : List ℕ) (result : Taken) (tables : Part) → Takes input result tables → {v t n : ℕ} → result ≡ Counts v t n
-    → PartRead input v t n tables
+pub part_read_lem : (input : List ℕ) (counts : PartCounts) (tables : Part) → Takes input (Ok counts) tables
+    → PartRead input counts.vertices counts.triangles counts.heights tables
 unfolding Takes
-part_read_lem input result tables k e = subst (λ (a : Taken). Takes input a tables) e k
+part_read_lem input counts tables k = k
 
 pub put_part : {input : List ℕ} {v t n : ℕ} {tables : Part} {l : List ℕ} {end : ℕ} {m : List ℕ} → PartRead input v t n tables
     → PutsText l 0 (part_listed (front_of v t n tables)) end m → PutsText l 0 (listed input) end m
@@ -142,9 +159,7 @@ put_part {input} {l = l} {end = end} {m = m} r w =
     let all = join_next (long_input input ∷ form input (part_of input) ∷ []) (part_refusals p) refl r.opens refl in
     subst (λ (a : List ℕ). PutsText l 0 a end m) (ap part_listed r.is ∙ (λ i. bytes_of (all i then gives (listing (paired_part p) p.heights)))) w
 
-pub put_stop : (input : List ℕ) (result : Taken) (tables : Part) → Takes input result tables → {r : Refusal} {l : List ℕ} {end : ℕ} {m : List ℕ}
-    → result ≡ Refused r → PutsText l 0 (refused_line (told_of r)) end m → PutsText l 0 (listed input) end m
+pub put_stop : (input : List ℕ) (r : Refusal) (tables : Part) → Takes input (Err r) tables → {l : List ℕ} {end : ℕ} {m : List ℕ}
+    → PutsText l 0 (refused_line (told_of r)) end m → PutsText l 0 (listed input) end m
 unfolding Takes listed
-put_stop input result tables k {r} {l} {end} {m} e w =
-    let said : verdict (refusals_of input) ≡ refuses (told_of r) = subst (λ (a : Taken). Takes input a tables) e k in
-    subst (λ (a : List ℕ). PutsText l 0 a end m) (ap bytes_of (then_refused _ said)) w
+put_stop input r tables said {l} {end} {m} w = subst (λ (a : List ℕ). PutsText l 0 a end m) (ap bytes_of (then_refused _ said)) w

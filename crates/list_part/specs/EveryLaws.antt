@@ -1,6 +1,6 @@
 -- None of All layers' refusals is left out of the list: with all of them the listing program would refuse the same inputs, by the same numbers at the same
 -- places.
-use Rattle.std.specs.Prelude.{ℕ, ◌*◌, ◌≤◌, ◌≡◌, true, not, ◌||◌, replicate, ℤ}
+use Rattle.std.specs.Prelude.{ℕ, ◌*◌, ◌≤◌, ◌≡◌, true, not, ◌||◌, replicate, ℤ, Ok}
 use Rattle.std.proofs.Math.Path.{refl, sym, ap}
 use Rattle.std.proofs.Common.{◌∙◌, arith}
 use mathlib.Core.List.{List, [], ◌∷◌, ◌++◌, map}
@@ -18,7 +18,6 @@ use Rattle.mesh.specs.Refusals.{Told}
 use Rattle.mesh.specs.Tests.{size, range, vertex, triangle, pairs, orders}
 use Rattle.check_mesh.specs.Check.{CheckTables, check_tables, check_room_for, check_tests, edge_tests, checking, Checks}
 use Rattle.check_mesh.specs.CheckLaws.{CheckPromise, check_promise}
-use Rattle.check_mesh.specs.declared.CheckAnswer.TheVariants.{Accepted}
 use Rattle.section.specs.Section.{Right}
 use Rattle.section.specs.RightLaws.{right_of}
 use Rattle.cut.specs.Cut.{lengths, cut_room_for as cutRoom}
@@ -75,7 +74,7 @@ module _ (p : Part) (l : Nowhere (limits p)) (c : None (part_check_tests p)) whe
   passes : verdict (checking (part_mesh p, check_tables zeros zeros)).refusals ≡ fine
   passes = (λ i. verdict (check_tests (part_mesh p) (sized i) (sized i) ++ edge_tests p.corners)) ∙ none_fine (part_check_tests p) c
 
-  checked : Checks (part_mesh p) (check_tables zeros zeros) Accepted (checked_tables p)
+  checked : Checks (part_mesh p) (check_tables zeros zeros) (Ok tt) (checked_tables p)
   checked = record { answers = then_fine passes; leaves = refl }
 
   promised : CheckPromise checked

@@ -1,6 +1,6 @@
 -- The listing program (LIST-1 to LIST-8): its refusals in order and what it
 -- writes for every input, and the function that writes it into an output.
-use Rattle.std.specs.Prelude.{ℕ, Bool, false, ◌||◌, List, [], ◌∷◌, ◌++◌, ltb, length}
+use Rattle.std.specs.Prelude.{ℕ, Bool, false, ◌||◌, List, [], ◌∷◌, ◌++◌, ltb, length, Option, Some, None}
 use Rattle.mesh.specs.Corners.{vertex_count, triangle_count}
 use Rattle.mesh.specs.Meshes.{Mesh, mesh, PairedMesh, paired}
 use Rattle.mesh.specs.Operation.{Answer, gives, refuses, Condition, whole, after, Operation, answer_of, Does}
@@ -13,8 +13,6 @@ use Rattle.read_part.specs.Parts.{part_in}
 use Rattle.all_heights.specs.Heights.{heights_taken, falling_height}
 use Rattle.list_lines.specs.Limits.{held_vertices, held_triangles, held_heights, most_input, held_entries, most_output}
 use Rattle.list_lines.specs.Lines.{refused_line, listing}
-use Rattle.list_part.specs.declared.ListAnswer.{ListAnswer}
-use Rattle.list_part.specs.declared.ListAnswer.TheVariants.{Length, Short}
 
 -- ---- the mesh of a part, and with the pairing that Check leaves
 
@@ -80,9 +78,9 @@ listing_into = λ (input, output). record {
 }
 
 -- what its answer says
-abbrev pub tell_list : ListAnswer → Answer Unit ℕ
-tell_list (Length n) = gives n
-tell_list Short = refuses tt
+abbrev pub tell_list : Option ℕ → Answer Unit ℕ
+tell_list (Some n) = gives n
+tell_list None = refuses tt
 
-abbrev pub Lists : List ℕ → List ℕ → ListAnswer → List ℕ → Type 0
+abbrev pub Lists : List ℕ → List ℕ → Option ℕ → List ℕ → Type 0
 Lists input output result output' = Does listing_into tell_list (input, output) result output'

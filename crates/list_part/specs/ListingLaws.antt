@@ -1,6 +1,6 @@
 -- What the program writes, and what the function promises: it refuses exactly if the output is too short, else what the program writes stands at its front;
 -- its outcome is the only one.
-use Rattle.std.specs.Prelude.{ℕ, ◌≤◌, ◌≡◌, refl, List, [], ◌∷◌, ◌↔◌, take, drop}
+use Rattle.std.specs.Prelude.{ℕ, ◌≤◌, ◌≡◌, refl, List, [], ◌∷◌, ◌↔◌, take, drop, Option, Some, None as TooShort}
 use Rattle.std.proofs.Common.{sym, ◌∙◌, arith, le-ltb}
 use Rattle.std.proofs.Math.Path.{ap}
 use Rattle.std.proofs.Math.ListN.{length, length-append}
@@ -13,8 +13,6 @@ use Rattle.mesh.specs.Refusals.{Told}
 use Rattle.read_part.specs.Parts.{part_in}
 use Rattle.list_lines.specs.Lines.{refused_line, listing}
 use Rattle.list_lines.specs.Limits.{most_output}
-use Rattle.list_part.specs.declared.ListAnswer.{ListAnswer}
-use Rattle.list_part.specs.declared.ListAnswer.TheVariants.{Length, Short}
 use Rattle.list_part.specs.Listing.{paired_part, refusals_of, bytes_of, listed, short_list, tell_list, Lists}
 
 -- ---- what is written: on refusal only its line, for the first condition that fits at its least place; else the listing
@@ -32,11 +30,11 @@ module _ (input : List ℕ) where
 
 pub list_recovers : Recovers tell_list
 list_recovers = record {
-  back = elim [ gives n ↦ Length n | refuses r ↦ Short ];
-  once = elim [ Length n ↦ refl | Short ↦ refl ];
+  back = elim [ gives n ↦ Some n | refuses r ↦ TooShort ];
+  once = elim [ Some n ↦ refl | TooShort ↦ refl ];
 }
 
-module _ {input output : List ℕ} {result : ListAnswer} {output' : List ℕ} (k : Lists input output result output') where
+module _ {input output : List ℕ} {result : Option ℕ} {output' : List ℕ} (k : Lists input output result output') where
   -- refused exactly if the output is too short, else the length of what is written; and one outcome only
   pub list_short : (tell_list result ≡ refuses tt) ↔ First (short_list output ∷ []) tt
   list_short = refused_exactly k tt
@@ -44,7 +42,7 @@ module _ {input output : List ℕ} {result : ListAnswer} {output' : List ℕ} (k
   pub list_given : (tell_list result ≡ gives (length (listed input))) ↔ None (short_list output ∷ [])
   list_given = given_exactly k
 
-  pub list_only : {other : ListAnswer} {other' : List ℕ} → Lists input output other other' → (result ≡ other) × (output' ≡ other')
+  pub list_only : {other : Option ℕ} {other' : List ℕ} → Lists input output other other' → (result ≡ other) × (output' ≡ other')
   list_only = only_outcome list_recovers k
 
   -- an output of so many bytes is always long enough

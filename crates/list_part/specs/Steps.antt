@@ -1,19 +1,19 @@
 -- What the steps of the listing program ask of their tables, and what they find of a part and of its file.
-use Rattle.std.specs.Prelude.{ℕ, ◌*◌, ◌≤◌, ◌≡◌, cond, List, [], ◌∷◌, eqb, length, take}
+use Rattle.std.specs.Prelude.{ℕ, ◌*◌, ◌≤◌, ◌≡◌, cond, List, [], ◌∷◌, eqb, length, take, Result, Ok, Err}
 use Rattle.laws.specs.Tables.{overwrite}
 use Rattle.mesh.specs.Operation.{Finding, refuses, fine, verdict, Operation, answer_of}
 use Rattle.mesh.specs.Refusals.{Told, refusal, told_of}
+use Rattle.mesh.specs.declared.Refusal.{Refusal}
 use Rattle.check_pairing.specs.Partners.{pairing_of}
 use Rattle.cut.specs.Cut.{Lengths}
 use Rattle.cut.specs.Outlines.{Long}
 use Rattle.file_formats.specs.PartFile.{Part, part_of}
 use Rattle.file_formats.specs.WholeFiles.{form}
 use Rattle.read_part.specs.Parts.{part, PartSizes, part_sizes, part_in}
+use Rattle.read_part.specs.declared.PartCounts.{PartCounts}
 use Rattle.list_lines.specs.Limits.{held_entries}
 use Rattle.list_lines.specs.Lines.{listing}
 use Rattle.list_part.specs.Listing.{paired_part, long_input, part_refusals, refusals_of, bytes_of}
-use Rattle.list_part.specs.declared.unchecked.Taken.{Taken}
-use Rattle.list_part.specs.declared.unchecked.Taken.TheVariants.{Counts, Refused}
 
 -- ---- the program's tables
 
@@ -61,6 +61,6 @@ unfoldable pub limited : Told → Told
 limited r = cond (eqb r.number 9) (refusal 1 0) r
 
 -- what reading answers
-unfoldable pub Takes : List ℕ → Taken → Part → Type 0
-Takes input (Counts v t k) tables = PartRead input v t k tables
-Takes input (Refused r) tables = verdict (refusals_of input) ≡ refuses (told_of r)
+unfoldable pub Takes : List ℕ → Result PartCounts Refusal → Part → Type 0
+Takes input (Ok c) tables = PartRead input c.vertices c.triangles c.heights tables
+Takes input (Err r) tables = verdict (refusals_of input) ≡ refuses (told_of r)

@@ -10,19 +10,13 @@ pub mod unchecked;
 // An output of so many bytes has room for every listing.
 pub const MOST_OUTPUT: usize = 23580;
 
-// How many bytes were written, or that the output is too short to be written to.
-#[derive(Drop)]
-pub enum ListAnswer {
-    Length(usize),
-    Short,
-}
-
-// Writes the listing of a part file, or the line of its refusal, into the front of an output (LIST-2 to LIST-8).
-pub fn list(input: &[u8], output: &mut [u8]) -> ListAnswer
+// Writes the listing of a part file, or the line of its refusal, into the front of an output (LIST-2 to LIST-8), and returns how many bytes that is.
+// None: the output is too short to be written to.
+pub fn list(input: &[u8], output: &mut [u8]) -> Option<usize>
     ensures outcome { Lists input.now output.old result output.new }
 {
     if output.len() < MOST_OUTPUT {
-        return ListAnswer::Short;
+        return None;
     }
     let mut coords = [0i32; 768];
     let mut corners = [0u32; 768];
@@ -46,5 +40,5 @@ pub fn list(input: &[u8], output: &mut [u8]) -> ListAnswer
         &mut marks,
         output,
     );
-    ListAnswer::Length(n)
+    Some(n)
 }

@@ -11,11 +11,11 @@ ghost use Rattle.list_part.specs.Steps.{held_sizes, ListingTables, PartTested, p
 ghost use Rattle.list_part.specs.Steps.{limited as Steps·limited};
 
 use all_heights::{heights_test, taken_count};
-use check_mesh::{CheckAnswer, check};
+use check_mesh::check;
 use list_lines::unchecked_lines::{list_layers, write_refusal};
+use mesh::Refusal;
 use mesh::refusals::number_of;
-use mesh::{Refusal, Verdict};
-use read_part::{ReadPartAnswer, read_part};
+use read_part::{PartCounts, read_part};
 
 // What the program takes (LIMIT-11) and holds (LIMIT-8 to LIMIT-10).
 const MOST_INPUT: usize = 8192;
@@ -26,25 +26,15 @@ const HELD_TRIANGLES: usize = 256;
 
 const HELD_HEIGHTS: usize = 256;
 
-// What reading a part answers: how many vertices, triangles and heights are in the tables, or a refusal.
-#[derive(Drop)]
-pub enum Taken {
-    Counts(usize, usize, usize),
-    Refused(Refusal),
-}
-
 // Whether a part is beyond what the program holds (LIST-2).
+#[tactic(auto, unfolding(crate::specs::Listing::beyond))]
 fn beyond(coords: &[i32], corners: &[u32], heights: &[i32]) -> bool
     ensures value { result ≡ Listing·beyond
         (part coords.now corners.now heights.now) }
 {
-    if HELD_VERTICES < coords.len() / 3 {
-        return true;
-    }
-    if HELD_TRIANGLES < corners.len() / 3 {
-        return true;
-    }
-    HELD_HEIGHTS < taken_count(coords, heights)
+    HELD_VERTICES < coords.len() / 3
+        || HELD_TRIANGLES < corners.len() / 3
+        || HELD_HEIGHTS < taken_count(coords, heights)
 }
 
 // The refusals of a part: the limits, the check, and 12 (LIST-5). Where there is none the pairing is made.
@@ -54,19 +44,16 @@ fn part_test(
     heights: &[i32],
     pairing: &mut [u32],
     order: &mut [u32],
-) -> Verdict
+) -> Result<(), Refusal>
     requires { (length pairing.old ≡ held_entries) × (length order.old ≡ held_entries) }
     ensures outcome { PartTested (part coords.now corners.now heights.now)
         pairing.old (tell_verdict result) pairing.new }
 {
     if beyond(coords, corners, heights) {
-        return Verdict::Refused(Refusal::Size(0));
+        return Err(Refusal::Size(0));
     }
-    let a = check(coords, corners, pairing, order);
-    match a {
-        CheckAnswer::Accepted => heights_test(heights),
-        CheckAnswer::Refused(r) => Verdict::Refused(r),
-    }
+    check(coords, corners, pairing, order)?;
+    heights_test(heights)
 }
 
 // Writes the listing of a part, or its refusal.
@@ -88,24 +75,21 @@ fn list_part(
     ensures outcome { PutsText output.old 0
         (part_listed (part coords.now corners.now heights.now)) result output.new }
 {
-    let v = part_test(coords, corners, heights, pairing, order);
-    match v {
-        Verdict::Fine => {
-            let n = corners.len();
-            list_layers(
-                coords,
-                corners,
-                &pairing[..n],
-                heights,
-                names,
-                points,
-                ends,
-                marks,
-                output,
-            )
-        }
-        Verdict::Refused(r) => write_refusal(output, r),
+    if let Err(r) = part_test(coords, corners, heights, pairing, order) {
+        return write_refusal(output, r);
     }
+    let n = corners.len();
+    list_layers(
+        coords,
+        corners,
+        &pairing[..n],
+        heights,
+        names,
+        points,
+        ends,
+        marks,
+        output,
+    )
 }
 
 // The refusal of a part that Read part refuses: 9 means that it is beyond the limits, and is 1 here (LIST-3).
@@ -119,19 +103,20 @@ fn limited(r: Refusal) -> Refusal
 }
 
 // Reads a part into the front of three tables.
-fn take_part(input: &[u8], coords: &mut [i32], corners: &mut [u32], heights: &mut [i32]) -> Taken
+fn take_part(
+    input: &[u8],
+    coords: &mut [i32],
+    corners: &mut [u32],
+    heights: &mut [i32],
+) -> Result<PartCounts, Refusal>
     requires { part_sizes_of (part coords.old corners.old heights.old) ≡ held_sizes }
     ensures outcome { Takes input.now result
         (part coords.new corners.new heights.new) }
 {
     if MOST_INPUT < input.len() {
-        return Taken::Refused(Refusal::Size(0));
+        return Err(Refusal::Size(0));
     }
-    let a = read_part(input, coords, corners, heights);
-    match a {
-        ReadPartAnswer::Counts(v, t, k) => Taken::Counts(v, t, k),
-        ReadPartAnswer::Refused(r) => Taken::Refused(limited(r)),
-    }
+    read_part(input, coords, corners, heights).map_err(limited)
 }
 
 // Writes what the program writes for an input, with tables of so many entries.
@@ -154,15 +139,14 @@ pub fn list_with(
     requires fact_3 { most_output ≤ length output.old }
     ensures outcome { PutsText output.old 0 (listed input.now) result output.new }
 {
-    let a = take_part(input, coords, corners, heights);
-    match a {
-        Taken::Counts(v, t, k) => {
-            let n = 3 * v;
-            let m = 3 * t;
+    match take_part(input, coords, corners, heights) {
+        Ok(counts) => {
+            let n = 3 * counts.vertices;
+            let m = 3 * counts.triangles;
             list_part(
                 &coords[..n],
                 &corners[..m],
-                &heights[..k],
+                &heights[..counts.heights],
                 pairing,
                 order,
                 names,
@@ -172,6 +156,6 @@ pub fn list_with(
                 output,
             )
         }
-        Taken::Refused(r) => write_refusal(output, r),
+        Err(r) => write_refusal(output, r),
     }
 }

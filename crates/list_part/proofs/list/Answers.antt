@@ -2,7 +2,6 @@
 use mathlib.Core.Path.{refl}
 use native.Mathlib.Omega.{arith}
 use Rattle.list_part.proofs.Lists.{zeros_held, too_short, written}
-use borrow.Author.Rules.{rules}
 use Rattle.list_part.proofs.list.Goals as goal
 
 pub returns-then-output-lt-MOST_OUTPUT : goal.returns-then-output-lt-MOST_OUTPUT

@@ -1,6 +1,5 @@
 -- `unchecked::limited` meets its contract.
 use Rattle.list_part.proofs.Reading.{for_nine, for_others}
-use borrow.Author.Rules.{rules}
 use Rattle.list_part.proofs.unchecked.limited.Goals as goal
 
 pub returns-then-number_of-eq9 : goal.returns-then-number_of-eq9
