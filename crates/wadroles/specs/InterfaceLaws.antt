@@ -1,10 +1,9 @@
 -- What a caller of the C interface knows of an operation's answer: for each function the number returned and `out`, of four numbers, say it whole. That the
 -- outcome is the only one is `exports_only` (wadroles/ExportLaws).
 use Prim.Native.Nat.{ℕ, zero, suc, ◌^◌, ◌<◌}
-use Rattle.std.specs.Prelude.{◌≡◌, cond, List, [], ◌∷◌, ◌++◌, map, eqb, length, get_or, ℤ, Float}
+use Rattle.std.specs.Prelude.{◌≡◌, cond, List, [], ◌∷◌, ◌++◌, map, eqb, length, get_or, ℤ, Float, Option, None, Some}
 use Rattle.std.proofs.Math.Path.{refl}
 use Rattle.std.proofs.Common.{sym, ◌∙◌, subst, arith}
-use Rattle.std.proofs.Math.Option.{Option, none, some}
 use Rattle.std.proofs.lemmas.List.Edits.{sets}
 use Rattle.std.specs.Float.{nan}
 use Rattle.std.specs.Int.Signed.{mag}
@@ -158,10 +157,10 @@ contour_only p q = (p.returns ∙ sym q.returns, p.writes ∙ sym q.writes)
 
 -- the call of a kind, with these floats
 abbrev pub call_read : ℕ → List Float → Option PathCall
-call_read zero xy = some (Move (get_or xy 0 nan) (get_or xy 1 nan))
-call_read (suc zero) xy = some (Line (get_or xy 0 nan) (get_or xy 1 nan))
-call_read (suc (suc zero)) xy = some Close
-call_read (suc (suc (suc k))) xy = none
+call_read zero xy = Some (Move (get_or xy 0 nan) (get_or xy 1 nan))
+call_read (suc zero) xy = Some (Line (get_or xy 0 nan) (get_or xy 1 nan))
+call_read (suc (suc zero)) xy = Some Close
+call_read (suc (suc (suc k))) xy = None
 
 -- the answer by the number returned, `out` and the floats
 abbrev pub preview_said : ℕ → List ℕ → List Float → Answer Told (Option PathCall)
@@ -182,10 +181,10 @@ module _ {t : FlatLayer} {o : Origin} {number : ℕ} {x y : Float} {a b c d n : 
       by : (f : Finding Told) → verdict (previewing (t, o, number)).refusals ≡ f → (g : Option PathCall) → n ≡ number_in (f then gives g)
           → out' ≡ out_after preview_words (f then gives g) (four_words a b c d) → xy' ≡ xy_after (f then gives g) (x ∷ y ∷ [])
           → preview_said n out' xy' ≡ (f then gives g)
-      by (gives tt) e (some (Move u v)) p w z = λ i. preview_said (p i) (w i) (z i)
-      by (gives tt) e (some (Line u v)) p w z = λ i. preview_said (p i) (w i) (z i)
-      by (gives tt) e (some Close) p w z = λ i. preview_said (p i) (w i) (z i)
-      by (gives tt) e none p w z = λ i. preview_said (p i) (w i) (z i)
+      by (gives tt) e (Some (Move u v)) p w z = λ i. preview_said (p i) (w i) (z i)
+      by (gives tt) e (Some (Line u v)) p w z = λ i. preview_said (p i) (w i) (z i)
+      by (gives tt) e (Some Close) p w z = λ i. preview_said (p i) (w i) (z i)
+      by (gives tt) e None p w z = λ i. preview_said (p i) (w i) (z i)
       by (refuses r) e g p w z =
           (λ i. preview_said (p i) (w i) (z i))
           ∙ told r.number r.place (refused_every Nonzero (previewing (t, o, number)).refusals r (has_one, (has_one, (has_one, tt))) e)

@@ -16,11 +16,7 @@ ghost use Rattle.preview.specs.Preview.{call_tables};
 ghost use Rattle.nesting.specs.Nesting.{nest_tables};
 
 use cleaning::Profile;
-use out_words::{
-    tell_all_layers, tell_area, tell_check, tell_clean, tell_cut, tell_ink, tell_layer,
-    tell_nesting, tell_preview, tell_preview_run, tell_read_layer, tell_read_part, tell_start,
-    tell_step,
-};
+use out_words::{tell, tell_preview, tell_step};
 use preview_floats::Origin;
 use sweep::State;
 
@@ -36,8 +32,8 @@ pub extern "C" fn wadroles_check(
         (check_tables pairing.old order.old) out.old result
         (check_tables pairing.new order.new) out.new }
 {
-    let a = check_mesh::check(coords, corners, pairing, order);
-    tell_check(a, out)
+    let checked = check_mesh::check(coords, corners, pairing, order);
+    tell(checked, out)
 }
 
 #[unsafe(no_mangle)]
@@ -56,8 +52,8 @@ pub extern "C" fn wadroles_cut(
         (lent names.old points.old ends.old marks.old) out.old result
         (lent names.new points.new ends.new marks.new) out.new }
 {
-    let a = cut::cut(coords, corners, pairing, h, names, points, ends, marks);
-    tell_cut(a, out)
+    let layer = cut::cut(coords, corners, pairing, h, names, points, ends, marks);
+    tell(layer, out)
 }
 
 #[unsafe(no_mangle)]
@@ -81,8 +77,8 @@ pub extern "C" fn wadroles_contour(
 pub extern "C" fn wadroles_area(points: &[i32], out: &mut [u64; 4]) -> u32
     ensures outcome { AreaC points.now out.old result out.new }
 {
-    let a = contours::area(points);
-    tell_area(a, out)
+    let measured = contours::area(points);
+    tell(measured, out)
 }
 
 #[unsafe(no_mangle)]
@@ -95,8 +91,8 @@ pub extern "C" fn wadroles_start(
     ensures outcome { StartC (mesh coords.now corners.now) ring.old
         out.old result ring.new out.new }
 {
-    let a = sweep::start(coords, corners, ring);
-    tell_start(a, out)
+    let started = sweep::start(coords, corners, ring);
+    tell(started, out)
 }
 
 #[unsafe(no_mangle)]
@@ -113,9 +109,9 @@ pub extern "C" fn wadroles_step(
         (ordered coords.now corners.now pairing.now order.now)
         ring.old passed) out.old result ring.new out.new }
 {
-    let s = State { passed: passed };
-    let a = sweep::step(coords, corners, pairing, order, ring, s);
-    tell_step(a, passed, out)
+    let s = State { passed };
+    let stepped = sweep::step(coords, corners, pairing, order, ring, s);
+    tell_step(stepped, passed, out)
 }
 
 #[unsafe(no_mangle)]
@@ -140,11 +136,11 @@ pub extern "C" fn wadroles_layer(
         ring.new (lent names.new points.new ends.new marks.new)
         out.new }
 {
-    let s = State { passed: passed };
-    let a = sweep_layer::layer(
+    let s = State { passed };
+    let risen = sweep_layer::layer(
         coords, corners, pairing, order, ring, s, h, names, points, ends, marks,
     );
-    tell_layer(a, out)
+    tell(risen, out)
 }
 
 #[unsafe(no_mangle)]
@@ -159,8 +155,8 @@ pub extern "C" fn wadroles_clean(
         (flat cleanpoints.old cleanends.old) out.old result
         (flat cleanpoints.new cleanends.new) out.new }
 {
-    let a = clean::clean(points, ends, cleanpoints, cleanends);
-    tell_clean(a, out)
+    let cleaned = clean::clean(points, ends, cleanpoints, cleanends);
+    tell(cleaned, out)
 }
 
 #[unsafe(no_mangle)]
@@ -186,7 +182,7 @@ pub extern "C" fn wadroles_all_layers(
         (work names.new points.new ends.new marks.new ring.new)
         output.new out.new }
 {
-    let a = all_layers::all_layers(
+    let filed = all_layers::all_layers(
         Profile::Full,
         coords,
         corners,
@@ -200,7 +196,7 @@ pub extern "C" fn wadroles_all_layers(
         ring,
         output,
     );
-    tell_all_layers(a, out)
+    tell(filed, out)
 }
 
 #[unsafe(no_mangle)]
@@ -226,7 +222,7 @@ pub extern "C" fn wadroles_all_layers_clean(
         (work names.new points.new ends.new marks.new ring.new)
         output.new out.new }
 {
-    let c = all_layers::all_layers(
+    let filed_clean = all_layers::all_layers(
         Profile::Clean,
         coords,
         corners,
@@ -240,7 +236,7 @@ pub extern "C" fn wadroles_all_layers_clean(
         ring,
         output,
     );
-    tell_all_layers(c, out)
+    tell(filed_clean, out)
 }
 
 #[unsafe(no_mangle)]
@@ -255,8 +251,8 @@ pub extern "C" fn wadroles_read_layer(
         (flat points.old ends.old) out.old result
         (flat points.new ends.new) out.new }
 {
-    let a = read_layer::read_layer(Profile::Full, file, i, points, ends);
-    tell_read_layer(a, out)
+    let read = read_layer::read_layer(Profile::Full, file, i, points, ends);
+    tell(read, out)
 }
 
 #[unsafe(no_mangle)]
@@ -271,8 +267,8 @@ pub extern "C" fn wadroles_read_layer_clean(
         (flat points.old ends.old) out.old result
         (flat points.new ends.new) out.new }
 {
-    let c = read_layer::read_layer(Profile::Clean, file, i, points, ends);
-    tell_read_layer(c, out)
+    let read_clean = read_layer::read_layer(Profile::Clean, file, i, points, ends);
+    tell(read_clean, out)
 }
 
 #[unsafe(no_mangle)]
@@ -287,8 +283,8 @@ pub extern "C" fn wadroles_read_part(
         (part coords.old corners.old heights.old) out.old result
         (part coords.new corners.new heights.new) out.new }
 {
-    let a = read_part::read_part(file, coords, corners, heights);
-    tell_read_part(a, out)
+    let part = read_part::read_part(file, coords, corners, heights);
+    tell(part, out)
 }
 
 #[unsafe(no_mangle)]
@@ -304,9 +300,9 @@ pub extern "C" fn wadroles_preview(
     ensures outcome { PreviewC (flat points.now ends.now) (origin_at x y) number
         xy.old out.old result xy.new out.new }
 {
-    let o = Origin { x: x, y: y };
-    let a = preview::preview(points, ends, o, number);
-    tell_preview(a, xy, out)
+    let o = Origin { x, y };
+    let shown = preview::preview(points, ends, o, number);
+    tell_preview(shown, xy, out)
 }
 
 #[unsafe(no_mangle)]
@@ -324,17 +320,17 @@ pub extern "C" fn wadroles_preview_run(
         (call_tables kinds.old xy.old) out.old result
         (call_tables kinds.new xy.new) out.new }
 {
-    let o = Origin { x: x, y: y };
-    let a = preview::preview_run(points, ends, o, number, kinds, xy);
-    tell_preview_run(a, out)
+    let o = Origin { x, y };
+    let drawn = preview::preview_run(points, ends, o, number, kinds, xy);
+    tell(drawn, out)
 }
 
 #[unsafe(no_mangle)]
 pub extern "C" fn wadroles_ink(file: &[u8], thickness: u32, out: &mut [u64; 4]) -> u32
     ensures outcome { InkC file.now thickness out.old result out.new }
 {
-    let a = ink::ink(file, thickness);
-    tell_ink(a, out)
+    let charged = ink::ink(file, thickness);
+    tell(charged, out)
 }
 
 #[unsafe(no_mangle)]
@@ -349,6 +345,6 @@ pub extern "C" fn wadroles_nesting(
         (nest_tables depths.old parents.old) out.old result
         (nest_tables depths.new parents.new) out.new }
 {
-    let a = nesting::nesting(points, ends, depths, parents);
-    tell_nesting(a, out)
+    let nested = nesting::nesting(points, ends, depths, parents);
+    tell(nested, out)
 }

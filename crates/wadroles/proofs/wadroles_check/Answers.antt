@@ -1,7 +1,12 @@
 -- `wadroles_check` meets its contract.
+use Rattle.out_words.specs.Words.{no_words}
+use Rattle.out_words.specs.WordLaws.{says_told}
 use Rattle.wadroles.specs.ExportLaws.{exports_told}
 use borrow.Author.Rules.{rules}
 use Rattle.wadroles.proofs.wadroles_check.Goals as goal
 
 pub returns : goal.returns
-returns c = record { outcome = exports_told c.check-a.ensures.outcome c.tell_check.ensures.outcome }
+returns c = record {
+  outcome = exports_told c.check-checked.ensures.outcome
+      (says_told {words = no_words} (λ _. tt) _ c.tell.ensures.outcome);
+}

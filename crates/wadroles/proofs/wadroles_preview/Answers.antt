@@ -1,6 +1,6 @@
 -- `wadroles_preview` meets its contract.
 use mathlib.Core.Path.{ap, ◌∙◌}
-use mathlib.Core.Option.{Option}
+use Rattle.std.specs.Prelude.{Option}
 use Rattle.mesh.specs.Operation.{Answer}
 use Rattle.mesh.specs.Refusals.{Told}
 use Rattle.preview.specs.declared.PathCall.{PathCall}
@@ -13,7 +13,7 @@ pub returns : goal.returns
 returns c =
     let xy = c.args.xy.now in record {
       outcome = record {
-        exports = exports_told c.preview-a.ensures.outcome c.tell_preview.ensures.outcome;
-        writes = c.tell_preview.ensures.left ∙ ap (λ (a : Answer Told (Option PathCall)). xy_after a xy) c.preview-a.ensures.outcome.answers;
+        exports = exports_told c.preview-shown.ensures.outcome c.tell_preview.ensures.outcome;
+        writes = c.tell_preview.ensures.left ∙ ap (λ (a : Answer Told (Option PathCall)). xy_after a xy) c.preview-shown.ensures.outcome.answers;
       };
     }

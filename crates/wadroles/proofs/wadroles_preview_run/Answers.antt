@@ -1,7 +1,12 @@
 -- `wadroles_preview_run` meets its contract.
+use Rattle.out_words.specs.Words.{one_word}
+use Rattle.out_words.specs.WordLaws.{says_told}
 use Rattle.wadroles.specs.ExportLaws.{exports_told}
 use borrow.Author.Rules.{rules}
 use Rattle.wadroles.proofs.wadroles_preview_run.Goals as goal
 
 pub returns : goal.returns
-returns c = record { outcome = exports_told c.preview_run-a.ensures.outcome c.tell_preview_run.ensures.outcome }
+returns c = record {
+  outcome = exports_told c.preview_run-drawn.ensures.outcome
+      (says_told {words = one_word} (λ v. v) _ c.tell.ensures.outcome);
+}

@@ -4,4 +4,4 @@ use borrow.Author.Rules.{rules}
 use Rattle.wadroles.proofs.wadroles_step.Goals as goal
 
 pub returns : goal.returns
-returns c = record { outcome = exports_told c.step-a.ensures.outcome c.tell_step.ensures.outcome }
+returns c = record { outcome = exports_told c.step-stepped.ensures.outcome c.tell_step.ensures.outcome }
