@@ -1,5 +1,5 @@
 -- After an unrefused Check nothing that it tested refuses Cut, Start, Step, Layer or All layers.
-use Rattle.std.specs.Prelude.{ℕ, ◌≤◌, ◌≡◌, true, not, List, [], ◌∷◌, ◌++◌, map, ◌⊎◌, length, ℤ}
+use Rattle.std.specs.Prelude.{ℕ, ◌≤◌, ◌≡◌, true, not, List, [], ◌∷◌, ◌++◌, map, ◌⊎◌, length, ℤ, Result, Option}
 use Rattle.std.proofs.Math.Path.{refl, subst}
 use Rattle.std.proofs.Common.{sym, ap, ◌∙◌, inl, inr, ⊎_elim, arith, le-ltb}
 use Rattle.laws.specs.Booleans.{clash, split_lt}
@@ -11,14 +11,14 @@ use Rattle.mesh.specs.OperationLaws.{verdict_join, join_next, given_exactly, ref
 use Rattle.mesh.specs.Refusals.{Told, refusal, numbered}
 use Rattle.check_mesh.specs.Check.{CheckTables, checking, tell_check, Checks}
 use Rattle.check_mesh.specs.CheckLaws.{check_promise}
-use Rattle.check_mesh.specs.declared.CheckAnswer.{CheckAnswer}
+use Rattle.mesh.specs.declared.Refusal.{Refusal}
+use Rattle.sweep.specs.declared.Risen.{Risen}
+use Rattle.sweep.specs.declared.State.{State}
 use Rattle.cleaning.specs.declared.Profile.{Profile}
 use Rattle.file_formats.specs.LayerFile.{most_layers}
 use Rattle.cut.specs.Cut.{CutTables, lengths_of, cut_room_for, used}
 use Rattle.sweep.specs.Sweep.{sweep, RingAt}
 use Rattle.sweep.specs.Operations.{step_tests, tell_step, Steps, risen_section, rise_tests, tell_layer, Rises}
-use Rattle.sweep.specs.declared.StepAnswer.{StepAnswer}
-use Rattle.sweep.specs.declared.LayerAnswer.{LayerAnswer}
 use Rattle.sweep.proofs.AnswerLaws.{rise_passed}
 use Rattle.all_heights.specs.Heights.{heights_taken, too_many_heights, falling_height}
 use Rattle.all_heights.specs.HeightLaws.{RisingHeights, rising_nowhere}
@@ -83,7 +83,7 @@ module _ (m : OrderedMesh) (right : None (right_tests m)) where
   corners = m.paired.mesh.corners
 
   -- Step: 10 or 11
-  step_left : {ring : List ℕ} {n : ℕ} {result : StepAnswer} {ring' : List ℕ} → Steps (sweep m ring n) result ring'
+  step_left : {ring : List ℕ} {n : ℕ} {result : Result (Option State) Refusal} {ring' : List ℕ} → Steps (sweep m ring n) result ring'
       → RefusedOnly (10 ∷ 11 ∷ []) (tell_step result)
   step_left {ring} {n} d =
       only_verdict d (10 ∷ 11 ∷ []) (λ r. refused_either (λ r. numbered (10 ∷ 11 ∷ []) r ≡ true) (step_tests m (length ring) n) (go right))
@@ -93,7 +93,7 @@ module _ (m : OrderedMesh) (right : None (right_tests m)) where
           (inl s, (inl r, (inl v, (inl x, (inl p, (inl o, (inr (λ i. refl), (inr (λ i. refl), tt))))))))
 
   -- Layer with room: 10, 11 or 12. Where these pass, so does 16
-  rise_left : {ring : List ℕ} {n : ℕ} {h : ℤ} {u u' : CutTables} {result : LayerAnswer} {ring' : List ℕ} → Rises (sweep m ring n) h u result ring' u'
+  rise_left : {ring : List ℕ} {n : ℕ} {h : ℤ} {u u' : CutTables} {result : Result Risen Refusal} {ring' : List ℕ} → Rises (sweep m ring n) h u result ring' u'
       → cut_room_for (length m.paired.mesh.corners) (lengths_of u) ≡ true → RefusedOnly (10 ∷ 11 ∷ 12 ∷ []) (tell_layer result)
   rise_left {ring} {n} {h} {u} d room =
       let s = sweep m ring n in
@@ -146,7 +146,7 @@ module _ (m : OrderedMesh) (right : None (right_tests m)) where
 
 -- ---- after Check
 
-module _ {m : Mesh} {t t' : CheckTables} {checked : CheckAnswer} (c : Checks m t checked t') (e : tell_check checked ≡ gives tt) where
+module _ {m : Mesh} {t t' : CheckTables} {checked : Result Unit Refusal} (c : Checks m t checked t') (e : tell_check checked ≡ gives tt) where
   -- the tests that Check and its tables pass
   pub checked_right : None (right_tests (with_left m t'))
   checked_right = go ((given_exactly c).0 e)

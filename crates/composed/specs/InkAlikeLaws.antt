@@ -1,5 +1,5 @@
 -- Ink of All layers' file, proved: in either profile the areas of a layer come to the same, and the swept file is that of the single cuts.
-use Rattle.std.specs.Prelude.{ℕ, ◌+◌, ◌≡◌, refl, List, [], ◌∷◌, map, ℤ}
+use Rattle.std.specs.Prelude.{ℕ, ◌+◌, ◌≡◌, refl, List, [], ◌∷◌, map, ℤ, Result}
 use Rattle.std.proofs.Common.{sym, ap, ◌∙◌, subst}
 use Rattle.mesh.specs.Meshes.{PairedMesh}
 use Rattle.mesh.specs.Operation.{gives, ◌then◌, verdict}
@@ -15,7 +15,7 @@ use Rattle.file_formats.specs.LayerFile.{Layer, layers_of, layers_of_in}
 use Rattle.file_formats.specs.CleanFileLaws.{layers_full}
 use Rattle.file_formats.specs.WholeFileLaws.{held_or_is, form_next}
 use Rattle.read_layer.specs.ReadingLaws.{layers_broken_inside}
-use Rattle.ink.specs.declared.InkAnswer.{InkAnswer}
+use Rattle.mesh.specs.declared.Refusal.{Refusal}
 use Rattle.ink.specs.Charges.{layer_charge, job_charge}
 use Rattle.ink.specs.Inking.{wrong_thickness, tell_ink, Inks}
 use Rattle.ink.specs.InkLaws.{ink_recovers, ink_charges, thickness_in}
@@ -41,14 +41,14 @@ charge_in t p m (h ∷ hs) = λ i. layer_charge t (area_in p (cut_layer m h).con
 
 -- ---- Ink of a file that holds layers
 
-inked_held : {file : List ℕ} {ls : List Layer} → layers_of file ≡ holds ls → {t : ℕ} {result : InkAnswer} → Inks file t result
+inked_held : {file : List ℕ} {ls : List Layer} → layers_of file ≡ holds ls → {t : ℕ} {result : Result ℕ Refusal} → Inks file t result
     → tell_ink result ≡ (verdict (wrong_thickness t ∷ []) then gives (job_charge t ls))
 inked_held {file} e {t} d =
     d.answers
     ∙ (λ i. form_next 13 file (layers_of file) (layers_broken_inside Full file) (wrong_thickness t ∷ []) e i then gives (job_charge t (held_or_is [] e i)))
 
 -- of the file of the single cuts, in either profile
-cuts_inked : (q : Profile) (m : PairedMesh) (hs : List ℤ) → layers_of_in q (cut_file q m hs) ≡ holds (map (cut_in q m) hs) → {t : ℕ} {other : InkAnswer}
+cuts_inked : (q : Profile) (m : PairedMesh) (hs : List ℤ) → layers_of_in q (cut_file q m hs) ≡ holds (map (cut_in q m) hs) → {t : ℕ} {other : Result ℕ Refusal}
     → Inks (cut_file q m hs) t other → tell_ink other ≡ (verdict (wrong_thickness t ∷ []) then gives (job_charge t (map (cut_layer m) hs)))
 cuts_inked q m hs e {t} d =
     inked_held (layers_full q (cut_file q m hs) (map (cut_in q m) hs) e) d

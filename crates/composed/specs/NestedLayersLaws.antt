@@ -1,5 +1,5 @@
 -- Nesting of what Cut, Clean or Read layer gave, proved: what they give obeys the rules of a layer, so it passes the tests of one.
-use Rattle.std.specs.Prelude.{ℕ, ◌≡◌, refl, true, ◌⊎◌, length, ℤ}
+use Rattle.std.specs.Prelude.{ℕ, ◌≡◌, refl, true, ◌⊎◌, length, ℤ, Result}
 use Rattle.std.proofs.Common.{sym, ◌∙◌, subst, inl, inr, arith, le-leb}
 use Rattle.std.proofs.Math.Path.{ap}
 use Rattle.std.proofs.Math.Bool.{not}
@@ -22,7 +22,7 @@ use Rattle.clean.proofs.CleanLaws.{clean_passes}
 use Rattle.section.specs.Section.{Right}
 use Rattle.cut.proofs.CutLaws.{cut_right}
 use Rattle.all_sweep.specs.CutLayerLaws.{layer_rules}
-use Rattle.nesting.specs.declared.NestingAnswer.{NestingAnswer}
+use Rattle.mesh.specs.declared.Refusal.{Refusal}
 use Rattle.nesting.specs.Nesting.{NestTables, nest_room_for, no_nest_room, nesting_tests, FindsNesting}
 use Rattle.nesting.specs.HolderLaws.{length_polygons}
 use Rattle.nesting.specs.NestingLaws.{nesting_entries, unheld_alone}
@@ -33,7 +33,7 @@ use Rattle.composed.specs.NestedLayers.{NestsThese, NestsFront, CutNested, Clean
 
 -- ---- a layer that passes the tests of one
 
-module _ {t : FlatLayer} (l : LayerTested t) {u : NestTables} {result : NestingAnswer} {u' : NestTables} (d : FindsNesting t u result u') where
+module _ {t : FlatLayer} (l : LayerTested t) {u : NestTables} {result : Result Unit Refusal} {u' : NestTables} (d : FindsNesting t u result u') where
   tested_nests : NestsThese (polygons_of t) u result u'
   unfolding nest_room_for
   tested_nests =

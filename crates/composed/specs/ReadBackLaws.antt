@@ -1,6 +1,6 @@
 -- Read back, proved: the file is that of Cut's layers in the profile, which keep the rules, so Read layer reads them; a layer's points and ends are
 -- those in the tables of Cut, or of Clean.
-use Rattle.std.specs.Prelude.{ℕ, zero, suc, ◌*◌, ◌<◌, ◌≡◌, refl, length, get_or, take, drop, ℤ, pos}
+use Rattle.std.specs.Prelude.{ℕ, zero, suc, ◌*◌, ◌<◌, ◌≡◌, refl, length, get_or, take, drop, ℤ, pos, Result}
 use Rattle.std.proofs.Common.{sym, ap, ◌∙◌, arith}
 use mathlib.Core.List.{List, [], ◌∷◌, map, flatten}
 use Rattle.std.proofs.lemmas.List.{length-map}
@@ -16,10 +16,11 @@ use Rattle.cleaning.specs.declared.Profile.{Profile}
 use Rattle.cleaning.specs.declared.Profile.TheVariants.{Full, Clean}
 use Rattle.clean_layers.specs.Layers.{layer_front}
 use Rattle.clean.proofs.CleanLaws.{clean_holds}
-use Rattle.cut.specs.declared.CutAnswer.{CutAnswer}
+use Rattle.mesh.specs.declared.Refusal.{Refusal}
+use Rattle.polygons.specs.declared.LayerCounts.{LayerCounts}
+use Rattle.read_layer.specs.declared.LayerRead.{LayerRead}
 use Rattle.cut_points.specs.Points.{point_of}
 use Rattle.cut.specs.Cut.{CutTables, section, contours_of, tell_cut, Cuts}
-use Rattle.read_layer.specs.declared.ReadLayerAnswer.{ReadLayerAnswer}
 use Rattle.read_layer.specs.Reading.{layer_at, fills_layer, tell_read_layer}
 use Rattle.read_layer.specs.ReadingLaws.{read_held}
 use Rattle.file_formats.specs.LayerFile as files
@@ -41,7 +42,7 @@ pub record LayerHeld (l : files.Layer) (t : FlatLayer) (j k : ℕ) : Type 0 wher
   pub front : layer_front (j, k) t ≡ flat_of l.contours
 
 -- what Cut left
-pub cut_held : {m : PairedMesh} {h : ℤ} {t t' : CutTables} {cut : CutAnswer} {j k : ℕ} → Cuts m h t cut t' → tell_cut cut ≡ gives (j, k)
+pub cut_held : {m : PairedMesh} {h : ℤ} {t t' : CutTables} {cut : Result LayerCounts Refusal} {j k : ℕ} → Cuts m h t cut t' → tell_cut cut ≡ gives (j, k)
     → LayerHeld (cut_layer m h) (layer_left t') j k
 unfolding cut_layer after
 cut_held {m} {h} {t} {t'} {cut} {j} {k} c e =
@@ -88,7 +89,7 @@ made Clean m h c = made_clean c
 -- ---- Read layer
 
 -- what Read layer left where it gave a layer that other tables hold
-reads_same : {l : files.Layer} {t : FlatLayer} {j k : ℕ} → LayerHeld l t j k → {n : ℕ} {h : ℤ} {u u' : FlatLayer} {result : ReadLayerAnswer}
+reads_same : {l : files.Layer} {t : FlatLayer} {j k : ℕ} → LayerHeld l t j k → {n : ℕ} {h : ℤ} {u u' : FlatLayer} {result : Result LayerRead Refusal}
     → tell_read_layer result ≡ gives (n, h, j, k) → u' ≡ fills_layer l u fine → ReadsSame n h j k t u result u'
 unfolding after
 reads_same {l} {t} {j} {k} held {u = u} {u' = u'} says filled =
