@@ -34,7 +34,8 @@ pub record NestsThese (cs : List (List Point)) (u : NestTables) (result : Result
 -- of j contours and k points in front of two tables
 abbrev pub NestsFront : FlatLayer → ℕ → ℕ → Type 0
 NestsFront t j k =
-    (u u' : NestTables) (result : Result Unit Refusal) → FindsNesting (layer_front (j, k) t) u result u' → NestsThese (polygons_of (layer_front (j, k) t)) u result u'
+    (u u' : NestTables) (result : Result Unit Refusal) → FindsNesting (layer_front (j, k) t) u result u'
+    → NestsThese (polygons_of (layer_front (j, k) t)) u result u'
 
 -- what Cut gave at a height of 32 bits, or Clean of that
 abbrev pub CutNested : Type 0
