@@ -15,10 +15,10 @@ fn meets_right(x: i32, y: i32, ax: i32, ay: i32, bx: i32, by: i32) -> bool
     requires { PointNear (point x y) × PointNear (point ax ay) × PointNear (point bx by) }
     ensures value { result ≡ meets_right (point x y) (point ax ay) (point bx by) }
 {
-    let up = by as i64 - ay as i64;
-    let over = bx as i64 - ax as i64;
-    let rest = y as i64 - ay as i64;
-    let right = x as i64 - ax as i64;
+    let up = i64::from(by) - i64::from(ay);
+    let over = i64::from(bx) - i64::from(ax);
+    let rest = i64::from(y) - i64::from(ay);
+    let right = i64::from(x) - i64::from(ax);
     right * up < over * rest
 }
 
