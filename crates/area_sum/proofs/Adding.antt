@@ -1,4 +1,4 @@
--- One trapezoid more: coordinates of 32 bits as ones of 64, the result of `trapezoid`, and the sum with it.
+-- One trapezoid more: points made wider, the result of `trapezoid`, and the sum with it.
 use Prim.Native.Nat.{ℕ, ◌+◌, ◌*◌, ◌^◌, ◌≤◌, ◌<◌}
 use mathlib.Core.Path.{◌≡◌, refl, sym, ◌∙◌}
 use mathlib.Core.Bool.{true, false}
@@ -6,47 +6,45 @@ use lib.IntN.{ℤ, pos, nat_abs, ◌+ℤ◌, ◌-ℤ◌, ◌*ℤ◌}
 use lib.Signed.{mag}
 use mir.Syntax.{w32, w64}
 use mir.Val.{SFits, to_z, of_z}
-use Rattle.laws.specs.Machine.{Rd, small, got, cast, cast_ok, add, add_ok}
+use Rattle.laws.specs.Machine.{Rd, small, got, same, same_in, add, add_ok}
 use Rattle.mesh.specs.Corners.{largest, most_points}
 use Rattle.polygons.specs.Flat.{Point, point, PointNear}
 use Rattle.polygons.specs.ContourAreas.{largest_cross}
 use Rattle.area_sum.specs.declared.AreaSum.{AreaSum}
 use Rattle.area_sum.specs.Summing.{trapezoid_points, way_start, first_summed, summed, summing, closing, SumSmall}
 
--- ---- a coordinate, widened
+-- ---- a point, made wider
 
--- the number of 64 bits that a coordinate is widened to
-abbrev pub widened : ℤ → ℤ
-widened z = to_z w64 (of_z w64 (to_z w32 (of_z w32 z)))
+-- a number that is written to a local of 64 bits and read back
+abbrev pub held : ℤ → ℤ
+held z = to_z w64 (of_z w64 z)
 
-abbrev number : (z : ℤ) → nat_abs z ≤ largest → Rd w32 z largest
-number z h = small h tt
+pub narrow_is : (z : ℤ) → nat_abs z ≤ largest → to_z w32 (of_z w32 z) ≡ z
+narrow_is z h = same_in w32 z largest h tt
 
-module _ (z : ℤ) (h : nat_abs z ≤ largest) where
-  pub wide_fits : SFits w64 (to_z w32 (of_z w32 z))
-  wide_fits = cast_ok (number z h) tt
+-- x and y are the coordinates of p, a point in range
+pub record Wider (p : Point) (x y : ℤ) : Type 0 where
+  pub near : PointNear p
+  pub x_is : held x ≡ p.x
+  pub y_is : held y ≡ p.y
 
-  pub wide_is : widened z ≡ z
-  wide_is = let r : Rd w64 z largest = cast (number z h) tt in r.is
+pub made_wider : {p : Point} {x y : ℤ} → PointNear p → mag x < 2 ^ 63 → mag y < 2 ^ 63 → x ≡ to_z w32 (of_z w32 p.x) → y ≡ to_z w32 (of_z w32 p.y)
+    → Wider p x y
+made_wider {p} {x} {y} h f g d e =
+    record { near = h; x_is = same w64 x f ∙ d ∙ narrow_is p.x h.0; y_is = same w64 y g ∙ e ∙ narrow_is p.y h.1 }
 
-  wide_near : nat_abs (widened z) ≤ largest
-  wide_near = rw wide_is h
+module _ {p q : Point} {x y u v : ℤ} (a : Wider p x y) (b : Wider q u v) where
+  -- what `trapezoid` asks of the edge from p to q
+  pub edge_near : (nat_abs (held x) ≤ largest) × (nat_abs (held y) ≤ largest) × (nat_abs (held u) ≤ largest) × (nat_abs (held v) ≤ largest)
+  edge_near = (rw a.x_is a.near.0, rw a.y_is a.near.1, rw b.x_is b.near.0, rw b.y_is b.near.1)
 
-  pub narrow_is : to_z w32 (of_z w32 z) ≡ z
-  narrow_is = (number z h).is
+  -- and what it promises of its result
+  abbrev pub Trapezoid : ℤ → Type 0
+  Trapezoid z = z ≡ (held x -ℤ held u) *ℤ (held y +ℤ held v)
 
--- what `trapezoid` asks of the edge from p to q
-pub edge_near : (p q : Point) → PointNear p → PointNear q
-    → (nat_abs (widened p.x) ≤ largest) × (nat_abs (widened p.y) ≤ largest) × (nat_abs (widened q.x) ≤ largest) × (nat_abs (widened q.y) ≤ largest)
-edge_near p q h k = (wide_near p.x h.0, wide_near p.y h.1, wide_near q.x k.0, wide_near q.y k.1)
-
--- what `trapezoid` promises of its result, for the edge from p to q
-abbrev pub Trapezoid : Point → Point → ℤ → Type 0
-Trapezoid p q z = z ≡ (widened p.x -ℤ widened q.x) *ℤ (widened p.y +ℤ widened q.y)
-
-pub trapezoid_is : (p q : Point) → PointNear p → PointNear q → {z : ℤ} → Trapezoid p q z → z ≡ trapezoid_points p q
-unfolding trapezoid_points
-trapezoid_is p q h k e = e ∙ (λ i. (wide_is p.x h.0 i -ℤ wide_is q.x k.0 i) *ℤ (wide_is p.y h.1 i +ℤ wide_is q.y k.1 i))
+  pub trapezoid_is : {z : ℤ} → Trapezoid z → z ≡ trapezoid_points p q
+  unfolding trapezoid_points
+  trapezoid_is e = e ∙ (λ i. (a.x_is i -ℤ b.x_is i) *ℤ (a.y_is i +ℤ b.y_is i))
 
 -- ---- the sum
 
@@ -91,13 +89,11 @@ module _ (s : AreaSum) (p q : Point) {z : ℤ} (e : z ≡ s.sum +ℤ trapezoid_p
   point_first t = simp (e, t)
 
 -- after the last point p, closed by the trapezoids z to the first point and y from there to where the way began
-module _ (s : AreaSum) (p : Point) (w : SumSmall s) (h : PointNear p) where
-  pub closes : (z : ℤ) (f : mag z < 2 ^ 63) (g : nat_abs z ≤ 2 * largest_cross) → Trapezoid p (first_summed s) z
-      → (y : ℤ) (k : mag y < 2 ^ 63) (l : nat_abs y ≤ 2 * largest_cross)
-      → y ≡ (widened s.x -ℤ pos 0) *ℤ (widened s.y +ℤ pos 0)
+module _ (s : AreaSum) {p : Point} {a b u v : ℤ} (w : SumSmall s) (last : Wider p a b) (first : Wider (first_summed s) u v) where
+  pub closes : (z : ℤ) (f : mag z < 2 ^ 63) (g : nat_abs z ≤ 2 * largest_cross) → Trapezoid last first z
+      → (y : ℤ) (k : mag y < 2 ^ 63) (l : nat_abs y ≤ 2 * largest_cross) → y ≡ (held u -ℤ pos 0) *ℤ (held v +ℤ pos 0)
       → to_z w64 (of_z w64 (to_z w64 (sum_with w z f g).n +ℤ to_z w64 (of_z w64 y))) ≡ closing s p
   unfolding closing trapezoid_points
   closes z f g d y k l e =
-      let last : y ≡ trapezoid_points (first_summed s) way_start =
-      e ∙ (λ i. (wide_is s.x w.near.0 i -ℤ pos 0) *ℤ (wide_is s.y w.near.1 i +ℤ pos 0)) in
-      sum_twice w z f g y k l ∙ (λ i. s.sum +ℤ trapezoid_is p (first_summed s) h w.near d i +ℤ last i)
+      let back : y ≡ trapezoid_points (first_summed s) way_start = e ∙ (λ i. (first.x_is i -ℤ pos 0) *ℤ (first.y_is i +ℤ pos 0)) in
+      sum_twice w z f g y k l ∙ (λ i. s.sum +ℤ trapezoid_is last first d i +ℤ back i)

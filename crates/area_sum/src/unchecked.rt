@@ -20,7 +20,7 @@ pub fn sum_point(s: AreaSum, px: i32, py: i32, x: i32, y: i32) -> AreaSum
     requires { SumSmall s × PointNear (point px py) × PointNear (point x y) }
     ensures value { result ≡ summing s (point px py) (point x y) }
 {
-    let sum = s.sum + trapezoid(px as i64, py as i64, x as i64, y as i64);
+    let sum = s.sum + trapezoid(i64::from(px), i64::from(py), i64::from(x), i64::from(y));
     if s.begun {
         return AreaSum { sum, ..s };
     }
@@ -37,7 +37,7 @@ pub fn sum_closed(s: AreaSum, x: i32, y: i32) -> i64
     requires { SumSmall s × PointNear (point x y) }
     ensures value { result ≡ closing s (point x y) }
 {
-    let u = s.x as i64;
-    let v = s.y as i64;
-    s.sum + trapezoid(x as i64, y as i64, u, v) + trapezoid(u, v, 0, 0)
+    let u = i64::from(s.x);
+    let v = i64::from(s.y);
+    s.sum + trapezoid(i64::from(x), i64::from(y), u, v) + trapezoid(u, v, 0, 0)
 }

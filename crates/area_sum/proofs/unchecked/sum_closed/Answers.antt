@@ -1,30 +1,21 @@
 -- `unchecked::sum_closed` meets its contract.
 use native.Mathlib.Omega.{arith}
-use Rattle.polygons.specs.Flat.{Point, point}
+use Rattle.polygons.specs.Flat.{point}
 use Rattle.area_sum.specs.Summing.{first_summed}
-use Rattle.area_sum.proofs.Adding.{wide_fits, edge_near, sum_ok, sum_twice_ok, closes}
+use Rattle.area_sum.proofs.Adding.{Wider, made_wider, edge_near, sum_ok, sum_twice_ok, closes}
 use Rattle.area_sum.proofs.unchecked.sum_closed.Goals as goal
-use Rattle.area_sum.proofs.unchecked.sum_closed.Goals.{Start}
+use Rattle.area_sum.proofs.unchecked.sum_closed.Goals.{After-from-2}
 
-module _ (c : Start) where
-  abbrev last : Point
-  last = point c.args.x c.args.y
+-- the first point, and the last
+module _ (c : After-from-2) where
+  first : Wider (first_summed c.args.s) c.from-u.result c.from-v.result
+  first = made_wider c.requires.0.near c.from-u.type_inv c.from-v.type_inv c.from-u.ensures c.from-v.ensures
 
-pub overflow_cast-u : goal.overflow_cast-u
-overflow_cast-u c = wide_fits c.args.s.x c.requires.0.near.0
-
-pub overflow_cast-v : goal.overflow_cast-v
-overflow_cast-v c = wide_fits c.args.s.y c.requires.0.near.1
-
-pub overflow_cast-x : goal.overflow_cast-x
-overflow_cast-x c = wide_fits c.args.x c.requires.1.0
-
-pub overflow_cast-y : goal.overflow_cast-y
-overflow_cast-y c = wide_fits c.args.y c.requires.1.1
+  last : Wider (point c.args.x c.args.y) c.from.result c.from-2.result
+  last = made_wider c.requires.1 c.from.type_inv c.from-2.type_inv c.from.ensures c.from-2.ensures
 
 pub trapezoid-requires : goal.trapezoid-requires
-trapezoid-requires c =
-    edge_near (last (goal.at.trapezoid-requires c).Start) (first_summed c.args.s) c.requires.1 c.requires.0.near
+trapezoid-requires c = edge_near (last c) (first c)
 
 pub overflow_add-result : goal.overflow_add-result
 overflow_add-result c =
@@ -33,8 +24,8 @@ overflow_add-result c =
 
 pub trapezoid-requires-2 : goal.trapezoid-requires-2
 trapezoid-requires-2 c =
-    let near = c.requires.0.near in
-    let e = edge_near (first_summed c.args.s) (first_summed c.args.s) near near in
+    let near = first (goal.at.trapezoid-requires-2 c).After-from-2 in
+    let e = edge_near near near in
     (e.0, e.1, omega arith, omega arith)
 
 pub overflow_add-result-2 : goal.overflow_add-result-2
@@ -45,9 +36,10 @@ overflow_add-result-2 c =
 
 pub returns : goal.returns
 returns c =
+    let at = (goal.at.returns c).After-from-2 in
     let t = c.trapezoid in
     let u = c.trapezoid-2 in record {
-      value = closes c.args.s (last (goal.at.returns c).Start) c.requires.0 c.requires.1
+      value = closes c.args.s c.requires.0 (last at) (first at)
           t.result t.type_inv t.ensures.result.1 t.ensures.result.0
           u.result u.type_inv u.ensures.result.1 u.ensures.result.0;
     }
