@@ -14,12 +14,16 @@ use lib.IntN.{ℤ, pos, nat_abs, ◌+ℤ◌, ◌-ℤ◌, ◌*ℤ◌}
 use lib.Signed.{mag}
 use mir.Syntax.{w32, w64}
 use mir.Val.{SFits, to_z, of_z}
-use Rattle.laws.specs.Machine.{Rd, got, small, cast, cast_ok, add, add_ok}
+use Rattle.laws.specs.Machine.{Rd, got, same, same_in, add, add_ok}
 use Rattle.mesh.specs.Corners.{largest}
 use Rattle.contours.specs.Areas.{most_points, point_count, x_of, y_of, sum_of, area_of}
 use Rattle.contours.specs.AreaLaws.{sum_bound, area_none}
 use Rattle.contours.specs.Runs.{largest_cross, PointRun}
 use Rattle.contours.specs.TrapezoidLaws.{trapezoid_of, trapezoid_at, trapezoid_bound, area_trapezoids}
+
+-- a number that is written to a local of 64 bits and read back
+abbrev pub held : ℤ → ℤ
+held z = to_z w64 (of_z w64 z)
 
 -- (x, y) is point i
 pub record PointHeld (points : List ℤ) (i : ℕ) (x y : ℤ) : Type 0 where
@@ -40,19 +44,13 @@ area_empty [] e t = sym area_none
 area_empty (z ∷ points) e t = let none = eqb-true _ _ (sym e ∙ t) in absurd (omega (arith, none))
 
 module _ {points : List ℤ} (r : PointRun points) where
-  -- a number that was loaded, and widened
-  abbrev number : (i : ℕ) → Rd w32 (get_or points i (pos 0)) largest
-  number i = small (r.ranged i) tt
-
-  pub widened : (i : ℕ) → SFits w64 (to_z w32 (number i).n)
-  widened i = cast_ok (number i) tt
-
-  abbrev wide : (i : ℕ) → Rd w64 (get_or points i (pos 0)) largest
-  wide i = cast (number i) tt
-
-  -- a point that was loaded
-  pub loaded : (i : ℕ) → PointHeld points i (to_z w64 (wide (2 * i)).n) (to_z w64 (wide (2 * i + 1)).n)
-  loaded i = record { x_is = (wide (2 * i)).is; y_is = (wide (2 * i + 1)).is }
+  -- point i, loaded and made wider
+  pub loaded : (i : ℕ) {x y : ℤ} → mag x < 2 ^ 63 → mag y < 2 ^ 63 → x ≡ to_z w32 (of_z w32 (x_of points i)) → y ≡ to_z w32 (of_z w32 (y_of points i))
+      → PointHeld points i (held x) (held y)
+  loaded i {x} {y} f g d e =
+      let x_back = same_in w32 (x_of points i) largest (r.ranged (2 * i)) tt in
+      let y_back = same_in w32 (y_of points i) largest (r.ranged (2 * i + 1)) tt in
+      record { x_is = same w64 x f ∙ d ∙ x_back; y_is = same w64 y g ∙ e ∙ y_back }
 
   pub held_x : {i : ℕ} {x y : ℤ} → PointHeld points i x y → nat_abs x ≤ largest
   held_x {i} h = rw h.x_is (r.ranged (2 * i))
@@ -60,11 +58,11 @@ module _ {points : List ℤ} (r : PointRun points) where
   pub held_y : {i : ℕ} {x y : ℤ} → PointHeld points i x y → nat_abs y ≤ largest
   held_y {i} h = rw h.y_is (r.ranged (2 * i + 1))
 
-  pub start : {b : Bool} → b ≡ eqb (length points) 0 → b ≡ false → TrapezoidsSummed points (to_z w64 (wide 0).n) (to_z w64 (wide 1).n) (pos 0) 1
+  pub start : {b : Bool} {x y : ℤ} → b ≡ eqb (length points) 0 → b ≡ false → PointHeld points 0 x y → TrapezoidsSummed points x y (pos 0) 1
   unfolding sum_of
-  start e t =
+  start e t h =
       let some : 1 ≤ point_count points = omega (arith, r.even, eqb-false (length points) 0 (sym e ∙ t)) in
-      record { run = r; at = 0; next = refl; upto = some; held = loaded 0; sum_is = refl }
+      record { run = r; at = 0; next = refl; upto = some; held = h; sum_is = refl }
 
 -- in a turn, where the sum so far is held as bits
 module _ {points : List ℤ} {x y : ℤ} (sum : ℕ) {k : ℕ} (s : TrapezoidsSummed points x y (to_z w64 sum) k) where

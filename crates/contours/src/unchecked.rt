@@ -13,14 +13,14 @@ pub fn doubled_area(points: &[i32]) -> i64
     if points.is_empty() {
         return 0;
     }
-    let x0 = points[0] as i64;
-    let y0 = points[1] as i64;
+    let x0 = i64::from(points[0]);
+    let y0 = i64::from(points[1]);
     let mut x = x0;
     let mut y = y0;
     let mut sum: i64 = 0;
     for k in 1..points.len() / 2 {
-        let u = points[2 * k] as i64;
-        let v = points[2 * k + 1] as i64;
+        let u = i64::from(points[2 * k]);
+        let v = i64::from(points[2 * k + 1]);
         sum += trapezoid(x, y, u, v);
         x = u;
         y = v;
