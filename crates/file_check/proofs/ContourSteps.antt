@@ -1,7 +1,7 @@
 -- Contours one by one: a lemma for each return of `check_contour`, `check_contours` and `check_counted`.
 use mathlib.Core.Path.{◌≡◌, refl, sym, ap, ◌∙◌, subst}
 use Rattle.std.specs.Prelude.{Result, Ok, Err}
-use mathlib.Core.Bool.{Bool, true, false}
+use mathlib.Core.Bool.{true, false}
 use mathlib.Core.List.{List, [], ◌∷◌}
 use Prim.Native.Nat.{ℕ, suc, ◌+◌, ◌-◌, ◌*◌, ◌<◌, ◌≤◌}
 use native.Mathlib.Omega.{arith}
@@ -29,7 +29,6 @@ use Rattle.file_formats.specs.SequenceLaws.{parsed_length}
 use Rattle.file_formats.specs.declared.Broken.{Broken}
 use Rattle.file_check.specs.declared.PointsEnd.{PointsEnd}
 use Rattle.file_check.specs.declared.ContoursEnd.{ContoursEnd}
-use Rattle.file_check.specs.declared.CountsEnd.{CountsEnd}
 use Rattle.file_check.specs.Answers.{points_at, points_end, contour_told_at, contour_end, contours_at, contours_end, counts_at, counts_end}
 use Rattle.file_check.specs.AnswerLaws.{told_parsed, told_off, told_bad, from_ok, from_off, contour_read, contour_off, contours_read_lem}
 use Rattle.file_check.specs.AnswerLaws.{ContoursTold, contours_off, room_left_lem, contours_by_count}
@@ -151,8 +150,8 @@ module _ (p : Profile) where
     pub small : nat_abs sum ≤ (most_points - room) * largest_cross
     pub run : Running contour_after adding counted off file (contours_at p count file at) (tally room sum) i left
 
-  pub contours_checked : (file : List ℕ) (at count : ℕ) → at ≤ length file → ContoursChecked file at count most_points (pos 0) at count
-  contours_checked file at count h =
+  all_left : (file : List ℕ) (at count : ℕ) → at ≤ length file → ContoursChecked file at count most_points (pos 0) at count
+  all_left file at count h =
       record {
         few = omega arith;
         small = omega arith;
@@ -164,6 +163,10 @@ module _ (p : Profile) where
     where
       no_more : (z : ℤ) → pos 0 +ℤ z ≡ z
       no_more z = omega (arith, ext, up-sum (pos 0) z)
+
+  pub contours_checked : (file : List ℕ) (at count : ℕ) {left : ℕ} → left ≡ count → at ≤ length file
+      → ContoursChecked file at count most_points (pos 0) at left
+  contours_checked file at count all h = rw all (all_left file at count h)
 
 module _ {p : Profile} {file : List ℕ} {at count room : ℕ} {sum : ℤ} {i left : ℕ} (w : ContoursChecked p file at count room sum i left) where
   pub contours_done : left ≤ 0 → Ok (record { at = i; room = room; area = sum }) ≡ contours_at p count file at

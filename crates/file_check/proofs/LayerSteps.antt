@@ -3,7 +3,7 @@ use mathlib.Core.Path.{◌≡◌, sym, ap, ◌∙◌, subst}
 use mathlib.Core.Bool.{true, false}
 use mathlib.Core.List.{List}
 use Rattle.std.specs.Prelude.{Result, Ok, Err}
-use Prim.Native.Nat.{ℕ, suc, ◌-◌, ◌<◌, ◌≤◌}
+use Prim.Native.Nat.{ℕ, suc, ◌<◌, ◌≤◌}
 use native.Mathlib.Omega.{arith}
 use lib.ListN.{length, drop}
 use lib.IntN.{ℤ}
@@ -11,7 +11,6 @@ use lib.Signed.{lt_z}
 use Rattle.cleaning.specs.declared.Profile.{Profile}
 use Rattle.file_formats.specs.Formats.{Format, refused, sequence}
 use Rattle.file_formats.specs.Numbers.{largest_word, unzigzag}
-use Rattle.polygons.specs.ContourAreas.{layer_area}
 use Rattle.file_formats.specs.LayerFile.{Layer, height_above, layer_format_in, height_of}
 use Rattle.file_formats.specs.LayerFileLaws.{height_bad, height_low, height_above_lem}
 use Rattle.file_formats.specs.Positions.{breaks_at, number_at, extent_at}
@@ -22,8 +21,8 @@ use Rattle.file_check.specs.declared.LayerEnd.{LayerEnd}
 use Rattle.file_check.specs.declared.LevelsEnd.{LevelsEnd}
 use Rattle.file_check.specs.Answers.{height_told_at, counts_at, layer_end, layer_told_at, levels_at, final}
 use Rattle.file_check.specs.AnswerLaws.{told_parsed, told_refused, told_off, Off, counts_read, levels_read, levels_off, final_off, final_over}
-use Rattle.file_check.specs.AnswerLaws.{final_whole, layer_told, layer_off, layer_no_height, height_breaks, height_inside, layer_no_contours, layer_read}
-use Rattle.file_check.specs.RunLaws.{Running, run_off, run_next}
+use Rattle.file_check.specs.AnswerLaws.{final_whole, layer_told, layer_off, layer_no_height, height_inside, layer_no_contours, layer_read}
+use Rattle.file_check.specs.RunLaws.{Running, running, run_off, run_next}
 
 -- ---- a height
 
@@ -78,6 +77,10 @@ off q = Err (breaks_at q)
 
 abbrev pub LayerRun : Profile → List ℕ → Result LevelsEnd Broken → ℤ → ℕ → ℕ → Type 0
 LayerRun p file total low i left = Running (layer_format_in p) height_of leveled off file total low i left
+
+pub layers_checked : (p : Profile) (file : List ℕ) (low : ℤ) (at count : ℕ) {left : ℕ} → left ≡ count → at ≤ length file
+    → LayerRun p file (levels_at p count low file at) low at left
+layers_checked p file low at count all h = rw all (running (layer_format_in p) height_of leveled off file low at count h)
 
 module _ (p : Profile) {file : List ℕ} {total : Result LevelsEnd Broken} {low : ℤ} {i left : ℕ} (w : LayerRun p file total low i left) where
   pub layer_stops : 0 < left → {b : Broken} → layer_told_at p low file i ≡ Err b → Err b ≡ total

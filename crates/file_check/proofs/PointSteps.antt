@@ -1,8 +1,7 @@
--- A coordinate by its number, and the points of a contour one by one: a lemma for each return of `read_coordinate`, `check_full_points` and
--- `check_clean_points`.
+-- A coordinate by its number, and the points of a contour one by one: a lemma for each return of `read_coordinate` and
+-- `check_watched`.
 use mathlib.Core.Path.{◌≡◌, refl, sym, ap, ◌∙◌}
 use Rattle.std.specs.Prelude.{Result, Ok, Err}
-use mathlib.Core.Bool.{Bool, true}
 use mathlib.Core.List.{List, [], ◌∷◌}
 use Prim.Native.Nat.{ℕ, suc, ◌-◌, ◌<◌, ◌≤◌}
 use native.Mathlib.Omega.{arith}
@@ -19,7 +18,7 @@ use Rattle.polygons.specs.Flat.{Point, point}
 use Rattle.cleaning.specs.Profiles.{fits_in}
 use Rattle.cleaning.specs.declared.Profile.{Profile}
 use Rattle.cleaning.specs.declared.Profile.TheVariants.{Full, Clean}
-use Rattle.clean_test.specs.Seeing.{unseen, seeing, seen_clean, seen_all}
+use Rattle.clean_test.specs.Seeing.{unseen, seen_clean, seen_all}
 use Rattle.clean_test.specs.SeeingLaws.{seen_clean_lem}
 use Rattle.clean_test.specs.declared.ContourSeen.{ContourSeen}
 use Rattle.polygons.specs.ContourAreas.{contour_area}
@@ -36,6 +35,7 @@ use Rattle.file_formats.specs.declared.Broken.{Broken}
 use Rattle.file_check.specs.Answers.{coordinate_at, points_at, points_end}
 use Rattle.file_check.specs.AnswerLaws.{told_parsed, told_refused, Off, coordinate_read, coordinate_off, coordinate_breaks}
 use Rattle.file_check.specs.declared.PointsEnd.{PointsEnd}
+use Rattle.file_check.specs.Watching.{seeing_in, seen_fits}
 use Rattle.file_check.specs.RunLaws.{Running, run_off, run_next, run_end, running_of}
 
 -- ---- coordinate range
@@ -87,16 +87,6 @@ sight x y seen sum = record { prior = point x y; seen = seen; sum = sum }
 
 abbrev pub begun : Sight
 begun = record { prior = origin; seen = unseen; sum = unsummed }
-
--- after one more point q, where p came before: only the clean profile asks
-abbrev pub seeing_in : Profile → ContourSeen → Point → Point → ContourSeen
-seeing_in Full s p q = s
-seeing_in Clean s p q = seeing s p q
-
--- after the last point p: the contour may stand in a file of the profile
-abbrev pub seen_fits : Profile → ContourSeen → Point → Bool
-seen_fits Full s p = true
-seen_fits Clean s p = seen_clean s p
 
 abbrev pub point_after : Sight → Format Point
 point_after s = point_format s.prior
@@ -162,10 +152,10 @@ points_begun p file at count h =
           (λ c next i. Ok (record { at = next; fits = shown_fits p c i; area = shown_area p c i })) h.0;
     }
 
-pub points_checked : (p : Profile) (file : List ℕ) (at count : ℕ) {seen : ContourSeen} {sum : AreaSum} → seen ≡ unseen → sum ≡ unsummed
-    → (at ≤ length file) × (count ≤ most_points)
-    → PointsChecked p file at count seen sum (pos 0) (pos 0) at count
-points_checked p file at count e f h = rw (e, f) (points_begun p file at count h)
+pub points_checked : (p : Profile) (file : List ℕ) (at count : ℕ) {seen : ContourSeen} {sum : AreaSum} {left : ℕ} → seen ≡ unseen → sum ≡ unsummed
+    → left ≡ count → (at ≤ length file) × (count ≤ most_points)
+    → PointsChecked p file at count seen sum (pos 0) (pos 0) at left
+points_checked p file at count e f all h = rw (e, f, all) (points_begun p file at count h)
 
 module _ {p : Profile} {file : List ℕ} {at count : ℕ} {seen : ContourSeen} {sum : AreaSum} {x y : ℤ} {i left : ℕ}
     (w : PointsChecked p file at count seen sum x y i left) where

@@ -3,6 +3,7 @@
 #![tactic(auto)]
 
 pub mod unchecked_position;
+mod watch;
 
 // The position after the points of a contour, whether it may stand in the profile, and its doubled area.
 #[derive(Clone, Copy, Debug, PartialEq, Eq)]

@@ -1,16 +1,16 @@
 // Checking a part of a layer file, from a position in it on.
 ghost use Rattle.std.specs.Prelude.{◌≡◌, ◌≤◌, length, nat_abs};
 ghost use Rattle.mesh.specs.Corners.{largest, most_points};
-ghost use Rattle.cleaning.specs.declared.Profile.TheVariants.{Full, Clean};
 ghost use Rattle.file_formats.specs.Formats.{sequence};
 ghost use Rattle.file_formats.specs.LayerFile.{layer_format_in, height_of};
 ghost use Rattle.file_formats.specs.Positions.{extent_at};
 ghost use Rattle.file_check.specs.Answers.{coordinate_at, points_at, height_told_at, contour_told_at, contours_at, counts_at, layer_told_at, levels_at, final};
 
+use crate::watch::{Unwatched, Watch};
 use crate::{ContoursEnd, CountsEnd, LayerEnd, LevelsEnd, PointsEnd};
 use area_sum::sum_none;
 use area_sum::unchecked::{sum_closed, sum_point};
-use clean_test::{see, see_none, seen_clean};
+use clean_test::ContourSeen;
 use cleaning::Profile;
 use file_formats::numbers::{read_number, signed_of};
 use file_formats::{Broken, LARGEST_WORD};
@@ -29,11 +29,13 @@ pub fn read_coordinate(file: &[u8], at: usize, before: i32) -> Result<(i32, usiz
     Ok((z as i32, next))
 }
 
-// Checks so many points of a contour of the full profile, in which any may stand, and adds up its area.
-fn check_full_points(file: &[u8], at: usize, count: u64) -> Result<PointsEnd, Broken>
+// Checks so many points of a contour, adds up its area and tells whether it may stand in the profile that the watch is for: a function of its own for
+// each, as a test of the profile at each point would slow the full one.
+fn check_watched<W: Watch>(file: &[u8], at: usize, count: u64) -> Result<PointsEnd, Broken>
     requires { (at ≤ length file.now) × (count ≤ most_points) }
-    ensures value { result ≡ points_at Full count file.now at }
+    ensures value { result ≡ points_at W.profile count file.now at }
 {
+    let mut watch = W::start();
     let mut sum = sum_none();
     let mut x: i32 = 0;
     let mut y: i32 = 0;
@@ -41,6 +43,7 @@ fn check_full_points(file: &[u8], at: usize, count: u64) -> Result<PointsEnd, Br
     for _ in 0..count {
         let (nx, j) = read_coordinate(file, i, x)?;
         let (ny, k) = read_coordinate(file, j, y)?;
+        watch = watch.pass(x, y, nx, ny);
         sum = sum_point(sum, x, y, nx, ny);
         x = nx;
         y = ny;
@@ -48,34 +51,8 @@ fn check_full_points(file: &[u8], at: usize, count: u64) -> Result<PointsEnd, Br
     }
     Ok(PointsEnd {
         at: i,
-        fits: true,
+        fits: watch.fits(x, y),
         area: sum_closed(sum, x, y),
-    })
-}
-
-// The same in the clean profile, where it is kept in mind what the points show. A loop of its own: a test of the profile at each point would slow the other.
-fn check_clean_points(file: &[u8], at: usize, count: u64) -> Result<PointsEnd, Broken>
-    requires { (at ≤ length file.now) × (count ≤ most_points) }
-    ensures value { result ≡ points_at Clean count file.now at }
-{
-    let mut seen = see_none();
-    let mut area = sum_none();
-    let mut x: i32 = 0;
-    let mut y: i32 = 0;
-    let mut i = at;
-    for _ in 0..count {
-        let (nx, k) = read_coordinate(file, i, x)?;
-        let (ny, next) = read_coordinate(file, k, y)?;
-        seen = see(seen, x, y, nx, ny);
-        area = sum_point(area, x, y, nx, ny);
-        x = nx;
-        y = ny;
-        i = next;
-    }
-    Ok(PointsEnd {
-        at: i,
-        fits: seen_clean(seen, x, y),
-        area: sum_closed(area, x, y),
     })
 }
 
@@ -90,8 +67,8 @@ pub fn check_points(
     ensures value { result ≡ points_at profile count file.now at }
 {
     match profile {
-        Profile::Full => check_full_points(file, at, count),
-        Profile::Clean => check_clean_points(file, at, count),
+        Profile::Full => check_watched::<Unwatched>(file, at, count),
+        Profile::Clean => check_watched::<ContourSeen>(file, at, count),
     }
 }
 

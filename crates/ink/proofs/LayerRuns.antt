@@ -47,9 +47,8 @@ module _ (t : ℕ) where
       pub thin : t ≤ most_thickness
       pub small : charge + left * most_charge ≤ most_layers * most_charge
 
-    pub run_start : {at count : ℕ} → at ≤ length file → count ≤ most_layers → t ≤ most_thickness
-        → ChargeRun (charges_at t count file at) lowest 0 at count
-    run_start {at} {count} h k n =
+    all_left : {at count : ℕ} → at ≤ length file → count ≤ most_layers → t ≤ most_thickness → ChargeRun (charges_at t count file at) lowest 0 at count
+    all_left {at} {count} h k n =
         record {
           run =
               running_of layer_format (λ s. s.0) charging height_of (λ s l. refl) told (λ ls next. Ok (job_charge t ls, next)) off
@@ -57,6 +56,10 @@ module _ (t : ℕ) where
           thin = n;
           small = omega arith;
         }
+
+    pub run_start : {at count left : ℕ} → left ≡ count → at ≤ length file → count ≤ most_layers → t ≤ most_thickness
+        → ChargeRun (charges_at t count file at) lowest 0 at left
+    run_start all h k n = rw all (all_left h k n)
 
 module _ {t : ℕ} {file : List ℕ} {total : Result (ℕ × ℕ) Broken} {low : ℤ} {charge i left : ℕ} (w : ChargeRun t file total low charge i left) where
   pub run_ends : left ≤ 0 → Ok (charge, i) ≡ total

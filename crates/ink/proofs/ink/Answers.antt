@@ -12,7 +12,7 @@ charged_at c =
     elim c.if-fits.branch [ then-fits w ↦ at_own e w.if-fits.true (w.t-is ∙ w.from-t.ensures) | else-fits w ↦ at_none e w.if-fits.false w.t-is ]
 
 pub charge_file-requires : goal.charge_file-requires
-charge_file-requires c = (charged_at c).low
+charge_file-requires c = (charged_at (goal.at.charge_file-requires c).Joined-fits).low
 
 pub returns-in_err-charge : goal.returns-in_err-charge
 returns-in_err-charge c = record { outcome = answers_broken _ _ _ c.in_err-charge.ensures.value (raised _ c.from_residual.ensures.1) }

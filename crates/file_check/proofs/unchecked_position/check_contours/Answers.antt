@@ -1,20 +1,17 @@
 -- `check_contours` meets its contract: the loop keeps the room that is left, and the areas up to there.
 use mathlib.Core.Path.{◌≡◌, sym, ◌∙◌}
 use native.Mathlib.Omega.{arith}
-use Prim.Native.Nat.{◌-◌}
 use Rattle.std.specs.Prelude.{Ok}
 use Rattle.mesh.proofs.Raising.{raised}
 use Rattle.file_check.specs.Answers.{contour_told_at}
-use Rattle.file_check.proofs.ContourSteps.{ContoursChecked, contours_checked, contours_done, sum_small, area_small, contour_stops, contour_passes}
+use Rattle.file_check.proofs.ContourSteps.{contours_checked, contours_done, sum_small, area_small, contour_stops, contour_passes}
 use Rattle.file_check.proofs.ContourSteps.{adding_fits, adding_is}
 use borrow.Author.Rules.{rules}
 use Rattle.file_check.proofs.unchecked_position.check_contours.Goals as goal
 use Rattle.file_check.proofs.unchecked_position.check_contours.Goals.{In_ok-c}
 
 pub loop-init : goal.loop-init
-loop-init c =
-    let all : c.args.count - 0 ≡ c.args.count = omega arith in
-    rw all (contours_checked c.args.profile _ _ _ c.requires)
+loop-init c = contours_checked c.args.profile _ _ _ (omega arith) c.requires
 
 pub check_contour-requires : goal.check_contour-requires
 check_contour-requires c = search (rules, c.loop.invariant.run.inside, c.loop.invariant.few)

@@ -5,7 +5,6 @@ use lib.IntN.{ℤ}
 use mir.Syntax.{w64}
 use mir.Val.{to_z, of_z}
 use mir.ValLaws.{to_z-of_z}
-use Prim.Native.Nat.{◌-◌}
 use Rattle.std.specs.Prelude.{Result}
 use Rattle.laws.specs.Machine.{same}
 use Rattle.mesh.proofs.Raising.{raised}
@@ -13,15 +12,13 @@ use Rattle.file_formats.specs.LayerFile.{layer_format_in, height_of}
 use Rattle.file_formats.specs.declared.Broken.{Broken}
 use Rattle.file_check.specs.Answers.{levels_at}
 use Rattle.file_check.specs.declared.LevelsEnd.{LevelsEnd}
-use Rattle.file_check.specs.RunLaws.{running, run_end}
-use Rattle.file_check.proofs.LayerSteps.{leveled, off, layer_stops, layer_passes}
+use Rattle.file_check.specs.RunLaws.{run_end}
+use Rattle.file_check.proofs.LayerSteps.{leveled, off, layers_checked, layer_stops, layer_passes}
 use Rattle.file_check.proofs.unchecked_position.check_layers.Goals as goal
 use Rattle.file_check.proofs.unchecked_position.check_layers.Goals.{Start}
 
 pub loop-init : goal.loop-init
-loop-init c =
-    let all : c.args.count - 0 ≡ c.args.count = omega arith in
-    rw all (running (layer_format_in c.args.profile) height_of leveled off _ _ _ _ c.requires)
+loop-init c = layers_checked c.args.profile _ _ _ _ (omega arith) c.requires
 
 -- `low` is what it was
 as-given : (c : Start) {t : Result LevelsEnd Broken}

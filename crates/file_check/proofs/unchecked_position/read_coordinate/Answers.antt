@@ -17,7 +17,6 @@ use Rattle.file_formats.specs.NumberLaws.{unzigzag_abs}
 use Rattle.file_formats.specs.Positions.{number_at}
 use Rattle.file_formats.specs.PositionLaws.{took}
 use Rattle.file_check.proofs.PointSteps.{too_low, too_high, coordinate_in_range, no_number, far, near}
-use borrow.Author.Rules.{rules}
 use Rattle.file_check.proofs.unchecked_position.read_coordinate.Goals as goal
 use Rattle.file_check.proofs.unchecked_position.read_coordinate.Goals.{After-signed_of}
 use Rattle.file_check.proofs.unchecked_position.read_coordinate.Goals.{then-z-lt-LEAST_COORDINATE_64-via-then-z-lt-LEAST_COORDINATE_64 as low}

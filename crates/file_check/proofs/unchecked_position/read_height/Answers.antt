@@ -12,7 +12,6 @@ use Rattle.file_formats.specs.NumberLaws.{unzigzag_abs}
 use Rattle.file_formats.specs.Positions.{number_at}
 use Rattle.file_formats.specs.PositionLaws.{took}
 use Rattle.file_check.proofs.LayerSteps.{no_height, not_above_lem, above}
-use borrow.Author.Rules.{rules}
 use Rattle.file_check.proofs.unchecked_position.read_height.Goals as goal
 use Rattle.file_check.proofs.unchecked_position.read_height.Goals.{After-signed_of-h}
 

@@ -17,8 +17,7 @@ use Rattle.ink.proofs.unchecked.charge_layers.Goals.{After-layer_charge-charge, 
 pub loop-init : goal.loop-init
 loop-init c =
     let given = c.requires in
-    let all : c.args.count - 0 ≡ c.args.count = omega arith in
-    rw all (run_start _ _ given.0 given.1 given.2)
+    run_start _ _ (omega arith) given.0 given.1 given.2
 
 pub check_layer-requires : goal.check_layer-requires
 check_layer-requires c = c.loop.invariant.run.inside
