@@ -1,5 +1,5 @@
 -- The answer: a lemma for each return of `ink`.
-use Prim.Native.Nat.{ℕ, ◌<◌, ◌≤◌}
+use Prim.Native.Nat.{ℕ, ◌≤◌}
 use mathlib.Core.Path.{◌≡◌, refl, sym, ap, ◌∙◌}
 use mathlib.Core.Bool.{Bool, true, false}
 use mathlib.Core.List.{List, []}
@@ -14,7 +14,7 @@ use Rattle.file_formats.specs.Formats.{Decoded, holds, broken}
 use Rattle.file_formats.specs.LayerFile.{Layer, layers_of}
 use Rattle.file_formats.specs.WholeFileLaws.{held_or_is}
 use Rattle.ink.specs.Charges.{job_charge}
-use Rattle.ink.specs.Inking.{least_thickness, most_thickness, thickness_fits, tell_ink, Inks}
+use Rattle.ink.specs.Inking.{most_thickness, thickness_fits, tell_ink, Inks}
 use Rattle.ink.specs.InkLaws.{thickness_in, ink_verdict_broken, ink_verdict_out, ink_verdict_fine}
 use Rattle.ink.specs.Steps.{charge_of}
 use Rattle.file_formats.specs.Positions.{breaks_at}

@@ -1,5 +1,5 @@
 -- `ink` meets its contract.
-use mathlib.Core.Path.{◌≡◌, sym, ◌∙◌}
+use mathlib.Core.Path.{sym, ◌∙◌}
 use Rattle.mesh.proofs.Raising.{raised}
 use Rattle.ink.proofs.Answering.{ChargedAt, at_own, at_none, answers_broken, answers_charge, answers_out}
 use Rattle.ink.proofs.ink.Goals as goal

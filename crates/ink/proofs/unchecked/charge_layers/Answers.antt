@@ -10,7 +10,7 @@ use Rattle.mesh.proofs.Raising.{raised}
 use Rattle.cleaning.specs.declared.Profile.TheVariants.{Full}
 use Rattle.file_check.specs.Answers.{layer_told_at}
 use Rattle.ink.specs.Charges.{layer_charge}
-use Rattle.ink.proofs.LayerRuns.{ChargeRun, run_start, run_ends, run_stops, sum_small, run_passes}
+use Rattle.ink.proofs.LayerRuns.{run_start, run_ends, run_stops, sum_small, run_passes}
 use Rattle.ink.proofs.unchecked.charge_layers.Goals as goal
 use Rattle.ink.proofs.unchecked.charge_layers.Goals.{After-layer_charge-charge, In_ok-l}
 

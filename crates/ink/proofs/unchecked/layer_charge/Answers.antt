@@ -5,7 +5,6 @@ use Prim.Native.Nat.{◌<◌, ◌^◌}
 use lib.IntN.{pos, nat_abs}
 use mir.Syntax.{w64}
 use mir.Val.{to_z, of_z}
-use borrow.Author.Rules.{rules}
 use Rattle.laws.specs.Machine.{fit, lit, lt_true, lt_false}
 use Rattle.laws.specs.SignLaws.{Negative, negative, NonNegative, non_negative, plain_ok}
 use Rattle.ink.proofs.LayerCharges.{product_fits, parts_fit, none_charged, charged}
