@@ -19,8 +19,10 @@ use Rattle.file_formats.specs.PositionLaws.{took}
 use Rattle.file_check.proofs.PointSteps.{too_low, too_high, coordinate_in_range, no_number, far, near}
 use Rattle.file_check.proofs.unchecked_position.read_coordinate.Goals as goal
 use Rattle.file_check.proofs.unchecked_position.read_coordinate.Goals.{After-signed_of}
-use Rattle.file_check.proofs.unchecked_position.read_coordinate.Goals.{then-z-lt-LEAST_COORDINATE_64-via-then-z-lt-LEAST_COORDINATE_64 as low}
-use Rattle.file_check.proofs.unchecked_position.read_coordinate.Goals.{then-z-lt-LEAST_COORDINATE_64-via-else-z-lt-LEAST_COORDINATE_64+then-z-gt-LARGEST_COORDINATE_64 as high}
+use Rattle.file_check.proofs.unchecked_position.read_coordinate.Goals.{
+  then-z-lt-LEAST_COORDINATE_64-via-then-z-lt-LEAST_COORDINATE_64 as low,
+  then-z-lt-LEAST_COORDINATE_64-via-else-z-lt-LEAST_COORDINATE_64+then-z-gt-LARGEST_COORDINATE_64 as high,
+}
 
 pub returns-in_err-m : goal.returns-in_err-m
 returns-in_err-m c = record { value = raised _ c.from_residual.ensures.1 ∙ no_number _ _ _ (sym c.in_err-m.ensures.value) }

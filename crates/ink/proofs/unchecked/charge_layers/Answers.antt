@@ -38,7 +38,8 @@ charged c = c.layer_charge-charge.ensures.value ∙ ap (layer_charge _) (same w6
 
 pub overflow_add-charge : goal.overflow_add-charge
 overflow_add-charge c =
-    omega (arith, sum_small c.loop.invariant {rest = c.args.count - (c.loop.counter + 1)} (omega arith) (told (goal.at.overflow_add-charge c).In_ok-l) (charged c))
+    let at = goal.at.overflow_add-charge c in
+    omega (arith, sum_small c.loop.invariant {rest = c.args.count - (c.loop.counter + 1)} (omega arith) (told at.In_ok-l) (charged c))
 
 pub loop-preserved : goal.loop-preserved
 loop-preserved c =
