@@ -1,8 +1,6 @@
 -- What the reading of an input answers: a position of a buffer, not before where it began.
-use Rattle.std.specs.Prelude.{ℕ, ◌≤◌}
-use Rattle.listing.specs.declared.ReadInputAnswer.{ReadInputAnswer}
-use Rattle.listing.specs.declared.ReadInputAnswer.TheVariants.{Bytes, Failed}
+use Rattle.std.specs.Prelude.{ℕ, ◌≤◌, Result, Ok, Err}
 
-abbrev pub Within : ℕ → ℕ → ReadInputAnswer → Type 0
-Within done size (Bytes n) = (done ≤ n) × (n ≤ size)
-Within done size Failed = Unit {0}
+abbrev pub Within : {E : Type 0} → ℕ → ℕ → Result ℕ E → Type 0
+Within done size (Ok n) = (done ≤ n) × (n ≤ size)
+Within done size (Err e) = Unit {0}
