@@ -2,8 +2,6 @@
 #![tactic(auto)]
 
 use crate::unchecked::rise;
-use all_sweep::AllLayersAnswer;
-use check_mesh::CheckAnswer;
 use cleaning::Profile;
 use list_lines::unchecked_lines::write_refusal;
 use mesh::Refusal;
@@ -27,10 +25,9 @@ fn check_coordinate<P: Print>(rt: &P, x: i32) -> io::Result<()> {
     let corners = [0u32; 1];
     let mut pairing = [0u32; 1];
     let mut order = [0u32; 1];
-    let a = check_mesh::check(&coords, &corners[..0], &mut pairing, &mut order);
-    match a {
-        CheckAnswer::Accepted => say(rt, b"passes\n"),
-        CheckAnswer::Refused(r) => say_refused(rt, r),
+    match check_mesh::check(&coords, &corners[..0], &mut pairing, &mut order) {
+        Ok(_) => say(rt, b"passes\n"),
+        Err(r) => say_refused(rt, r),
     }
 }
 
@@ -46,7 +43,7 @@ fn file_heights<P: Print>(rt: &P, heights: &[i32]) -> io::Result<()> {
     let mut marks = [0u32; 1];
     let mut ring = [0u32; 1];
     let mut output = [0u8; 16384];
-    let a = all_layers::all_layers(
+    let written = all_layers::all_layers(
         Profile::Full,
         &coords[..0],
         &corners[..0],
@@ -60,9 +57,9 @@ fn file_heights<P: Print>(rt: &P, heights: &[i32]) -> io::Result<()> {
         &mut ring,
         &mut output,
     );
-    match a {
-        AllLayersAnswer::Length(_) => say(rt, b"pass\n"),
-        AllLayersAnswer::Refused(r) => say_refused(rt, r),
+    match written {
+        Ok(_) => say(rt, b"pass\n"),
+        Err(r) => say_refused(rt, r),
     }
 }
 

@@ -5,9 +5,7 @@ ghost use Rattle.std.specs.Prelude.{◌≤◌, length};
 pub fn rise(heights: &mut [i32])
     requires { length heights.old ≤ 4097 }
 {
-    let mut i: usize = 0;
-    while i < heights.len() {
-        heights[i] = i as i32;
-        i += 1;
+    for (i, h) in heights.iter_mut().enumerate() {
+        *h = i as i32;
     }
 }
