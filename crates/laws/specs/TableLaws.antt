@@ -157,6 +157,6 @@ module _ {A : Type 0} where
   filled_front n x t l h e =
       let r : length (replicate n x) ≡ n = length-replicate n x in
       ap (λ (m : List A). m ++ drop n t) (e ∙ ap (λ (m : List A). overwrite m (take n t)) (tabulate_const n x)
-          ∙ ap (λ (m : List A). replicate n x ++ m) (drop_of_length-le (take n t) (omega (arith, r, length-take-le n t h)))
-          ∙ append-nil (replicate n x))
+      ∙ ap (λ (m : List A). replicate n x ++ m) (drop_of_length-le (take n t) (omega (arith, r, length-take-le n t h)))
+      ∙ append-nil (replicate n x))
       ∙ ap (λ (k : ℕ). replicate n x ++ drop k t) (sym r)
