@@ -1,6 +1,6 @@
 -- One trapezoid more: points made wider, the result of `trapezoid`, and the sum with it.
 use Prim.Native.Nat.{ℕ, ◌+◌, ◌*◌, ◌^◌, ◌≤◌, ◌<◌}
-use mathlib.Core.Path.{◌≡◌, refl, sym, ◌∙◌}
+use mathlib.Core.Path.{◌≡◌, refl, ◌∙◌}
 use mathlib.Core.Bool.{true, false}
 use lib.IntN.{ℤ, pos, nat_abs, ◌+ℤ◌, ◌-ℤ◌, ◌*ℤ◌}
 use lib.Signed.{mag}
@@ -8,7 +8,7 @@ use mir.Syntax.{w32, w64}
 use mir.Val.{SFits, to_z, of_z}
 use Rattle.laws.specs.Machine.{Rd, small, got, same, same_in, add, add_ok}
 use Rattle.mesh.specs.Corners.{largest, most_points}
-use Rattle.polygons.specs.Flat.{Point, point, PointNear}
+use Rattle.polygons.specs.Flat.{Point, PointNear}
 use Rattle.polygons.specs.ContourAreas.{largest_cross}
 use Rattle.area_sum.specs.declared.AreaSum.{AreaSum}
 use Rattle.area_sum.specs.Summing.{trapezoid_points, way_start, first_summed, summed, summing, closing, SumSmall}

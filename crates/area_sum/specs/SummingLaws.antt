@@ -1,6 +1,6 @@
 -- Laws of trapezoids: along the points of a contour and back to the first they come to its area, and how large they get on the way.
 use Rattle.std.specs.Prelude.{ℕ, ◌+◌, ◌*◌, ◌≤◌, ◌≡◌, refl, Bool, true, false, cond, List, [], ◌∷◌, ℤ, pos, nat_abs, ◌+ℤ◌, ◌-ℤ◌, ◌*ℤ◌}
-use Rattle.std.proofs.Common.{sym, ap, ◌∙◌, arith, mul-le-mul, mul-le-mul_right, le_trans}
+use Rattle.std.proofs.Common.{◌∙◌, arith, mul-le-mul, mul-le-mul_right, le_trans}
 use Rattle.laws.specs.Integers.{abs_add, abs_sub, abs_mul}
 use Rattle.laws.specs.Ring.{ring, x, #, ◌⊕◌, ◌⊖◌, ◌⊗◌}
 use Rattle.mesh.specs.Corners.{largest}
