@@ -45,6 +45,16 @@ decimal_pos n = by (ltb n 10) refl
     by true e = omega (arith, ap length (decimal_one n (ltb-true n 10 e)))
     by false e = omega (arith, length_more n (ltb-false n 10 e))
 
+pub ten_pos : (g : ℕ) → 1 ≤ 10 ^ g
+ten_pos zero = omega arith
+ten_pos (suc g) = omega (arith, ten_pos g)
+
+-- one that reaches 10 to the g takes at least g + 1
+pub decimal_long : (g n : ℕ) → 10 ^ g ≤ n → suc g ≤ length (decimal n)
+decimal_long zero n h = omega (arith, decimal_pos n)
+decimal_long (suc g) n h =
+    let some : 10 ≤ n = omega (arith, ten_pos g) in omega (arith, length_more n some, decimal_long g (n / 10) (omega arith))
+
 -- a sign takes one more
 pub signed_word_lem : (z : ℤ) → mag z < 2 ^ 63 → length (signed_decimal z) ≤ 21
 unfolding signed_decimal

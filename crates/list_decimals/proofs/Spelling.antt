@@ -1,5 +1,8 @@
--- Counting digits, writing a number from its last digit to its first, a text, and a number with its sign.
-use Prim.Native.Nat.{ℕ, suc, ◌+◌, ◌-◌, ◌/◌, ◌%◌, ◌<◌, ◌≤◌}
+-- How many digits a number has, writing a number from its last digit to its first, a text, and a number with its sign.
+use Prim.Native.Nat.{ℕ, zero, suc, ◌+◌, ◌-◌, ◌*◌, ◌/◌, ◌%◌, ◌^◌, ◌<◌, ◌≤◌, max}
+use mathlib.Core.Bool.{Bool, true, false}
+use lib.Dec.{ltb}
+use borrow.Author.Tests.{ltb-true, ltb-false}
 use mathlib.Core.Path.{◌≡◌, refl, sym, ap, ◌∙◌}
 use mathlib.Core.List.{List, [], ◌∷◌, ◌++◌, append_assoc, append-nil}
 use native.Mathlib.Omega.{arith}
@@ -11,24 +14,16 @@ use lib.IntN.{ℤ, pos, negsuc, nat_abs}
 use lib.Signed.{◌<ℤ◌, ◌≤ℤ◌}
 use Rattle.laws.specs.Integers.{lt_in}
 use Rattle.list_decimals.specs.Decimals.{digit, minus, decimal, signed_decimal}
-use Rattle.list_decimals.proofs.DecimalLaws.{decimal_one, decimal_more, length_more, decimal_pos}
+use Rattle.list_decimals.proofs.DecimalLaws.{decimal_one, decimal_more, decimal_short, ten_pos, decimal_long}
 use Rattle.list_decimals.specs.Texts.{TextRoom, PutsText}
 
 -- ---- digits
 
--- k digits are counted, one of them a digit of the rest
-pub record DigitCounting (n rest k : ℕ) : Type 0 where
-  pub left : k + length (decimal rest) ≡ length (decimal n) + 1
-
-pub digit_counting : {n : ℕ} → DigitCounting n n 1
-digit_counting = record { left = omega arith }
-
-module _ {n rest k : ℕ} (w : DigitCounting n rest k) where
-  pub counting_next : 10 ≤ rest → DigitCounting n (rest / 10) (k + 1)
-  counting_next h = record { left = omega (arith, w.left, length_more rest h) }
-
-  pub counting_end : rest < 10 → k ≡ length (decimal n)
-  counting_end h = omega (arith, w.left, ap length (decimal_one rest h))
+-- the digits of a number, by the power of ten that it reaches; 0 has one, as 1 has
+pub digits_counted : (n r m : ℕ) → m ≡ max n 1 → 10 ^ r ≤ m → m < 10 * 10 ^ r → r + 1 ≡ length (decimal n)
+digits_counted zero zero m e h k = omega (arith, ap length (decimal_one 0 (omega arith)))
+digits_counted zero (suc r) m e h k = absurd (omega (arith, ten_pos r))
+digits_counted (suc n) r m e h k = omega (arith, decimal_long r (suc n) (omega arith), decimal_short r (suc n) (omega arith))
 
 -- ---- a number
 
@@ -38,53 +33,73 @@ set_before (x ∷ vs) l i j v h =
     set_before vs (set l i x) (suc i) j v (omega arith)
     ∙ ap (λ (m : List _). sets m (suc i) vs) (set_comm l i j x v (λ e. omega arith))
 
--- n goes to the position `at` of a list: its last digits stand, and those of the rest end at i
+-- n goes to the position `at` of a list: its last digits stand from i on, and the first ones, which are those of the rest, are left
 pub record Spelling (l : List ℕ) (at n : ℕ) (m : List ℕ) (rest i : ℕ) : Type 0 where
+  pub left : List ℕ
   pub done : List ℕ
-  pub whole : decimal n ≡ decimal rest ++ done
-  pub place : i + 1 ≡ at + length (decimal rest)
-  pub is : m ≡ sets l (suc i) done
+  pub whole : decimal n ≡ left ++ done
+  pub place : i ≡ at + length left
+  pub is : m ≡ sets l i done
+  pub of_rest : at < i → left ≡ decimal rest
 
-pub spelling : {l : List ℕ} {at n i : ℕ} → i + 1 ≡ at + length (decimal n) → Spelling l at n l n i
-spelling {n = n} e = record { done = []; whole = sym (append-nil (decimal n)); place = e; is = refl }
+pub spelling : {l : List ℕ} {at n i : ℕ} → i ≡ at + length (decimal n) → Spelling l at n l n i
+spelling {n = n} e =
+    record { left = decimal n; done = []; whole = sym (append-nil (decimal n)); place = e; is = refl; of_rest = λ h. refl }
 
 module _ {l : List ℕ} {at n : ℕ} {m : List ℕ} {rest i : ℕ} (w : Spelling l at n m rest i) where
   pub spelling_size : length m ≡ length l
-  spelling_size = ap length w.is ∙ length-sets l (suc i) w.done
+  spelling_size = ap length w.is ∙ length-sets l i w.done
 
-  pub spelling_room : TextRoom l at (decimal n) → i < length m
-  spelling_room h = omega (arith, w.place, spelling_size, ap length w.whole ∙ length-append (decimal rest) w.done)
+  module _ (some : at < i) where
+    pub spelling_room : TextRoom l at (decimal n) → i - 1 < length m
+    spelling_room h = omega (arith, h.within, w.place, spelling_size, ap length w.whole ∙ length-append w.left w.done)
 
-  pub spelling_back : 10 ≤ rest → 1 ≤ i
-  spelling_back h = omega (arith, w.place, length_more rest h, decimal_pos (rest / 10))
+    put : (d : ℕ) → set m (i - 1) d ≡ sets l (i - 1) (d ∷ w.done)
+    put d =
+        let s : i ≡ suc (i - 1) = omega arith in
+        ap (λ (t : List ℕ). set t (i - 1) d) (w.is ∙ ap (λ (k : ℕ). sets l k w.done) s) ∙ set_before w.done l (suc (i - 1)) (i - 1) d (omega arith)
 
-  put : (d : ℕ) → set m i d ≡ sets l i (d ∷ w.done)
-  put d = ap (λ (t : List ℕ). set t i d) w.is ∙ set_before w.done l (suc i) i d (omega arith)
+    pub spelling_next : Spelling l at n (set m (i - 1) (digit (rest % 10))) (rest / 10) (i - 1)
+    spelling_next = by (ltb rest 10) refl
+      where
+        by : (t : Bool) → ltb rest 10 ≡ t → Spelling l at n (set m (i - 1) (digit (rest % 10))) (rest / 10) (i - 1)
+        by true t =
+            let one = ltb-true rest 10 t in
+            let d : rest ≡ rest % 10 = omega arith in
+            let e : w.left ≡ digit (rest % 10) ∷ [] = w.of_rest some ∙ decimal_one rest one ∙ ap (λ (k : ℕ). digit k ∷ []) d in
+            record {
+              left = [];
+              done = digit (rest % 10) ∷ w.done;
+              whole = w.whole ∙ ap (λ (k : List ℕ). k ++ w.done) e;
+              place = omega (arith, w.place, ap length e);
+              is = put (digit (rest % 10));
+              of_rest = λ h. absurd (omega (arith, w.place, ap length e));
+            }
+        by false t =
+            let more = ltb-false rest 10 t in
+            let e : w.left ≡ decimal (rest / 10) ++ (digit (rest % 10) ∷ []) = w.of_rest some ∙ decimal_more rest more in
+            record {
+              left = decimal (rest / 10);
+              done = digit (rest % 10) ∷ w.done;
+              whole = w.whole ∙ ap (λ (k : List ℕ). k ++ w.done) e ∙ append_assoc (decimal (rest / 10)) (digit (rest % 10) ∷ []) w.done;
+              place = omega (arith, w.place, ap length e ∙ length-append (decimal (rest / 10)) (digit (rest % 10) ∷ []));
+              is = put (digit (rest % 10));
+              of_rest = λ h. refl;
+            }
 
-  pub spelling_next : 10 ≤ rest → Spelling l at n (set m i (digit (rest % 10))) (rest / 10) (i - 1)
-  spelling_next h =
-      let e = decimal_more rest h in
-      let p = decimal_pos (rest / 10) in
-      let s : suc (i - 1) ≡ i = omega (arith, w.place, length_more rest h, p) in
-      record {
-        done = digit (rest % 10) ∷ w.done;
-        whole = w.whole ∙ ap (λ (t : List ℕ). t ++ w.done) e ∙ append_assoc (decimal (rest / 10)) (digit (rest % 10) ∷ []) w.done;
-        place = omega (arith, w.place, length_more rest h, p);
-        is = put (digit (rest % 10)) ∙ ap (λ (k : ℕ). sets l k (digit (rest % 10) ∷ w.done)) (sym s);
-      }
-
-  pub spelling_last : {end : ℕ} → TextRoom l at (decimal n) → rest < 10 → end ≡ at + length (decimal n) → PutsText l at (decimal n) end (set m i (digit rest))
-  spelling_last g h f =
-      let e = decimal_one rest h in
-      let s : i ≡ at = omega (arith, w.place, ap length e) in
+  pub spelling_end : {end : ℕ} → TextRoom l at (decimal n) → i ≤ at → end ≡ at + length (decimal n) → PutsText l at (decimal n) end m
+  spelling_end g h f =
+      let s : i ≡ at = omega (arith, w.place) in
+      let z : length w.left ≡ 0 = omega (arith, w.place) in
       record {
         ends = f;
         within = omega (arith, g.within);
-        is =
-            put (digit rest)
-            ∙ ap (λ (k : ℕ). sets l k (digit rest ∷ w.done)) s
-            ∙ ap (sets l at) (sym (w.whole ∙ ap (λ (t : List ℕ). t ++ w.done) e));
+        is = w.is ∙ ap (λ (k : ℕ). sets l k w.done) s ∙ ap (sets l at) (sym (w.whole ∙ ap (λ (k : List ℕ). k ++ w.done) (none w.left z)));
       }
+    where
+      none : (k : List ℕ) → length k ≡ 0 → k ≡ []
+      none [] e = refl
+      none (d ∷ k) e = absurd (omega arith)
 
 -- ---- a text
 

@@ -7,13 +7,7 @@ ghost use Rattle.list_decimals.specs.Texts.{TextRoom, PutsText};
 fn digit_count(n: u64) -> usize
     ensures value { result ≡ length (decimal n) }
 {
-    let mut rest = n;
-    let mut k: usize = 1;
-    while 10 <= rest {
-        rest /= 10;
-        k += 1;
-    }
-    k
+    n.max(1).ilog10() as usize + 1
 }
 
 // Writes a number at a position, from its last digit to its first, and returns the position after it.
@@ -23,13 +17,10 @@ pub fn write_decimal(output: &mut [u8], at: usize, n: u64) -> usize
 {
     let end = at + digit_count(n);
     let mut rest = n;
-    let mut i = end - 1;
-    while 10 <= rest {
+    for i in (at..end).rev() {
         output[i] = (48 + rest % 10) as u8;
         rest /= 10;
-        i -= 1;
     }
-    output[i] = (48 + rest) as u8;
     end
 }
 
