@@ -9,10 +9,6 @@ use std::io;
 
 mod unchecked;
 
-fn say<P: Print>(rt: &P, text: &[u8]) -> io::Result<()> {
-    rt.write_all(text)
-}
-
 fn say_refused<P: Print>(rt: &P, r: Refusal) -> io::Result<()> {
     let mut line = [0u8; 64];
     let n = write_refusal(&mut line, r);
@@ -21,18 +17,20 @@ fn say_refused<P: Print>(rt: &P, r: Refusal) -> io::Result<()> {
 
 // Check of a single vertex (x, 0, 0) (WORKED-15).
 fn check_coordinate<P: Print>(rt: &P, x: i32) -> io::Result<()> {
+    print!(rt; "coordinate {x}: ")?;
     let coords = [x, 0, 0];
     let corners = [0u32; 1];
     let mut pairing = [0u32; 1];
     let mut order = [0u32; 1];
     match check_mesh::check(&coords, &corners[..0], &mut pairing, &mut order) {
-        Ok(_) => say(rt, b"passes\n"),
+        Ok(_) => println!(rt; "passes"),
         Err(r) => say_refused(rt, r),
     }
 }
 
 // All layers of an empty mesh at these heights (WORKED-16).
 fn file_heights<P: Print>(rt: &P, heights: &[i32]) -> io::Result<()> {
+    print!(rt; "{} heights: ", heights.len())?;
     let coords = [0i32; 1];
     let corners = [0u32; 1];
     let pairing = [0u32; 1];
@@ -58,20 +56,16 @@ fn file_heights<P: Print>(rt: &P, heights: &[i32]) -> io::Result<()> {
         &mut output,
     );
     match written {
-        Ok(_) => say(rt, b"pass\n"),
+        Ok(_) => println!(rt; "pass"),
         Err(r) => say_refused(rt, r),
     }
 }
 
 fn main(rt: HostRuntime) -> io::Result<()> {
-    say(&rt, b"coordinate 1048576: ")?;
     check_coordinate(&rt, 1048576)?;
-    say(&rt, b"coordinate 1048577: ")?;
     check_coordinate(&rt, 1048577)?;
     let mut heights = [0i32; 4097];
     rise(&mut heights);
-    say(&rt, b"4096 heights: ")?;
     file_heights(&rt, &heights[..4096])?;
-    say(&rt, b"4097 heights: ")?;
     file_heights(&rt, &heights)
 }
