@@ -68,7 +68,7 @@ module _ {A B : Type 0} (good : A → ℕ → B) (bad : ℕ → Broken) (F : For
           let g : good a (length file - length r) ≡ b = cc in
           let n : length file - length r ≡ next b = sym (same a (length file - length r)) ∙ ap next g in
           (a, subst (ParsedAt F file at a) n (parsed_at T file at h a r p), ap (good a) (sym n) ∙ g)
-      by (refused r) p = let f : Err (bad (length file - length r)) ≡ Ok b = simp p at e in let n : ◌≡◌ {A = ℕ} 0 1 = cc in absurd (omega arith)
+      by (refused r) p = let f : Err (bad (length file - length r)) ≡ Ok b = simp p at e in cc
 
   pub from_err : {b : Broken} → told_at (λ a n. Ok (good a n)) (λ q. Err (bad q)) F file at ≡ Err b
       → (r : List ℕ) × (F.parse (drop at file) ≡ refused r) × (bad (length file - length r) ≡ b)
@@ -76,7 +76,7 @@ module _ {A B : Type 0} (good : A → ℕ → B) (bad : ℕ → Broken) (F : For
   from_err {b} e = by (F.parse (drop at file)) refl
     where
       by : (d : Parse A) → F.parse (drop at file) ≡ d → (r : List ℕ) × (F.parse (drop at file) ≡ refused r) × (bad (length file - length r) ≡ b)
-      by (parsed a r) p = let f : Ok (good a (length file - length r)) ≡ Err b = simp p at e in let n : ◌≡◌ {A = ℕ} 0 1 = cc in absurd (omega arith)
+      by (parsed a r) p = let f : Ok (good a (length file - length r)) ≡ Err b = simp p at e in cc
       by (refused r) p = let f : Err (bad (length file - length r)) ≡ Err b = simp p at e in (r, p, cc)
 
 -- a value that breaks where its first refused position is

@@ -322,7 +322,7 @@ clean_place file ls b e k f = by (in_layers ls)
     by : LayersFit Clean ls ⊎ InLayers ls → FirstUnclean file ls k
     by (inl fit) =
         let h = (read_exactly_in Clean file ls b).1 (e, (layers_fit Clean ls).0 fit) in
-        let z : ◌≡◌ {A = ℕ} 0 1 = cc in absurd (omega arith)
+        cc
     by (inr q) =
         let w = decode_back layer_file (layer_file_laws Full) file ls b e in
         let s = file_stops ls q w.0 in

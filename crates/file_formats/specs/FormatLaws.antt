@@ -24,7 +24,7 @@ pub record Lawful {A : Type 0} (F : Format A) : Type 0 where
 -- ---- what a successful parse was made of
 
 pub not_refused : {A : Type 0} {P : Type 0} {s r : List ℕ} {a : A} → refused s ≡ parsed a r → P
-not_refused e = let z : ◌≡◌ {A = ℕ} 0 1 = cc in absurd (omega arith)
+not_refused e = cc
 
 pub tested_in : {A : Type 0} (t : A → Bool) (s : List ℕ) (d : Parse A) (a : A) (r : List ℕ) → tested t s d ≡ parsed a r → (d ≡ parsed a r) × (t a ≡ true)
 tested_in t s (refused q) a r e = not_refused e
@@ -167,7 +167,7 @@ module _ {S A : Type 0} (F : S → Format A) (step : S → A → S) where
         → valid_all F step n s xs × (l ≡ encode_all F step s xs ++ r)
     unfolding encode_all parse_all
     all_back zero s l [] r bs e = (tt, cc)
-    all_back zero s l (x ∷ xs) r bs e = let z : ◌≡◌ {A = ℕ} 0 1 = cc in absurd (omega arith)
+    all_back zero s l (x ∷ xs) r bs e = cc
     all_back (suc n) s l xs r bs e =
         let i = then_in ((F s).parse l) (λ a r. mapped (λ rest. a ∷ rest) (parse_all F step n (step s a) r)) xs r e in
         let j = mapped_in (λ rest. i.0 ∷ rest) (parse_all F step n (step s i.0) i.1) xs r i.3 in
@@ -190,7 +190,7 @@ finished_in (parsed b []) a r e = (cc, cc)
 finished_in (parsed b (x ∷ q)) a r e = not_refused e
 
 pub placed_in : {A : Type 0} (n : ℕ) (d : Parse A) (a : A) → decoded_in n d ≡ holds a → (r : List ℕ) × (d ≡ parsed a r)
-placed_in n (refused q) a e = let z : ◌≡◌ {A = ℕ} 0 1 = cc in absurd (omega arith)
+placed_in n (refused q) a e = cc
 placed_in n (parsed b q) a e = (q, ap (λ (c : _). parsed c q) cc)
 
 module _ {A : Type 0} (F : Format A) (L : Lawful F) where

@@ -121,7 +121,7 @@ unfolding number_at
 took {top} {file} {at} {v} {next} e = by ((number top).parse (drop at file)) refl
   where
     by : (d : Parse ℕ) → (number top).parse (drop at file) ≡ d → Took top file at v next
-    by (refused r) p = let e' : Err (breaks_at at) ≡ Ok (v, next) = simp p at e in let z : ◌≡◌ {A = ℕ} 0 1 = cc in absurd (omega arith)
+    by (refused r) p = let e' : Err (breaks_at at) ≡ Ok (v, next) = simp p at e in cc
     by (parsed w r) p =
         let e' : Ok (w, length file - length r) ≡ Ok (v, next) = simp p at e in
         let q : ◌≡◌ {A = ℕ × ℕ} (w, length file - length r) (v, next) = cc in
@@ -158,7 +158,7 @@ not_took top file at {b} e = by (parse_number (drop at file)) refl
       where
         pick : (t : Bool) → leb w top ≡ t → (number top).parse (drop at file) ≡ refused (drop at file)
         pick false q = simp (p, q)
-        pick true q = let e' : Ok (w, length file - length r) ≡ Err b = simp (p, q) at e in let z : ◌≡◌ {A = ℕ} 0 1 = cc in absurd (omega arith)
+        pick true q = let e' : Ok (w, length file - length r) ≡ Err b = simp (p, q) at e in cc
 
 -- a file that breaks here and there breaks at one position
 pub same_place : {A : Type 0} {i j : ℕ} → ◌≡◌ {A = Result A Broken} (Err (breaks_at i)) (Err (breaks_at j)) → i ≡ j
@@ -171,7 +171,7 @@ unfolding extent_at
 passed {A} F file at next T h e = by (F.parse (drop at file)) refl
   where
     by : (d : Parse A) → F.parse (drop at file) ≡ d → (a : A) × ParsedAt F file at a next
-    by (refused r) p = let e' : Err (breaks_at (length file - length r)) ≡ Ok next = simp p at e in let z : ◌≡◌ {A = ℕ} 0 1 = cc in absurd (omega arith)
+    by (refused r) p = let e' : Err (breaks_at (length file - length r)) ≡ Ok next = simp p at e in cc
     by (parsed a r) p =
         let e' : Ok (length file - length r) ≡ Ok next = simp p at e in
         let y : length file - length r ≡ next = cc in
@@ -183,7 +183,7 @@ unfolding extent_at
 stopped {A} F file at i e = by (F.parse (drop at file)) refl
   where
     by : (d : Parse A) → F.parse (drop at file) ≡ d → (r : List ℕ) × (F.parse (drop at file) ≡ refused r) × (i ≡ length file - length r)
-    by (parsed a r) p = let e' : Ok (length file - length r) ≡ Err (breaks_at i) = simp p at e in let z : ◌≡◌ {A = ℕ} 0 1 = cc in absurd (omega arith)
+    by (parsed a r) p = let e' : Ok (length file - length r) ≡ Err (breaks_at i) = simp p at e in cc
     by (refused r) p = let e' : Err (breaks_at (length file - length r)) ≡ Err (breaks_at i) = simp p at e in (r, p, same_place (sym e'))
 
 -- ---- a whole file, by how far it is in its format

@@ -12,7 +12,7 @@ use Rattle.file_formats.specs.WholeFiles.{broken_at, form_as, form, unclean_form
 
 -- the place lies in the file or at its end
 placed_inside : {A : Type 0} (n : ℕ) (d : Parse A) (place : ℕ) → decoded_in n d ≡ broken place → place ≤ n
-placed_inside n (parsed a r) place e = let z : ◌≡◌ {A = ℕ} 0 1 = cc in absurd (omega arith)
+placed_inside n (parsed a r) place e = cc
 placed_inside n (refused r) place e = let p : n - length r ≡ place = cc in omega arith
 
 pub decode_inside : {A : Type 0} (F : Format A) (file : List ℕ) (place : ℕ) → decode F file ≡ broken place → place ≤ length file

@@ -14,7 +14,7 @@ pub mod unchecked;
 pub const MOST_LAYERS: usize = 4096;
 
 // The largest number of 32 bits.
-pub const LARGEST_WORD: u64 = 4294967295;
+pub const LARGEST_WORD: u64 = u32::MAX as u64;
 
 // The position of the first value that may not stand there.
 #[derive(Clone, Copy, Debug, PartialEq, Eq)]

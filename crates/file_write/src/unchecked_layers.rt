@@ -54,7 +54,7 @@ pub fn layer_length(h: i32, points: &[i32], ends: &[u32], j: usize) -> usize
     requires { LayerTables points.now ends.now j }
     ensures value { result ≡ length (layer_bytes (layer_of h points.now ends.now j)) }
 {
-    number_length(unsigned_of(h as i64))
+    number_length(unsigned_of(i64::from(h)))
         + number_length(j as u64)
         + contours_length(points, ends, j)
 }
@@ -122,7 +122,7 @@ pub fn write_layer(
     ensures outcome { Puts output.old at
         (layer_bytes (layer_of h points.now ends.now j)) result output.new }
 {
-    let p = write_number(output, at, unsigned_of(h as i64));
+    let p = write_number(output, at, unsigned_of(i64::from(h)));
     let q = write_number(output, p, j as u64);
     write_contours(points, ends, j, output, q)
 }

@@ -36,13 +36,13 @@ at_none e f g = record { low = omega arith; is = λ h. absurd (clash (e ∙ h) f
 -- ---- the file
 
 broken_of : (u : ℕ) (d : Decoded (List Layer)) {b : Broken} → Err b ≡ charge_of u d → d ≡ broken b.at
-broken_of u (holds ls) e = let z : ◌≡◌ {A = ℕ} 0 1 = cc in absurd (omega arith)
+broken_of u (holds ls) e = cc
 broken_of u (broken p) {b} e = let same : breaks_at p ≡ b = cc in ap (λ (b : Broken). broken b.at) same
 
 charge_of_lem : (u : ℕ) (d : Decoded (List Layer)) {n : ℕ} → Ok n ≡ charge_of u d
     → (ls : List Layer) × (d ≡ holds ls) × (n ≡ job_charge u ls)
 charge_of_lem u (holds ls) e = (ls, refl, cc)
-charge_of_lem u (broken p) e = let z : ◌≡◌ {A = ℕ} 0 1 = cc in absurd (omega arith)
+charge_of_lem u (broken p) e = cc
 
 module _ (file : List ℕ) (t u : ℕ) where
   pub answers_broken : {b : Broken} → Err b ≡ charge_of u (layers_of file) → {result : Result ℕ Refusal} → result ≡ Err (File b.at) → Inks file t result

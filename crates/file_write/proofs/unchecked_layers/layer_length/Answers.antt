@@ -3,21 +3,19 @@ use mathlib.Core.Path.{◌≡◌, ap, ◌∙◌}
 use Prim.Native.Nat.{◌≤◌}
 use native.Mathlib.Omega.{arith}
 use mir.Syntax.{w32, w64}
-use Rattle.laws.specs.Machine.{Rd, fit, cast, cast_ok}
+use mir.ValLaws.{to_z-of_z}
+use Rattle.laws.specs.Machine.{same}
 use Rattle.file_formats.specs.Numbers.{zigzag}
 use Rattle.file_formats.specs.NumberLaws.{number_bytes}
 use Rattle.file_write.proofs.Measuring.{layer_measured, height_short}
 use Rattle.file_write.proofs.unchecked_layers.layer_length.Goals as goal
 use Rattle.file_write.proofs.unchecked_layers.layer_length.Goals.{After-number_length-2}
 
-pub overflow_cast-h : goal.overflow_cast-h
-overflow_cast-h c = cast_ok (fit c.ranges.h) tt
-
 -- what the height is sent as, and that it takes few bytes, and so does the count
 module _ (c : After-number_length-2) where
   sent : c.unsigned_of.result ≡ zigzag c.args.h
   sent =
-      let height : Rd w32 c.args.h 2147483648 = fit c.ranges.h in c.unsigned_of.ensures.value ∙ ap zigzag (cast {w' = w64} height tt).is
+      c.unsigned_of.ensures.value ∙ ap zigzag (same w64 c.from.result c.from.type_inv ∙ c.from.ensures ∙ to_z-of_z w32 c.args.h c.ranges.h)
 
   height_few : c.number_length.result ≤ 5
   height_few = height_short c.args.h c.ranges.h.sfits sent c.number_length.ensures.value

@@ -1,19 +1,17 @@
 -- `unchecked_layers::write_layer` meets its contract.
 use mathlib.Core.Path.{◌≡◌, ap, ◌∙◌}
 use mir.Syntax.{w32, w64}
-use Rattle.laws.specs.Machine.{Rd, fit, cast, cast_ok}
+use mir.ValLaws.{to_z-of_z}
+use Rattle.laws.specs.Machine.{same}
 use Rattle.file_formats.specs.Numbers.{zigzag}
 use Rattle.file_write.proofs.Writing.{height_room, count_room, contours_room, layer_put}
 use Rattle.file_write.proofs.unchecked_layers.write_layer.Goals as goal
 use Rattle.file_write.proofs.unchecked_layers.write_layer.Goals.{After-unsigned_of}
 
-pub overflow_cast-h : goal.overflow_cast-h
-overflow_cast-h c = cast_ok (fit c.ranges.h) tt
-
 -- what the height is sent as
 sent : (c : After-unsigned_of) → c.unsigned_of.result ≡ zigzag c.args.h
 sent c =
-    let height : Rd w32 c.args.h 2147483648 = fit c.ranges.h in c.unsigned_of.ensures.value ∙ ap zigzag (cast {w' = w64} height tt).is
+    c.unsigned_of.ensures.value ∙ ap zigzag (same w64 c.from.result c.from.type_inv ∙ c.from.ensures ∙ to_z-of_z w32 c.args.h c.ranges.h)
 
 pub write_number-p-requires : goal.write_number-p-requires
 write_number-p-requires c =
