@@ -1,13 +1,11 @@
--- Points whose numbers were loaded, and what `equal_points` answers.
+-- Points whose numbers were loaded.
 use Prim.Native.Nat.{ℕ, ◌<◌, ◌^◌}
-use mathlib.Core.Path.{◌≡◌, ◌∙◌}
-use mathlib.Core.Bool.{Bool}
+use mathlib.Core.Path.{◌≡◌}
 use lib.Signed.{mag}
 use mir.Syntax.{w32}
 use mir.Val.{of_z, to_z}
 use Rattle.laws.specs.Machine as machine
 use Rattle.polygons.specs.Flat.{Point, point}
-use Rattle.cleaning.specs.Cleaning.{same_point}
 
 -- the point for which two numbers' bits stand
 abbrev pub point_of : ℕ → ℕ → Point
@@ -20,6 +18,3 @@ held p = point_of (of_z w32 p.x) (of_z w32 p.y)
 module _ {p : Point} (fx : mag p.x < 2 ^ 31) (fy : mag p.y < 2 ^ 31) where
   pub held_is : held p ≡ p
   held_is = λ i. point (machine.same w32 p.x fx i) (machine.same w32 p.y fy i)
-
-pub same_held : {b : Bool} {p q p' q' : Point} → b ≡ same_point p q → p ≡ p' → q ≡ q' → b ≡ same_point p' q'
-same_held e f g = e ∙ (λ i. same_point (f i) (g i))

@@ -1,6 +1,6 @@
 -- Where a cleaned contour ends, and what `copy_contour` and `move_contour` leave.
 use Prim.Native.Nat.{ℕ, ◌+◌, ◌*◌, ◌≤◌, ◌<◌}
-use mathlib.Core.Path.{◌≡◌, sym, ap, ◌∙◌, subst}
+use mathlib.Core.Path.{◌≡◌, sym, ap, ◌∙◌}
 use mathlib.Core.Bool.{Bool, true, false}
 use mathlib.Core.List.{List, [], ◌∷◌}
 use mathlib.Core.Logic.{⊎_elim}
@@ -54,8 +54,3 @@ module _ {points : List ℤ} {from end last : ℕ} (f : CleanEnd points from end
   contour_dropped {table} {at} h =
       let none : remains (contour_part points from end) ≡ [] = sym f.rest ∙ ap without_repeats (part_none points from last (omega arith)) in
       record { end = omega (arith, ap length none); holds = ap (λ (c : List Point). sets table (2 * at) (numbers_of c)) (sym none) }
-
-  -- or what stands
-  pub contour_stands : {table table' : List ℤ} {at r : ℕ} → PointsStand (without_repeats (contour_part points from last)) table at r table'
-      → PointsStand (remains (contour_part points from end)) table at r table'
-  contour_stands {table} {table'} {at} {r} s = subst (λ (c : List Point). PointsStand c table at r table') f.rest s

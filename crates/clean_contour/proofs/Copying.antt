@@ -1,6 +1,6 @@
 -- The loops of `copy_run` and `move_run`, which differ in where they read: points go from one table to a place in another, or within one.
 use Prim.Native.Nat.{ℕ, suc, ◌+◌, ◌*◌, ◌≤◌, ◌<◌}
-use mathlib.Core.Path.{◌≡◌, refl, sym, ap, ◌∙◌, subst}
+use mathlib.Core.Path.{◌≡◌, sym, ap, ◌∙◌, subst}
 use mathlib.Core.Bool.{Bool, true, false}
 use mathlib.Core.List.{List, [], ◌∷◌}
 use native.Mathlib.Omega.{arith}
@@ -35,10 +35,6 @@ pub record RunCopying (source table₀ : List ℤ) (end : ℕ) (p₀ : Point) (t
   pub ends : to + length (left source end p i) ≡ to₀ + length (left source end p₀ i₀)
   pub goes : sets table (2 * to) (numbers_of (left source end p i)) ≡ sets table₀ (2 * to₀) (numbers_of (left source end p₀ i₀))
   pub ahead : drop (2 * i) table ≡ drop (2 * i) table₀
-
-pub copy_start : {source table : List ℤ} {end : ℕ} {p : Point} {to i : ℕ} → i ≤ end → to ≤ i → HasPoints source end → HasPoints table end
-    → RunCopying source table end p to i table p to i
-copy_start u b s t = record { upto = u; behind = b; there = s; room = t; size = refl; ends = refl; goes = refl; ahead = refl }
 
 module _ {source table₀ : List ℤ} {end : ℕ} {p₀ : Point} {to₀ i₀ : ℕ} {table : List ℤ} {p : Point} {to i : ℕ}
     (s : RunCopying source table₀ end p₀ to₀ i₀ table p to i) where

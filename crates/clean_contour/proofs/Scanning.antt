@@ -22,9 +22,6 @@ pub record Seeking (points : List ℤ) (from end a b i : ℕ) : Type 0 where
   pub rest : beyond (point_in points a) (point_in points b) (contour_part points i end)
       ≡ beyond (point_in points a) (point_in points b) (contour_part points from end)
 
-pub seek_start : {points : List ℤ} {from end a b : ℕ} → from ≤ end → Seeking points from end a b from
-seek_start h = record { onward = omega arith; upto = h; rest = refl }
-
 module _ {points : List ℤ} {from end a b i : ℕ} (w : HasPoints points end) (s : Seeking points from end a b i) where
   pub seek_end : end ≤ i → Found points from end a b i
   seek_end h =
@@ -106,9 +103,6 @@ pub record Ending (points : List ℤ) (from end r : ℕ) : Type 0 where
   pub some : from < r
   pub upto : r ≤ end
   pub rest : trimmed (point_in points from) (contour_part points (from + 1) r) ≡ trimmed (point_in points from) (contour_part points (from + 1) end)
-
-pub ending : {points : List ℤ} {from end : ℕ} → from < end → Ending points from end end
-ending h = record { some = h; upto = omega arith; rest = refl }
 
 module _ {points : List ℤ} {from end r : ℕ} (w : HasPoints points end) (s : Ending points from end r) where
   pub ending_none : r ≤ from + 1 → Trimmed points from end r

@@ -11,19 +11,17 @@ use lib.Seq.{sets, drop-cons, drop-set-lt, length-sets, length-take-le, get_or-t
 use lib.IntN.{ℤ}
 use Rattle.laws.specs.Tables.{overwrite}
 use Rattle.laws.specs.TableLaws.{overwrite_none, overwrite_more}
-use Rattle.polygons.specs.Flat.{Point, point_total, FlatLayer, flat, numbers_of, ends_from, ends_of, contours_in, polygons_of}
+use Rattle.polygons.specs.Flat.{Point, point_total, flat, numbers_of, ends_from, ends_of, contours_in}
 use Rattle.polygons.proofs.FlatLaws.{length_numbers, numbers_append, length_ends, length_flatten}
 use Rattle.file_formats.specs.EmitLaws.{Emit, emit_start, emit, emit_one, emit_end}
 use Rattle.file_write.specs.LayerTables.{EndsWithin, LayerTables}
 use Rattle.cleaning.specs.Cleaning.{neat, kept, cleaned}
-use Rattle.cleaning.specs.declared.Profile.{Profile}
-use Rattle.cleaning.specs.declared.Profile.TheVariants.{Full, Clean}
 use Rattle.cleaning.specs.PointLaws.{decide}
 use Rattle.cleaning.proofs.CleaningLaws.{cleaned_kept, cleaned_dropped}
 use Rattle.cleaning.proofs.SizeLaws.{length_neat, kept_length, cleaned_total, cleaned_count}
 use Rattle.clean_contour.specs.Parts.{contour_part, remains, PointsStand, CleanRoom}
 use Rattle.clean_contour.specs.PartLaws.{part_length, ahead_part, ahead_more, ahead_at, ahead_sets, remains_dropped, remains_kept}
-use Rattle.clean_layers.specs.Layers.{Fills, LeftIn}
+use Rattle.clean_layers.specs.Layers.{Fills}
 
 -- ---- the contours that are left
 
@@ -90,10 +88,6 @@ fill_start {source} {list} {points} {ends} r p e =
 
 module _ {source : List ℤ} {list : List ℕ} {points₀ : List ℤ} {ends₀ : List ℕ} {points : List ℤ} {ends : List ℕ} {from at count j : ℕ}
     (s : Filling source list points₀ ends₀ points ends from at count j) where
-  -- the second table keeps its length
-  pub fill_ends : length ends ≡ length ends₀
-  fill_ends = s.ends_emit.size
-
   module _ (l : j < length list) {end : ℕ} (q : end ≡ get_or list j 0) where
     abbrev c : List Point
     c = contour_part source from end
@@ -268,12 +262,3 @@ module _ {points₀ : List ℤ} {ends₀ : List ℕ} {n : ℕ} {points : List �
 
       pub here_kept : at < next → Filling points₀ (take n ends₀) points₀ ends₀ points' (set ends count next) end next (count + 1) (j + 1)
       here_kept = fill_kept s here_more (here_end q) (here_stands t)
-
--- ---- brought into a profile
-
-pub left_full : {profile : Profile} (t : FlatLayer) (j : ℕ) → profile ≡ Full → LeftIn profile t j j t
-left_full t j e = subst (λ (p : Profile). LeftIn p t j j t) (sym e) (refl, refl)
-
-pub left_clean : {profile : Profile} (t : FlatLayer) (j : ℕ) {contours points : ℕ} {t' : FlatLayer} → profile ≡ Clean
-    → Fills (cleaned (polygons_of (flat t.points (take j t.ends)))) t contours points t' → LeftIn profile t j contours t'
-left_clean t j {contours} {points} {t'} e f = subst (λ (p : Profile). LeftIn p t j contours t') (sym e) (f.contours_are, f.holds)

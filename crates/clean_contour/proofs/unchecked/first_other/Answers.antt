@@ -2,11 +2,8 @@
 use mathlib.Core.Path.{◌≡◌, subst}
 use native.Mathlib.Omega.{arith}
 use Rattle.clean_contour.specs.Parts.{Found}
-use Rattle.clean_contour.proofs.Scanning.{seek_start, seek_end, seek_hit, seek_miss}
+use Rattle.clean_contour.proofs.Scanning.{seek_end, seek_hit, seek_miss}
 use Rattle.clean_contour.proofs.unchecked.first_other.Goals as goal
-
-pub loop-i-init : goal.loop-i-init
-loop-i-init c = seek_start c.requires.fact_2.0
 
 pub returns-then-not-is_either : goal.returns-then-not-is_either
 returns-then-not-is_either c = record {

@@ -2,12 +2,9 @@
 use mathlib.Core.Path.{refl, ◌∙◌}
 use native.Mathlib.Omega.{arith}
 use Rattle.clean_contour.proofs.Comparing.{held_is}
-use Rattle.clean_contour.proofs.Copying.{copy_start, copy_read, copy_skip, copy_next, copy_end, run_stands, moved_part}
+use Rattle.clean_contour.proofs.Copying.{copy_read, copy_skip, copy_next, copy_end, run_stands, moved_part}
 use Rattle.clean_contour.proofs.unchecked.move_run.Goals as goal
 use Rattle.clean_contour.proofs.unchecked.move_run.Goals.{then-not-same_point, else-not-same_point}
-
-pub loop-i-init : goal.loop-i-init
-loop-i-init c = copy_start (omega arith) (omega arith) (omega arith) (omega arith)
 
 pub loop-i-preserved : goal.loop-i-preserved
 loop-i-preserved c =
@@ -22,9 +19,6 @@ loop-i-preserved c =
           (copy_skip s c.loop-i-test.true (held_is (omega arith) (omega arith) ∙ copy_read s refl) c.same_point.ensures.value
           w.if-not-same_point.false)
     ]
-
-pub shape_of-points : goal.shape_of-points
-shape_of-points c = omega (arith, c.loop-i.invariant.size)
 
 pub returns : goal.returns
 returns c =

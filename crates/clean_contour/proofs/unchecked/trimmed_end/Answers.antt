@@ -3,11 +3,8 @@ use mathlib.Core.Path.{◌≡◌, subst}
 use native.Mathlib.Omega.{arith}
 use Prim.Native.Nat.{◌+◌, ◌-◌}
 use Rattle.clean_contour.specs.Parts.{Trimmed}
-use Rattle.clean_contour.proofs.Scanning.{ending, ending_none, ending_stop, ending_next}
+use Rattle.clean_contour.proofs.Scanning.{ending_none, ending_stop, ending_next}
 use Rattle.clean_contour.proofs.unchecked.trimmed_end.Goals as goal
-
-pub loop-k-init : goal.loop-k-init
-loop-k-init c = ending c.requires.fact_2
 
 pub returns-then-not-equal_points : goal.returns-then-not-equal_points
 returns-then-not-equal_points c =

@@ -1,29 +1,17 @@
 -- `unchecked::copy_layer` meets its contract.
 use mathlib.Core.Path.{refl}
 use native.Mathlib.Omega.{arith}
-use Rattle.clean_layers.proofs.Filling.{fill_start, fill_up, fill_room, fill_next, fill_dropped, fill_kept, fill_all}
+use Rattle.clean_layers.proofs.Filling.{fill_start, fill_next, fill_dropped, fill_kept, fill_all}
 use Rattle.clean_layers.proofs.unchecked.copy_layer.Goals as goal
 use Rattle.clean_layers.proofs.unchecked.copy_layer.Goals.{then-at-next, else-at-next}
 
 pub loop-end-init : goal.loop-end-init
 loop-end-init c = let pre = c.requires in fill_start pre.rise pre.points_room pre.ends_room
 
-pub copy_contour-next-requires : goal.copy_contour-next-requires
-copy_contour-next-requires c =
-    let loop = c.loop-end in record {
-      fact_1 = fill_room loop.invariant c.loop-end-test.true refl;
-      fact_2 = fill_up loop.invariant c.loop-end-test.true refl;
-    }
-
 pub overflow_cast-cleanends : goal.overflow_cast-cleanends
 overflow_cast-cleanends c =
     let loop = c.loop-end in
     omega (arith, fill_next loop.invariant c.loop-end-test.true refl c.copy_contour-next.ensures.outcome, c.type_inv.ends loop.end-index)
-
-pub bounds-cleanends-kept : goal.bounds-cleanends-kept
-bounds-cleanends-kept c =
-    let loop = c.loop-end in
-    omega (arith, c.loop-end-test.true, loop.invariant.few, loop.invariant.ends_room)
 
 pub loop-end-preserved : goal.loop-end-preserved
 loop-end-preserved c =

@@ -1,17 +1,12 @@
 -- `unchecked::move_layer` meets its contract.
 use mathlib.Core.Path.{refl}
 use native.Mathlib.Omega.{arith}
-use Rattle.clean_layers.proofs.Filling.{fill_ends, here_start, here_room, here_up, here_next, here_dropped, here_kept, here_all}
+use Rattle.clean_layers.proofs.Filling.{here_start, here_room, here_up, here_next, here_dropped, here_kept, here_all}
 use Rattle.clean_layers.proofs.unchecked.move_layer.Goals as goal
 use Rattle.clean_layers.proofs.unchecked.move_layer.Goals.{then-at-next, else-at-next}
 
 pub loop-j-init : goal.loop-j-init
 loop-j-init c = here_start c.requires
-
-pub bounds-ends-j : goal.bounds-ends-j
-bounds-ends-j c =
-    let loop = c.loop-j in
-    omega (arith, c.loop-j-test.true, c.requires.there, fill_ends loop.invariant)
 
 pub move_contour-next-requires : goal.move_contour-next-requires
 move_contour-next-requires c =
@@ -25,12 +20,6 @@ pub overflow_cast-ends : goal.overflow_cast-ends
 overflow_cast-ends c =
     let loop = c.loop-j in
     omega (arith, here_next loop.invariant c.loop-j-test.true c.requires.there refl c.move_contour-next.ensures.outcome)
-
-pub bounds-ends-kept : goal.bounds-ends-kept
-bounds-ends-kept c =
-    let loop = c.loop-j in
-    let there = c.requires.there in
-    omega (arith, c.loop-j-test.true, loop.invariant.few, there, fill_ends loop.invariant)
 
 pub loop-j-preserved : goal.loop-j-preserved
 loop-j-preserved c =
