@@ -4,6 +4,7 @@ use mathlib.Core.Path.{◌≡◌, refl, sym, ap, subst, ◌∙◌}
 use mathlib.Core.Bool.{Bool, true, false, not, cond, ◌&&◌, beq}
 use mathlib.Core.List.{List}
 use native.Mathlib.Omega.{arith}
+use Rattle.std.proofs.Math.Bool.{and-not_self}
 use lib.Dec.{ltb}
 use lib.ListN.{length, set}
 use lib.IntN.{ℤ}
@@ -161,11 +162,7 @@ module _ (passed : VertexSet) (corners pairing : List ℕ) {c : ℕ} {start end 
   between_rises e = (λ i. b.start_is i && not (b.end_is i)) ∙ e
 
   pub between_level : start ≡ end → no_corner ≡ ring_entry passed corners pairing c
-  between_level e = entry_none passed corners pairing c (between_rises (ap (λ (s : Bool). s && not end) e ∙ never end))
-    where
-      never : (q : Bool) → (q && not q) ≡ false
-      never true = refl
-      never false = refl
+  between_level e = entry_none passed corners pairing c (between_rises (ap (λ (s : Bool). s && not end) e ∙ and-not_self end))
 
 -- ---- link_triangle
 

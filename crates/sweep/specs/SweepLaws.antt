@@ -5,7 +5,7 @@ use Rattle.std.specs.Prelude.{◌≡◌, Bool, ◌&&◌, ◌||◌, take, ℤ}
 use Rattle.std.proofs.Math.Path.{refl, sym, ap, subst}
 use Rattle.std.proofs.Common.{◌∙◌, not-suc-le-zero, le_of_suc-le-suc, take-suc}
 use Rattle.std.proofs.Math.Logic.{⊎_elim}
-use Rattle.std.proofs.Math.Bool.{true, false, not, cond}
+use Rattle.std.proofs.Math.Bool.{true, false, not, cond, or-false}
 use mathlib.Core.List.{List, [], ◌∷◌}
 use native.Mathlib.Omega.{arith}
 use Rattle.std.proofs.Math.Decide.{ℕ_discrete}
@@ -81,11 +81,7 @@ passed_other : (order : List ℕ) (n v : ℕ) → n < length order → (v ≡ ge
 unfolding passed_at
 passed_other order n v h ne =
     ap (member v) (take-suc order n 0 h) ∙ member_join v (take n order) (get_or order n 0 ∷ [])
-    ∙ ap (λ (b : Bool). member v (take n order) || b) (member_one v (get_or order n 0) ∙ ne_eqb _ _ ne) ∙ or_false (member v (take n order))
-  where
-    or_false : (b : Bool) → (b || false) ≡ b
-    or_false true = refl
-    or_false false = refl
+    ∙ ap (λ (b : Bool). member v (take n order) || b) (member_one v (get_or order n 0) ∙ ne_eqb _ _ ne) ∙ or-false (member v (take n order))
 
 module _ (s : Sweep) where
   abbrev corners : List ℕ

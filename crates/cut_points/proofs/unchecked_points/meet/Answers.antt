@@ -2,7 +2,7 @@
 use mathlib.Core.Path.{◌≡◌, sym, ◌∙◌, subst₂}
 use lib.IntN.{ℤ, ◌+ℤ◌, ◌-ℤ◌, ◌*ℤ◌}
 use mir.Syntax.{w32, w64}
-use Rattle.laws.specs.Machine.{Rd, arg, got, cast, cast_ok, add, add_ok, sub, sub_ok, mul, mul_ok}
+use Rattle.laws.specs.Machine.{Rd, arg, got, cast, cast_ok, add, add_ok, sub, mul, mul_ok}
 use Rattle.cut_points.specs.Points.{numerator, denominator, rounded}
 use Rattle.cut_points.specs.Climbs.{Fraction}
 use Rattle.cut_points.specs.PointLaws.{edge_fraction, edge_height}
@@ -42,32 +42,8 @@ module _ (c : Start) where
   abbrev n : Rd w64 (c.args.u0 *ℤ (c.args.z1 -ℤ c.args.z0) +ℤ (c.args.u1 -ℤ c.args.u0) *ℤ (c.args.h -ℤ c.args.z0)) 6597069766656
   n = add p (mul du t tt) tt
 
-pub overflow_cast-u : goal.overflow_cast-u
-overflow_cast-u c = cast_ok (u0 c) tt
-
-pub overflow_cast-z : goal.overflow_cast-z
-overflow_cast-z c = cast_ok (z0 c) tt
-
-pub overflow_cast-d : goal.overflow_cast-d
-overflow_cast-d c = cast_ok (z1 c) tt
-
-pub overflow_sub-d : goal.overflow_sub-d
-overflow_sub-d c = sub_ok (cast (z1 c) tt) (cast (z0 c) tt) tt
-
 pub overflow_mul-n : goal.overflow_mul-n
 overflow_mul-n c = mul_ok (cast (u0 c) tt) (d c) tt
-
-pub overflow_cast-n : goal.overflow_cast-n
-overflow_cast-n c = cast_ok (u1 c) tt
-
-pub overflow_sub-n : goal.overflow_sub-n
-overflow_sub-n c = sub_ok (cast (u1 c) tt) (cast (u0 c) tt) tt
-
-pub overflow_cast-n-2 : goal.overflow_cast-n-2
-overflow_cast-n-2 c = cast_ok (h c) tt
-
-pub overflow_sub-n-2 : goal.overflow_sub-n-2
-overflow_sub-n-2 c = sub_ok (cast (h c) tt) (cast (z0 c) tt) tt
 
 pub overflow_mul-n-2 : goal.overflow_mul-n-2
 overflow_mul-n-2 c = mul_ok (du c) (t c) tt

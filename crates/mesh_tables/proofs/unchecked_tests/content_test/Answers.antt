@@ -26,10 +26,6 @@ returns-in_err-one_mesh_test-3 c = record {
       (verdict_stop _ _ c.one_mesh_test-3.ensures.told (ap tell_verdict c.in_err-one_mesh_test-3.was)));
 }
 
-pub one_mesh_test-requires-4 : goal.one_mesh_test-requires-4
-one_mesh_test-requires-4 c =
-    c.requires
-
 pub returns : goal.returns
 returns c = record {
   told = verdict_next _ _ c.one_mesh_test.ensures.told (ap tell_verdict c.in_ok-one_mesh_test.was)

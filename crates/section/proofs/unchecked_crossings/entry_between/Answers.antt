@@ -1,8 +1,8 @@
 -- `unchecked_crossings::entry_between` meets its contract.
-use mathlib.Core.Path.{ap, sym, ◌∙◌}
-use Rattle.section.specs.Section.{VertexSet, under, Crossing, ring_entry}
+use mathlib.Core.Path.{sym, ◌∙◌}
+use Rattle.section.specs.Section.{under, Crossing}
 use Rattle.section.proofs.SectionLaws.{and_not_of}
-use Rattle.section.proofs.Turns.{passed_held, crosses_held, entry_none, between_rises, between_level}
+use Rattle.section.proofs.Turns.{crosses_held, entry_none, between_rises, between_level}
 use Rattle.section.proofs.unchecked_crossings.entry_between.Goals as goal
 use Rattle.section.proofs.unchecked_crossings.entry_between.Goals.{else-start-via-then-start+else-not-end, else-start-via-else-start}
 
@@ -15,13 +15,6 @@ link_of-requires c =
       fact_1 = c.requires.fact_1;
       fact_2 = c.requires.fact_2;
       fact_3 = crosses_held a.coords.now a.corners.now a.k c.ranges.h crossing;
-    }
-
-pub returns-then-not-end : goal.returns-then-not-end
-returns-then-not-end c =
-    let a = c.args in record {
-      value = c.link_of.ensures.value
-          ∙ ap (λ (p : VertexSet). ring_entry p a.corners.now a.pairing.now a.c) (passed_held a.coords.now a.k c.ranges.h);
     }
 
 pub returns-else-start : goal.returns-else-start

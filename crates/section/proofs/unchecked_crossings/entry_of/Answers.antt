@@ -4,20 +4,6 @@ use Rattle.section.specs.Section.{VertexSet, ring_entry}
 use Rattle.section.proofs.Turns.{passed_held, entry_none}
 use Rattle.section.proofs.unchecked_crossings.entry_of.Goals as goal
 
-pub link_of-requires : goal.link_of-requires
-link_of-requires c = record {
-  fact_1 = c.requires.fact_1;
-  fact_2 = c.requires.fact_2;
-  fact_3 = record { below = c.requires.fact_3; upward = sym c.is_rising.ensures.value ∙ c.if-is_rising.true };
-}
-
-pub returns-then-is_rising : goal.returns-then-is_rising
-returns-then-is_rising c =
-    let a = c.args in record {
-      value = c.link_of.ensures.value
-          ∙ ap (λ (p : VertexSet). ring_entry p a.corners.now a.pairing.now a.c) (passed_held a.coords.now a.k c.ranges.h);
-    }
-
 pub returns-else-is_rising : goal.returns-else-is_rising
 returns-else-is_rising c =
     let a = c.args in record {

@@ -18,14 +18,6 @@ entry s z = ring_entry (under s.args.coords.now z s.args.k) s.args.corners.now s
 pub loop-c-init : goal.loop-c-init
 loop-c-init c = sym (refill_none _ _)
 
-pub offset_bounds-ring-c : goal.offset_bounds-ring-c
-offset_bounds-ring-c c =
-    omega (arith, c.requires.fact_1.whole.few)
-
-pub bounds-ring-c : goal.bounds-ring-c
-bounds-ring-c c =
-    omega (arith, c.requires.fact_3)
-
 pub loop-c-preserved : goal.loop-c-preserved
 loop-c-preserved c = link_more _ c.loop-c.c c.args.ring.now c.loop-c.invariant (omega (arith, c.requires.fact_3)) c.entry_of.ensures.value
 

@@ -18,17 +18,6 @@ entry s z = ring_entry (under s.args.coords.now z 0) s.args.corners.now s.args.p
 pub loop-t-init : goal.loop-t-init
 loop-t-init c = sym (refill_none _ _)
 
-pub overflow_mul-t : goal.overflow_mul-t
-overflow_mul-t c = omega (arith, c.requires.fact_1.whole.few)
-
-pub link_triangle-requires : goal.link_triangle-requires
-link_triangle-requires c = record {
-  fact_1 = c.requires.fact_1;
-  fact_2 = c.requires.fact_2;
-  fact_3 = omega (arith, c.requires.fact_3);
-  fact_4 = (omega arith, omega arith);
-}
-
 pub loop-t-preserved : goal.loop-t-preserved
 loop-t-preserved c =
     let more : 3 * c.loop-t.t + 3 ≡ 3 * (c.loop-t.t + 1) = omega arith in

@@ -1,18 +1,10 @@
 -- `unchecked_crossings::rising_beside` meets its contract.
-use mathlib.Core.Path.{refl, ◌∙◌}
+use mathlib.Core.Path.{◌∙◌}
 use Rattle.mesh.specs.Corners.{start_of}
 use Rattle.section.specs.Section.{under}
-use Rattle.section.proofs.Turns.{passed_held, vertex_at, previous_corner_inside, ThirdSeen, second_rises, first_rises}
+use Rattle.section.proofs.Turns.{passed_held, ThirdSeen, second_rises, first_rises}
 use Rattle.section.proofs.unchecked_crossings.rising_beside.Goals as goal
 use Rattle.section.proofs.unchecked_crossings.rising_beside.Goals.{After-is_passed}
-
-pub bounds-corners-f : goal.bounds-corners-f
-bounds-corners-f c =
-    previous_corner_inside c.requires.fact_1 c.requires.fact_2 c.previous_corner-f.ensures.value
-
-pub is_passed-requires : goal.is_passed-requires
-is_passed-requires c =
-    vertex_at c.requires.fact_1 (previous_corner_inside c.requires.fact_1 c.requires.fact_2 c.previous_corner-f.ensures.value) refl
 
 -- what both returns know
 seen : (c : After-is_passed)

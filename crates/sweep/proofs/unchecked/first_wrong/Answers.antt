@@ -5,7 +5,7 @@ use native.Mathlib.Omega.{arith}
 use lib.ListN.{length}
 use lib.IntN.{ℤ}
 use Rattle.laws.specs.Least.{least}
-use Rattle.laws.specs.LeastLaws.{scan_start, scan_hit, scan_miss, scan_over}
+use Rattle.laws.specs.LeastLaws.{scan_hit, scan_miss, scan_over}
 use Rattle.section.specs.Section.{under}
 use Rattle.sweep.specs.Places.{wrong_for}
 use Rattle.sweep.proofs.Moves.{back}
@@ -17,16 +17,6 @@ abbrev first : Start → ℤ → ℕ
 first start z =
     least (length start.args.corners.now)
     (wrong_for (under start.args.coords.now z start.args.k) start.args.corners.now start.args.pairing.now start.args.ring.now)
-
-pub loop-c-init : goal.loop-c-init
-loop-c-init c = scan_start
-
-pub is_wrong-requires : goal.is_wrong-requires
-is_wrong-requires c = record {
-  fact_1 = c.requires.fact_1;
-  fact_2 = c.requires.fact_2;
-  fact_3 = c.loop-c-test.true;
-}
 
 pub returns-then-is_wrong : goal.returns-then-is_wrong
 returns-then-is_wrong c = record {

@@ -1,16 +1,7 @@
 -- `unchecked::height_test` meets its contract.
-use Prim.Native.Nat.{◌-◌}
-use native.Mathlib.Omega.{arith}
 use Rattle.sweep.proofs.Moves.{got_lt, none_high, low_last, high_last}
 use Rattle.sweep.proofs.unchecked.height_test.Goals as goal
 use Rattle.sweep.proofs.unchecked.height_test.Goals.{then-n-eq0-via-then-n-eq0, then-n-eq0-via-else-n-eq0+then-height_behind-h}
-
-pub height_behind-requires : goal.height_behind-requires
-height_behind-requires c =
-    let r = c.requires.fact_2 (c.args.n - 1) (omega (arith, c.if-n-eq0.false, c.requires.fact_1)) in record {
-      fact_1 = omega (arith, r.there, c.if-n-eq0.false);
-      fact_2 = λ z. r.vertex;
-    }
 
 pub returns-then-n-eq0 : goal.returns-then-n-eq0
 returns-then-n-eq0 c = record {

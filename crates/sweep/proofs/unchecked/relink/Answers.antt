@@ -22,27 +22,10 @@ entries start z =
 pub loop-c-init : goal.loop-c-init
 loop-c-init c = sym (refill_none _ _)
 
-pub offset_bounds-pairing-c : goal.offset_bounds-pairing-c
-offset_bounds-pairing-c c =
-    omega (arith, c.requires.fact_1.whole.few)
-
 pub bounds-pairing-c : goal.bounds-pairing-c
 bounds-pairing-c c =
     let l : c.loop-c.c < length c.args.corners.now = omega arith in
     (c.requires.fact_2.each c.loop-c.c l).there
-
-pub touched-requires : goal.touched-requires
-touched-requires c =
-    let l : c.loop-c.c < length c.args.corners.now = omega arith in
-    omega (arith, (c.requires.fact_2.each c.loop-c.c l).corner, c.requires.fact_1.whole.threes)
-
-pub offset_bounds-ring-c : goal.offset_bounds-ring-c
-offset_bounds-ring-c c =
-    omega (arith, c.requires.fact_1.whole.few)
-
-pub bounds-ring-c : goal.bounds-ring-c
-bounds-ring-c c =
-    omega (arith, c.requires.fact_3)
 
 pub loop-c-preserved : goal.loop-c-preserved
 loop-c-preserved c =

@@ -45,9 +45,6 @@ height_behind-z-requires c = absurd (never (goal.at.height_behind-z-requires c).
 pub number_behind-i-requires : goal.number_behind-i-requires
 number_behind-i-requires c = absurd (never (goal.at.number_behind-i-requires c).In-Err)
 
-pub link-requires : goal.link-requires
-link-requires c = absurd (never (goal.at.link-requires c).In-Err)
-
 pub returns-in-Ok : goal.returns-in-Ok
 returns-in-Ok c =
     let start = (goal.at.returns-in-Ok c).Start in

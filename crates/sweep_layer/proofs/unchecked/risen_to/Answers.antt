@@ -7,7 +7,6 @@ use lib.IntN.{ℤ}
 use mir.Syntax.{w32}
 use mir.ValLaws.{to_z-of_z}
 use Rattle.mesh.specs.Corners.{vertex_count}
-use Rattle.mesh.specs.Order.{Ranked}
 use Rattle.sweep.specs.Sweep.{risen_to}
 use Rattle.sweep_layer.proofs.Rising.{rising_start, rising_stop, rising_more, may_not, may, may_end}
 use Rattle.sweep_layer.proofs.unchecked.risen_to.Goals as goal
@@ -17,21 +16,8 @@ use Rattle.sweep_layer.proofs.unchecked.risen_to.Goals.{In-loop-p, Start}
 abbrev count : Start → ℤ → ℕ
 count start z = risen_to start.args.coords.now start.args.order.now z (vertex_count start.args.coords.now) start.args.n
 
--- the order has the next vertex
-ranked : (c : In-loop-p) → Ranked c.args.coords.now c.args.order.now c.loop-p.p
-ranked c = c.requires.fact_2 c.loop-p.p c.loop-p-test.true
-
 pub loop-p-init : goal.loop-p-init
 loop-p-init c = rising_start _ _ _ _ c.requires.fact_1
-
-pub offset_bounds-order-p : goal.offset_bounds-order-p
-offset_bounds-order-p c = omega (arith, (ranked (goal.at.offset_bounds-order-p c).In-loop-p).there)
-
-pub bounds-order-p : goal.bounds-order-p
-bounds-order-p c = (ranked (goal.at.bounds-order-p c).In-loop-p).there
-
-pub bounds-coords-w : goal.bounds-coords-w
-bounds-coords-w c = omega (arith, (ranked (goal.at.bounds-coords-w c).In-loop-p).vertex)
 
 pub returns-then-z-h : goal.returns-then-z-h
 returns-then-z-h c = record {
