@@ -3,7 +3,6 @@
 #![tactic(auto)]
 
 pub mod limits;
-pub mod numbers;
 pub mod refusals;
 pub mod tests;
 pub mod unchecked;

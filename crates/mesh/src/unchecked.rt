@@ -6,7 +6,6 @@ ghost use Rattle.mesh.specs.Order.{before};
 ghost use Rattle.mesh.specs.Tests.{out_of_range, names_none, vertex, names_twice, triangle};
 
 use crate::limits::{LARGEST_COORDINATE, LEAST_COORDINATE};
-use crate::numbers::wide;
 
 // The corner after c in its triangle. The remainder costs less in 32 bits.
 pub fn next_corner(c: usize) -> usize
@@ -75,7 +74,7 @@ pub fn names_none(vertices: usize, corners: &[u32], c: usize) -> bool
     requires { c < length corners.now }
     ensures value { result ≡ names_none vertices corners.now c }
 {
-    vertices <= wide(corners[c])
+    vertices <= corners[c] as usize
 }
 
 // Whether triangle t names a vertex twice.
