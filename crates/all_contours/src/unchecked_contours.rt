@@ -41,6 +41,7 @@ fn follow_contour(
 {
     let mut c = start;
     let mut k = at;
+    // Follows links, so no `for` fits.
     loop {
         names[k] = c as u32;
         marks[c] = stamp;
@@ -76,6 +77,7 @@ pub fn outline_crossings(
     let mut c = head;
     let mut k: usize = 0;
     let mut j: usize = 0;
+    // Follows links, so no `for` fits.
     while c < n {
         let start = c;
         c = ring[start] as usize;

@@ -11,6 +11,7 @@ pub fn write_number(out: &mut [u8], at: usize, n: u64) -> usize
 {
     let mut v = n;
     let mut i = at;
+    // As many turns as the number has groups: the number tells when it ends.
     while 128 <= v {
         out[i] = (128 + v % 128) as u8;
         v /= 128;

@@ -13,6 +13,7 @@ fn read_input<R: Read>(reader: &mut R, buffer: &mut [u8]) -> io::Result<usize>
     ensures outcome { Within 0 (length buffer.new) result }
 {
     let mut done: usize = 0;
+    // As many turns as reads take: each tells how far it came.
     while done < buffer.len() {
         let n = reader.read(&mut buffer[done..])?;
         if n == 0 {
