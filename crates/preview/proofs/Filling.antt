@@ -16,7 +16,7 @@ use Rattle.preview.specs.declared.PathCall.TheVariants.{Move, Close}
 use Rattle.preview.specs.Calls.{move, drawn_call}
 use Rattle.preview.specs.Preview.{CallTables, call_tables}
 use Rattle.preview.specs.Places.{table_point, lines_from, rest_from, calls_left, put_call, put_calls, Room, Points}
-use Rattle.preview.specs.RunLaws.{put_one, puts_long, lines_count, lines_first, left_move, left_rest}
+use Rattle.preview.specs.RunLaws.{put_one, lines_count, lines_first, left_move, left_rest}
 
 -- ---- fill_rest
 
@@ -25,18 +25,7 @@ module _ {points : List ℤ} {o : Origin} {e i n room : ℕ} {u₀ : CallTables}
   rest = rest_from o points i e
 
   module _ {last : ℕ} (last_is : last ≡ min (n + (e - i)) room) where
-    pub rest_room : Room u₀ n last
-    rest_room = record { order = omega (arith, r.order); kinds_room = omega (arith, r.kinds_room); floats_room = omega (arith, r.floats_room) }
-
-    pub rest_points : Points points o (i + (last - n))
-    rest_points = record { there = omega (arith, p.there); small = p.small; origin = p.origin }
-
     module _ {u : CallTables} (u-is : u ≡ put_calls n (lines_from o points i (last - n)) u₀) where
-      pub rest_long : (length u.kinds ≡ length u₀.kinds) × (length u.floats ≡ length u₀.floats)
-      rest_long =
-          let l = puts_long n (lines_from o points i (last - n)) u₀ in
-          (ap (λ (w : CallTables). length w.kinds) u-is ∙ l.kinds_long, ap (λ (w : CallTables). length w.floats) u-is ∙ l.floats_long)
-
       -- there is room for the close
       pub rest_closed : last < room → call_tables (set u.kinds last 2) u.floats ≡ put_calls n (take (room - n) rest) u₀
       rest_closed more =
@@ -80,14 +69,6 @@ module _ {points : List ℤ} {o : Origin} {s e i n room : ℕ} {u₀ : CallTable
       moved_is =
           ap (call_tables (set u₀.kinds n 0)) floats-are
           ∙ ap (λ (d : DrawnPoint). put_call n (Move d.x d.y) u₀) (q_is ∙ (λ t. drawn_at o (point (x_is t) (y_is t))))
-
-      pub moved_room : Room moved (n + 1) room
-      unfolding put_calls
-      moved_room =
-          let l = puts_long n (drawn_call o (move (table_point points i)) ∷ []) u₀ in
-          let kinds_long : length moved.kinds ≡ length u₀.kinds = ap (λ (w : CallTables). length w.kinds) moved_is ∙ l.kinds_long in
-          let floats_long : length moved.floats ≡ length u₀.floats = ap (λ (w : CallTables). length w.floats) moved_is ∙ l.floats_long in
-          record { order = omega arith; kinds_room = omega (arith, r.kinds_room); floats_room = omega (arith, r.floats_room) }
 
       pub moved_left : {u : CallTables} → u ≡ put_calls (n + 1) (take (room - (n + 1)) (rest_from o points (i + 1) e)) moved
           → u ≡ put_calls n (take (room - n) (calls_left o points s e i)) u₀

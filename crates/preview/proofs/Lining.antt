@@ -16,7 +16,7 @@ use Rattle.preview.specs.declared.PathCall.TheVariants.{Line}
 use Rattle.preview.specs.Calls.{line, drawn_call}
 use Rattle.preview.specs.Preview.{CallTables, call_tables}
 use Rattle.preview.specs.Places.{table_point, lines_from, put_call, put_calls, Room, Points}
-use Rattle.preview.specs.RunLaws.{put_one, puts_long, lines_count, lines_more}
+use Rattle.preview.specs.RunLaws.{put_one, lines_count, lines_more}
 
 -- calls n up to k are lines to the points from i on
 pub record Lining (points : List ℤ) (o : Origin) (i n last : ℕ) (u₀ u : CallTables) (k : ℕ) : Type 0 where
@@ -40,11 +40,6 @@ module _ {points : List ℤ} {o : Origin} {i n last : ℕ} {u₀ : CallTables} w
       }
 
   module _ {u : CallTables} {k : ℕ} (v : Lining points o i n last u₀ u k) where
-    pub lining_long : (length u.kinds ≡ length u₀.kinds) × (length u.floats ≡ length u₀.floats)
-    lining_long =
-        let l = puts_long n (lines_from o points i (k - n)) u₀ in
-        (ap (λ (w : CallTables). length w.kinds) v.tables ∙ l.kinds_long, ap (λ (w : CallTables). length w.floats) v.tables ∙ l.floats_long)
-
     module _ (more : k < last) where
       -- the next point
       abbrev here : ℕ

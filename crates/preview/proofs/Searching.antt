@@ -30,9 +30,6 @@ module _ {ends : List ℕ} {k a b : ℕ} (h : CallHalved ends k a b) where
         to = h.to;
       }
 
-  pub halve_high : {e : ℕ} (m : ℕ) → e ≡ get_or ends m 0 → a ≤ m → m < b → k ≤ e + m → CallHalved ends k a m
-  halve_high {e} m q o l t = record { order = o; upto = omega (arith, h.upto); from = h.from; to = λ _. omega arith }
-
   pub halved_end : b ≤ a → Belongs ends k a
   halved_end l =
       let same : b ≡ a = omega (arith, h.order) in

@@ -1,9 +1,8 @@
 -- `unchecked::fill_calls` meets its contract.
 use mathlib.Core.Path.{refl}
-use native.Mathlib.Omega.{arith}
 use Rattle.polygons.specs.Flat.{flat}
 use Rattle.preview.specs.PreviewLaws.{DrawTested, draw_tested}
-use Rattle.preview.proofs.Running.{running_start, running_long, running_tables, running_full, running_past}
+use Rattle.preview.proofs.Running.{running_start, running_tables, running_full, running_past}
 use Rattle.preview.proofs.Running.{next_within, next_room, next_points, running_next}
 use Rattle.preview.proofs.unchecked.fill_calls.Goals as goal
 use Rattle.preview.proofs.unchecked.fill_calls.Goals.{Start}
@@ -15,12 +14,6 @@ passed start = draw_tested _ _ start.requires
 pub loop-n-init : goal.loop-n-init
 loop-n-init c = running_start _ _ _ _ c.min-room.ensures c.contour_with-j.ensures.result
 
-pub shape_of-kinds-then-ends-j : goal.shape_of-kinds-then-ends-j
-shape_of-kinds-then-ends-j c = (running_long _ _ _ _ c.loop-n.invariant).0
-
-pub shape_of-floats-then-ends-j : goal.shape_of-floats-then-ends-j
-shape_of-floats-then-ends-j c = (running_long _ _ _ _ c.loop-n.invariant).1
-
 pub returns-then-ends-j : goal.returns-then-ends-j
 returns-then-ends-j c =
     let inv = c.loop-n.invariant in
@@ -28,14 +21,6 @@ returns-then-ends-j c =
       value = running_past _ _ _ _ inv (passed (goal.at.returns-then-ends-j c).Start) c.loop-n-test.true c.if-ends-j.true;
       left = running_tables _ _ _ _ inv;
     }
-
-pub overflow_add-i : goal.overflow_add-i
-overflow_add-i c =
-    let own = c.loop-n.invariant.belongs c.loop-n-test.true in
-    omega (arith, own.to c.if-ends-j.false, c.shared_slice_known-in-loop-n-1.given c.loop-n.j)
-
-pub overflow_sub-i : goal.overflow_sub-i
-overflow_sub-i c = omega (arith, (c.loop-n.invariant.belongs c.loop-n-test.true).from)
 
 pub fill_contour-n-requires : goal.fill_contour-n-requires
 fill_contour-n-requires c =
@@ -49,19 +34,10 @@ fill_contour-n-requires c =
       fact_3 = next_within _ _ _ _ inv (passed (goal.at.fill_contour-n-requires c).Start) more there s-is refl refl;
     }
 
-pub loop-n-smaller : goal.loop-n-smaller
-loop-n-smaller c = omega (arith, c.fill_contour-n.ensures.value)
-
 pub loop-n-preserved : goal.loop-n-preserved
 loop-n-preserved c =
     running_next _ _ _ _ c.loop-n.invariant (passed (goal.at.loop-n-preserved c).Start) c.loop-n-test.true c.if-ends-j.false c.prior_end-s.ensures.value
     refl refl c.fill_contour-n.ensures.value c.fill_contour-n.ensures.left
-
-pub shape_of-kinds : goal.shape_of-kinds
-shape_of-kinds c = (running_long _ _ _ _ c.loop-n.invariant).0
-
-pub shape_of-floats : goal.shape_of-floats
-shape_of-floats c = (running_long _ _ _ _ c.loop-n.invariant).1
 
 pub returns : goal.returns
 returns c =

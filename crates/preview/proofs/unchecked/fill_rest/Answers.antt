@@ -1,14 +1,6 @@
 -- `unchecked::fill_rest` meets its contract.
-use Rattle.preview.proofs.Filling.{rest_room, rest_points, rest_closed, rest_full, closed_at, full_at}
+use Rattle.preview.proofs.Filling.{rest_closed, rest_full, closed_at, full_at}
 use Rattle.preview.proofs.unchecked.fill_rest.Goals as goal
-
-pub fill_lines-requires : goal.fill_lines-requires
-fill_lines-requires c =
-    let last_is = c.min-last.ensures in
-    record {
-      fact_1 = rest_room c.requires.fact_1 c.requires.fact_2 c.requires.fact_3 last_is;
-      fact_2 = rest_points c.requires.fact_1 c.requires.fact_2 c.requires.fact_3 last_is;
-    }
 
 pub returns-then-last-room : goal.returns-then-last-room
 returns-then-last-room c =
