@@ -1,6 +1,6 @@
 -- What the code reads of an edge.
-use Prim.Native.Nat.{ℕ, ◌≤◌, ◌<◌, ◌^◌}
-use mathlib.Core.Path.{◌≡◌, sym, ap, ◌∙◌, subst}
+use Prim.Native.Nat.{ℕ, ◌<◌, ◌^◌}
+use mathlib.Core.Path.{◌≡◌, ap, ◌∙◌}
 use lib.IntN.{ℤ}
 use lib.Signed.{mag}
 use mir.Syntax.{w32}
@@ -9,7 +9,6 @@ use Rattle.laws.specs.Machine.{same}
 use Rattle.mesh.specs.Corners.{start_of, end_of, coord_of, z_of}
 use Rattle.mesh.specs.Meshes.{Mesh}
 use Rattle.cut_points.specs.Points.{numerator, denominator, rounded, exact_over, exact_under, point_at}
-use Rattle.cut_points.specs.Climbs.{CrossedEdge, Climbs}
 
 -- a call's result, as the caller holds it
 pub result_is : {z y : ℤ} → mag z < 2 ^ 31 → z ≡ y → to_z w32 (of_z w32 z) ≡ y
@@ -37,9 +36,6 @@ read_of {m} {axis = axis} a b ea eb p q r s t =
     }
 
 module _ {m : Mesh} {h : ℤ} {axis c : ℕ} {u0 u1 z0 z1 g : ℤ} (r : EdgeRead m h axis c u0 u1 z0 z1 g) where
-  pub read_edge : Climbs m h c → axis ≤ 1 → CrossedEdge u0 u1 z0 z1 g
-  read_edge t k = subst (λ (A : Type 0). A) (sym (λ i. CrossedEdge (r.u0_is i) (r.u1_is i) (r.z0_is i) (r.z1_is i) (r.h_is i))) (t.edge axis k)
-
   pub read_point : rounded (numerator u0 u1 z0 z1 g) (denominator z0 z1) ≡ point_at m h axis c
   unfolding point_at exact_over exact_under
   read_point = λ i. rounded (numerator (r.u0_is i) (r.u1_is i) (r.z0_is i) (r.z1_is i) (r.h_is i)) (denominator (r.z0_is i) (r.z1_is i))

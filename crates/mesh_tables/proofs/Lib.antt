@@ -1,4 +1,3 @@
 -- Lemmas that belong to no one function.
 pub mod OrderTest
 pub mod PairingTest
-pub mod Openings

@@ -123,9 +123,6 @@ module _ (coords : List ℤ) (order : List ℕ) where
     pub right : (k : ℕ) → k < lo → misplaced_at coords order k ≡ false
     pub wrong : (k : ℕ) → hi ≤ k → k < m → misplaced_at coords order k ≡ true
 
-  pub search_start : (m : ℕ) → Search m 0 m
-  search_start m = record { low = omega arith; high = omega arith; right = λ k l. absurd (omega arith); wrong = λ k h l. absurd (omega arith) }
-
   module _ (m lo hi : ℕ) (s : Search m lo hi) where
     pub search_end : hi ≤ lo → lo ≡ least m (misplaced_at coords order)
     search_end h =

@@ -1,13 +1,10 @@
 -- A pairing is right where every corner is paired with a corner that starts where it ends and is paired back.
 use Prim.Native.Nat.{ℕ, zero, suc, ◌+◌, ◌*◌, ◌%◌, ◌<◌, ◌≤◌}
 use mathlib.Core.Path.{◌≡◌, refl, sym, ap, ◌∙◌, subst}
-use mathlib.Core.Bool.{true, false, not}
+use mathlib.Core.Bool.{false, not}
 use mathlib.Core.List.{List}
 use mathlib.Core.Logic.{⊎_elim}
 use native.Mathlib.Omega.{arith}
-use native.Mathlib.Nat.{not-suc-le-zero}
-use borrow.Author.Tests.{eqb-true}
-use lib.Dec.{eqb}
 use lib.ListN.{length, get_or}
 use Rattle.laws.specs.Booleans.{split_lt}
 use Rattle.mesh.specs.Corners.{triangle_count, next_corner, start_of, end_of}
@@ -16,15 +13,6 @@ use Rattle.mesh.specs.TestLaws.{reverse_of, Paired, paired_at_of}
 use Rattle.mesh_tables.specs.Meeting.{MeetsVertex, Thrice, Met}
 
 module _ (corners pairing : List ℕ) where
-  -- the code's reads and comparisons
-  pub meets_of : (c v d e : ℕ) → d ≡ pair_of pairing c → d < length corners → get_or corners d 0 ≡ v → e ≡ get_or pairing d 0 → eqb c e ≡ true
-      → MeetsVertex corners pairing c v
-  meets_of c v d e p l s q b =
-      record { corner = omega arith; start = ap (start_of corners) (sym p) ∙ s; back = ap (pair_of pairing) (sym p) ∙ sym q ∙ sym (eqb-true c e b) }
-
-  pub met_none : Met corners pairing 0
-  met_none = record { upto = omega arith; meets = λ c l. absurd (not-suc-le-zero l) }
-
   -- one triangle more
   pub met_more : (t : ℕ) → Met corners pairing t → t < triangle_count corners → Thrice corners pairing t → Met corners pairing (t + 1)
   met_more t m l s = record { upto = omega arith; meets = λ c h. ⊎_elim (λ k. m.meets c k) (λ k. by c h k (c % 3) refl) (split_lt c (3 * t)) }

@@ -1,7 +1,7 @@
 -- What the code's branches say, in the definitions' terms.
 use Prim.Native.Nat.{ℕ, ◌+◌, ◌*◌, ◌%◌, ◌^◌, ◌≤◌, ◌<◌}
-use mathlib.Core.Path.{◌≡◌, refl, sym, ap, subst, ◌∙◌}
-use mathlib.Core.Bool.{Bool, true, false, not, cond, ◌&&◌, beq}
+use mathlib.Core.Path.{◌≡◌, sym, ap, subst, ◌∙◌}
+use mathlib.Core.Bool.{Bool, true, false, not, cond, ◌&&◌}
 use mathlib.Core.List.{List}
 use native.Mathlib.Omega.{arith}
 use Rattle.std.proofs.Math.Bool.{and-not_self}
@@ -12,15 +12,13 @@ use lib.Signed.{lt_z, mag}
 use mir.Syntax.{w32}
 use mir.Val.{SFits, to_z, of_z}
 use mir.ValLaws.{to_z-of_z}
-use Rattle.laws.specs.Booleans.{clash}
 use Rattle.laws.specs.Machine.{same}
 use Rattle.laws.specs.Tables.{refill}
 use Rattle.laws.specs.TableLaws.{refill_more}
-use Rattle.mesh.specs.Corners.{vertex_count, triangle_of, next_corner, start_of, z_of}
+use Rattle.mesh.specs.Corners.{triangle_of, next_corner, start_of, z_of}
 use Rattle.mesh.specs.Tests.{pair_of}
-use Rattle.mesh.specs.TestLaws.{next_below}
 use Rattle.section.specs.Section.{VertexSet, under, rising, falling, Crossing, rising_in, successor, no_corner, ring_entry}
-use Rattle.section.specs.Section.{Named, Linked}
+use Rattle.section.specs.Section.{Linked}
 use Rattle.section.specs.Triangles.{Between, set_three}
 use Rattle.section.proofs.SectionLaws.{beside_not, beside_passed, pair_falls}
 
@@ -38,18 +36,6 @@ passed_held coords k f = ap (λ (z : ℤ). under coords z k) (back f)
 pub crosses_held : (coords : List ℤ) (corners : List ℕ) {h : ℤ} (k : ℕ) {c : ℕ} → SFits w32 h
     → Crossing (under coords h k) corners c → Crossing (under coords (held h) k) corners c
 crosses_held coords corners k {c} f = subst (λ (p : VertexSet). Crossing p corners c) (sym (passed_held coords k f))
-
--- ---- the corners and vertices that the code reads
-
-module _ {coords : List ℤ} {corners : List ℕ} (n : Named coords corners) where
-  pub vertex_at : {c v : ℕ} → c < length corners → v ≡ start_of corners c → v < vertex_count coords
-  vertex_at {c} l e = rw e (n.vertices c l)
-
-  pub next_corner_inside : {c d : ℕ} → c < length corners → d ≡ next_corner c → d < length corners
-  next_corner_inside {c} l e = rw e (next_below (length corners) c n.whole.threes l)
-
-  pub previous_corner_inside : {c d : ℕ} → c < length corners → d ≡ next_corner (next_corner c) → d < length corners
-  previous_corner_inside l e = next_corner_inside (next_corner_inside l refl) e
 
 -- ---- is_passed
 
@@ -72,13 +58,7 @@ module _ (coords : List ℤ) (h : ℤ) (k v : ℕ) (fz : mag (z_of coords v) < 2
   unfolding under
   passed_level p q = simp (z_lt p, h_lt q)
 
--- ---- leads_up and rises
-
-pub leads_no : {p r : Bool} (q : Bool) → r ≡ p → r ≡ false → false ≡ (p && not q)
-leads_no q e t = simp (sym e ∙ t)
-
-pub leads_as : {p q r s : Bool} → r ≡ p → r ≡ true → s ≡ q → not s ≡ (p && not q)
-leads_as {p} e t f = let x : p ≡ true = sym e ∙ t in rw x (ap not f)
+-- ---- is_rising
 
 pub rises_is : (passed : VertexSet) (corners : List ℕ) (c : ℕ) {n u v : ℕ} {r : Bool} → n ≡ next_corner c → u ≡ start_of corners c
     → v ≡ start_of corners n → r ≡ (passed u && not (passed v)) → r ≡ rising passed corners c
@@ -145,14 +125,6 @@ module _ (passed : VertexSet) {corners pairing : List ℕ} {c d : ℕ} (l : Link
 module _ (f : ℕ → ℕ) (c : ℕ) {t : List ℕ} (t₀ : List ℕ) (is : t ≡ refill c f t₀) where
   pub link_more : {e : ℕ} → c < length t₀ → e ≡ f c → set t c e ≡ refill (c + 1) f t₀
   link_more h is_e = (λ i. set (is i) c (is_e i)) ∙ refill_more c f t₀ h
-
--- ---- is_level
-
-pub same_flag : (p q : Bool) → beq p q ≡ true → p ≡ q
-same_flag true true e = refl
-same_flag true false e = absurd (clash e refl)
-same_flag false true e = absurd (clash e refl)
-same_flag false false e = refl
 
 -- ---- entry_between
 

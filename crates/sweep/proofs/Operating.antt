@@ -14,7 +14,7 @@ use Rattle.laws.specs.Tables.{overwrite, refill}
 use Rattle.laws.specs.TableLaws.{refill_same, tabulate_const}
 use Rattle.mesh.specs.Corners.{vertex_count, triangle_of, z_of}
 use Rattle.mesh.specs.Meshes.{Mesh}
-use Rattle.mesh.specs.Operation.{Finding, gives, refuses, fine, test, verdict}
+use Rattle.mesh.specs.Operation.{Finding, gives, refuses, fine, verdict}
 use Rattle.mesh.specs.OperationLaws.{None, more, done, fine_none, does_refuse, does_give}
 use Rattle.mesh.specs.Order.{Ranked}
 use Rattle.mesh.specs.Refusals.{Told, told_of}
@@ -22,18 +22,11 @@ use Rattle.mesh.specs.Tests.{pair_of}
 use Rattle.mesh.specs.declared.Refusal.{Refusal}
 use Rattle.section.specs.Section.{under, no_corner}
 use Rattle.sweep.specs.declared.State.{State}
-use Rattle.sweep.specs.declared.SweepTest.{SweepTest}
 use Rattle.sweep.specs.Sweep.{Sweep, mesh_of, sweep_pairing, passed_at, fresh_ring, touches, relinked, step_ring}
 use Rattle.sweep.specs.SweepLaws.{entry_same, passed_under}
 use Rattle.sweep.specs.Operations.{at, unless_refused, start_tests, tell_start, Starts, step_tests, passes, top, tell_step, Steps}
-use Rattle.sweep.specs.SweepTests.{sweep_condition}
 use Rattle.sweep.specs.Places.{StepTested}
 use Rattle.sweep.proofs.AnswerLaws.{step_tested}
-
--- a test by name is the test of its condition
-pub sweep_test_as : (s : Sweep) (h : ℤ) {which named : SweepTest} {f : Finding Told} → which ≡ named → f ≡ test (sweep_condition named s h)
-    → f ≡ test (sweep_condition which s h)
-sweep_test_as s h e t = t ∙ ap (λ (w : SweepTest). test (sweep_condition w s h)) (sym e)
 
 -- ---- Start
 
