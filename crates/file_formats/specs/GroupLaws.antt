@@ -1,6 +1,8 @@
 -- How many groups of seven bits a number has: few, and by the place of its highest bit.
-use Rattle.std.specs.Prelude.{◌≡◌, refl, Bool, true, false, cond, [], ◌∷◌, ℕ, zero, suc, ◌+◌, ◌-◌, ◌*◌, ◌/◌, ◌%◌, ◌<◌, ◌≤◌, ◌^◌, ltb, length, max}
+use Rattle.std.specs.Prelude.{◌≡◌, refl, Bool, true, false, cond, [], ◌∷◌, ℕ, zero, suc, ◌+◌, ◌-◌, ◌*◌, ◌/◌, ◌%◌, ◌<◌, ◌≤◌, ◌^◌, ltb, length, bit_or}
 use Rattle.std.proofs.Common.{sym, ap, ◌∙◌, pow-suc, arith, pow_mono, pow-add, ltb-true, ltb-false}
+use Rattle.std.specs.Int.Bits.{or_zero_r}
+use Rattle.std.proofs.lemmas.Nat.{or_shr}
 use Rattle.file_formats.specs.Numbers.{groups, encode_number}
 use Rattle.file_formats.specs.NumberLaws.{encode_one, encode_more}
 
@@ -38,15 +40,14 @@ by_top (suc k) j n f h g = by (ltb j 7) refl (by_top k (j - 7) (n / 128))
         let big : 128 ≤ n = omega (arith, pow_mono {i = 0} {j = j - 7} (omega arith)) in
         omega (arith, ap length (encode_more n big), ih (omega arith) (omega arith) (omega arith))
 
--- j is the place of the highest bit of n, and 0 for 0
-pub groups_are : (n j : ℕ) → 2 ^ j ≤ max n 1 → max n 1 < 2 * 2 ^ j → j / 7 + 1 ≡ length (encode_number n)
-groups_are zero j h g =
-    let none : j ≡ 0 = by j h in
-    omega (arith, ap length (encode_one 0 (omega arith)))
-  where
-    by : (j : ℕ) → 2 ^ j ≤ 1 → j ≡ 0
-    by zero h = refl
-    by (suc i) h = let twice : 2 ^ suc i ≡ 2 ^ i * 2 = pow-suc 2 i in absurd (omega (arith, pow_mono {i = 0} {j = i} (omega arith)))
-groups_are (suc m) j h g =
-    let twice : 2 ^ suc j ≡ 2 ^ j * 2 = pow-suc 2 j in
-    sym (by_top (suc j) j (suc m) (omega arith) (omega arith) (omega arith))
+-- j is the place of the highest bit of m, which differs from n in its lowest bit at most
+pub groups_are : (n m j : ℕ) → m / 2 ≡ n / 2 → 2 ^ j ≤ m → m < 2 * 2 ^ j → j / 7 + 1 ≡ length (encode_number n)
+groups_are n m zero e h g = omega (arith, ap length (encode_one n (omega arith)))
+groups_are n m (suc i) e h g =
+    let twice : 2 ^ suc i ≡ 2 ^ i * 2 = pow-suc 2 i in
+    let fourfold : 2 ^ suc (suc i) ≡ 2 ^ suc i * 2 = pow-suc 2 (suc i) in
+    sym (by_top (suc (suc i)) (suc i) n (omega arith) (omega arith) (omega arith))
+
+-- as n | 1 does
+pub odd_half : (n : ℕ) → bit_or n 1 / 2 ≡ n / 2
+odd_half n = or_shr n 1 1 ∙ or_zero_r (n / 2)

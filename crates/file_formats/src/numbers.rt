@@ -41,7 +41,7 @@ pub fn read_number(file: &[u8], at: usize, top: u64) -> Result<(u64, usize), Bro
 pub fn number_length(n: u64) -> usize
     ensures value { result ≡ length (encode_number n) }
 {
-    n.max(1).ilog2() as usize / 7 + 1
+    (n | 1).ilog2() as usize / 7 + 1
 }
 
 // The signed number that m stands for.

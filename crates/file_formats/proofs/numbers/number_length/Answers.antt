@@ -1,11 +1,12 @@
 -- `numbers::number_length` meets its contract.
-use mathlib.Core.Path.{ap, ◌∙◌}
-use native.Mathlib.Omega.{arith}
-use Prim.Native.Nat.{◌^◌}
-use Rattle.file_formats.specs.GroupLaws.{groups_are}
+use Rattle.std.proofs.lemmas.Nat.{le_or_r}
+use Rattle.file_formats.specs.GroupLaws.{groups_are, odd_half}
 use Rattle.file_formats.proofs.numbers.number_length.Goals as goal
+
+pub ilog2-requires : goal.ilog2-requires
+ilog2-requires c = le_or_r c.args.n 1
 
 pub returns : goal.returns
 returns c =
     let j = c.ilog2.result in
-    record { value = groups_are c.args.n j (omega (arith, c.ilog2.ensures.power_le)) (omega (arith, c.ilog2.ensures.next_power_gt)) }
+    record { value = groups_are c.args.n _ j (odd_half c.args.n) c.ilog2.ensures.power_le c.ilog2.ensures.next_power_gt }
