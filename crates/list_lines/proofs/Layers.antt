@@ -12,7 +12,7 @@ use mir.Syntax.{w32}
 use mir.Val.{to_z, of_z}
 use Rattle.laws.specs.Machine.{same}
 use Rattle.mesh.specs.Meshes.{PairedMesh}
-use Rattle.cut.specs.Cut.{CutTables, lengths, lengths_of}
+use Rattle.cut.specs.Cut.{lengths}
 use Rattle.all_heights.specs.Heights.{heights_taken}
 use Rattle.all_heights.specs.HeightLaws.{ranged_words}
 use Rattle.all_heights.specs.Taking.{base_z, height_at, Takable}
@@ -75,21 +75,11 @@ module _ {l : List ℕ} {p : ℕ} {l' : List ℕ} (count : ℕ) (v : PutsText l 
   unfolding listing
   listing_put m heights e w = put_both (subst (λ (i : ℕ). PutsText l 0 (layers_line i) p l') e v) w
 
--- ---- the tables of a cut keep their lengths
+-- ---- the tables of a cut keep their lengths, and so their room
 
-pub record SameLengths (t₀ t : CutTables) : Type 0 where
-  pub are : lengths_of t ≡ lengths_of t₀
-
-pub lengths_start : {t : CutTables} → SameLengths t t
-lengths_start = record { are = refl }
-
-module _ {t₀ t : CutTables} (k : SameLengths t₀ t) where
-  pub still_workable : {n : ℕ} → Workable n (lengths_of t₀) → Workable n (lengths_of t)
-  still_workable {n} = subst (Workable n) (sym k.are)
-
-  pub lengths_next : {u : CutTables} → length u.names ≡ length t.names → length u.points ≡ length t.points
-      → length u.ends ≡ length t.ends → length u.marks ≡ length t.marks → SameLengths t₀ u
-  lengths_next a b c d = record { are = (λ i. lengths (a i) (b i) (c i) (d i)) ∙ k.are }
+pub still_workable : {n names points ends marks names' points' ends' marks' : ℕ} → Workable n (lengths names points ends marks)
+    → names' ≡ names → points' ≡ points → ends' ≡ ends → marks' ≡ marks → Workable n (lengths names' points' ends' marks')
+still_workable {n} w a b c d = subst (Workable n) (λ i. lengths (sym a i) (sym b i) (sym c i) (sym d i)) w
 
 -- ---- the height at hand, as the code has it
 

@@ -24,7 +24,7 @@ pub struct LayerRead {
 }
 
 // A layer in a file: its height, the position after that, and its counts of contours and points.
-#[derive(Clone, Copy, Debug, PartialEq, Eq)]
+#[derive(Clone, Copy)]
 struct LayerPlace {
     height: i64,
     at: usize,

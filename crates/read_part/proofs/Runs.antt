@@ -17,7 +17,7 @@ use Rattle.file_formats.specs.PartFile.{signed_run, plain_run}
 use Rattle.file_formats.specs.Positions.{number_at, extent, extent_at}
 use Rattle.file_formats.specs.PositionLaws.{took, not_took, number_breaks}
 use Rattle.file_formats.specs.SequenceLaws.{extent_mapped, SequenceCheck, sequence_check, check_bad, check_next, check_end, FirstParsed, first_parsed, none, parsed_length}
-use Rattle.file_formats.specs.EmitLaws.{Emit, emit_start, emit_one, emit_one_fits, emit_end}
+use Rattle.file_formats.specs.EmitLaws.{Emit, emit_start, emit_one, emit_end}
 use Rattle.file_formats.specs.declared.Broken.{Broken}
 use Rattle.read_part.specs.declared.unchecked.FileRun.{FileRun}
 use Rattle.read_part.specs.Layouts.{values_of, FitsTable}
@@ -97,9 +97,6 @@ module _ {A : Type 0} {F : Format A} {file : List ℕ} {zs l : List A} {count : 
 
     pub fill_there : {r : List ℕ} → F.parse (drop i file) ≡ refused r → ⊥
     fill_there e = not_refused (sym e ∙ first.head)
-
-    pub fill_room : k < length m
-    fill_room = emit_one_fits first.value first.others (subst (Emit l 0 zs m k) first.is w.table)
 
     pub fill_next : (v : A) (next : ℕ) → F.parse (drop i file) ≡ parsed v (drop next file) → RunFilling F file zs l count (set m k v) next (k + 1)
     fill_next v next p =

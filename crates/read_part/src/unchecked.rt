@@ -103,6 +103,7 @@ pub fn fill_signed(file: &[u8], run: FileRun, table: &mut [i32])
 }
 
 // Fills the front of a table with corners that were checked.
+// A loop of its own: one for both tables would take a closure, and a contract over what that makes.
 pub fn fill_corners(file: &[u8], run: FileRun, corners: &mut [u32])
     requires { FitsTable plain_run file.now run corners.old }
     ensures outcome { corners.new ≡ overwrite (values_of plain_run file.now run)

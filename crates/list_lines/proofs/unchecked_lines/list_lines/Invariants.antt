@@ -1,10 +1,7 @@
 -- `unchecked_lines::list_lines` meets its contract.
 use Rattle.mesh.specs.Meshes.{paired}
-use Rattle.cut.specs.Cut.{lent}
-use Rattle.list_lines.proofs.Layers.{LinesPut, SameLengths}
+use Rattle.list_lines.proofs.Layers.{LinesPut}
 use Rattle.list_lines.proofs.unchecked_lines.list_lines.Given as goal
 
 abbrev pub invariant-loop-k : goal.invariant-loop-k
-invariant-loop-k l =
-    LinesPut (paired l.coords l.corners l.pairing) l.heights l.initial.output l.at l.output l.p l.k × SameLengths
-    (lent l.initial.names l.initial.points l.initial.ends l.initial.marks) (lent l.names l.points l.ends l.marks)
+invariant-loop-k l = LinesPut (paired l.coords l.corners l.pairing) l.heights l.initial.output l.at l.output l.p l.k

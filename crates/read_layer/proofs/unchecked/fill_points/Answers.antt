@@ -16,9 +16,6 @@ use Rattle.read_layer.proofs.unchecked.fill_points.Goals.{After-unwrap-nx, After
 pub loop-init : goal.loop-init
 loop-init c = point_filling c.requires
 
-pub read_coordinate-requires : goal.read_coordinate-requires
-read_coordinate-requires c = c.loop.invariant.x_in
-
 pub unwrap-nx-requires : goal.unwrap-nx-requires
 unwrap-nx-requires c = x_there c.loop.invariant (omega arith) _ c.read_coordinate.ensures.value
 

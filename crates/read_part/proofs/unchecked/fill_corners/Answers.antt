@@ -2,7 +2,7 @@
 use mathlib.Core.Path.{sym, ◌∙◌}
 use native.Mathlib.Omega.{arith}
 use Rattle.file_formats.specs.PositionLaws.{took}
-use Rattle.read_part.proofs.Runs.{fill_room, fill_end, plain_start, plain_there, plain_next}
+use Rattle.read_part.proofs.Runs.{fill_end, plain_start, plain_there, plain_next}
 use Rattle.read_part.proofs.unchecked.fill_corners.Goals as goal
 
 pub loop-c-init : goal.loop-c-init
@@ -13,9 +13,6 @@ unwrap-v-requires c = plain_there c.loop-c.invariant (omega arith) _ c.read_numb
 
 pub overflow_cast-corners : goal.overflow_cast-corners
 overflow_cast-corners c = omega (arith, (took (sym c.read_number.ensures.value ∙ c.unwrap-v.ensures)).low)
-
-pub bounds-corners-c : goal.bounds-corners-c
-bounds-corners-c c = fill_room c.loop-c.invariant (omega arith)
 
 pub loop-c-preserved : goal.loop-c-preserved
 loop-c-preserved c = plain_next c.loop-c.invariant (omega arith) (sym c.read_number.ensures.value ∙ c.unwrap-v.ensures)

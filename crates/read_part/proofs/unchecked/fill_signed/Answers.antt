@@ -4,7 +4,7 @@ use native.Mathlib.Omega.{arith}
 use mir.Syntax.{w32}
 use Rattle.laws.specs.Machine.{same}
 use Rattle.file_formats.specs.PositionLaws.{took}
-use Rattle.read_part.proofs.Runs.{fill_room, fill_end, signed_start, signed_there, signed_next}
+use Rattle.read_part.proofs.Runs.{fill_end, signed_start, signed_there, signed_next}
 use Rattle.read_part.proofs.unchecked.fill_signed.Goals as goal
 
 pub loop-k-init : goal.loop-k-init
@@ -15,9 +15,6 @@ unwrap-m-requires c = signed_there c.loop-k.invariant (omega arith) _ c.read_num
 
 pub signed_word-requires : goal.signed_word-requires
 signed_word-requires c = (took (sym c.read_number.ensures.value ∙ c.unwrap-m.ensures)).low
-
-pub bounds-table-k : goal.bounds-table-k
-bounds-table-k c = fill_room c.loop-k.invariant (omega arith)
 
 pub loop-k-preserved : goal.loop-k-preserved
 loop-k-preserved c =
