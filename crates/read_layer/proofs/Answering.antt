@@ -31,7 +31,8 @@ use Rattle.file_formats.specs.declared.Broken.{Broken}
 use Rattle.file_check.specs.AnswerLaws.{told_parsed}
 use Rattle.file_formats.specs.CleanFileLaws.{layers_full}
 use Rattle.file_formats.specs.WholeFileLaws.{held_or_is}
-use Rattle.read_layer.specs.Reading.{layers_in, layer_at, Entries, entries, entries_of, read_layer_room_for, layer_has_room, reading_tests, tell_read_layer, ReadsLayer}
+use Rattle.read_layer.specs.Reading.{layers_in, layer_at, Entries, entries, entries_of, read_layer_room_for, layer_has_room, reading_tests, tell_read_layer}
+use Rattle.read_layer.specs.Reading.{ReadsLayer}
 use Rattle.read_layer.specs.ReadingLaws.{verdict_broken, verdict_unclean, verdict_short, verdict_fine, refused_keeps}
 use Rattle.read_layer.specs.Places.{LayerStands, last_layers, Searched, broken_told, Ready, Located, contours_from, FillLayer, filled_layer}
 use Rattle.read_layer.specs.declared.LayerPlace.{LayerPlace}

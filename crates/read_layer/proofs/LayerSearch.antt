@@ -153,7 +153,8 @@ module _ (profile : Profile) (n i : ℕ) (low : ℤ) (file : List ℕ) (at : ℕ
 
   -- layer 0 of those after the first i
   after_before : i < n → (xs : List Layer) (next : ℕ) → ParsedAt (sequence (layer_format_in profile) height_of i low) file at xs next
-      → (s : Result (Option LayerPlace) Broken) → Searched file 0 (last_layers profile (suc (n - i - 1)) (state_after (layer_format_in profile) height_of low xs) file next) s
+      → (s : Result (Option LayerPlace) Broken)
+      → Searched file 0 (last_layers profile (suc (n - i - 1)) (state_after (layer_format_in profile) height_of low xs) file next) s
       → Searched file i (last_layers profile n low file at) s
   after_before h xs next p s w =
       let z : suc (n - i - 1) ≡ n - i = omega arith in
@@ -167,7 +168,8 @@ module _ (profile : Profile) (n i : ℕ) (low : ℤ) (file : List ℕ) (at : ℕ
       subst (λ (d : Parse (List Layer)). Searched file i d s) (sym e)
       (by k (last_layers profile (suc (n - i - 1)) (state_after (layer_format_in profile) height_of low xs) file next) s w)
     where
-      by : length xs ≡ i → (d : Parse (List Layer)) (s : Result (Option LayerPlace) Broken) → Searched file 0 d s → Searched file i (mapped (λ ys. xs ++ ys) d) s
+      by : length xs ≡ i → (d : Parse (List Layer)) (s : Result (Option LayerPlace) Broken) → Searched file 0 d s
+          → Searched file i (mapped (λ ys. xs ++ ys) d) s
       by k (refused r) s w = w
       by k (parsed ys r) (Err b) w = w
       by k (parsed ys r) (Ok None) w = omega (arith, length-append xs ys)

@@ -79,7 +79,8 @@ module _ {file : List ℕ} {l : Layout} (k : Laid file l) where
 
 module _ {file : List ℕ} {t : Part} where
   pub reads_broken : {place : ℕ} → part_of file ≡ broken place → {met : Result PartCounts Refusal} → met ≡ Err (File place) → ReadsPart file t met t
-  reads_broken {place} e is = does_refuse refl (broken_verdict file (part_sizes_of t) e) (ap tell_read_part is) (refused_keeps (part_in file) t (refusal 13 place))
+  reads_broken {place} e is =
+      does_refuse refl (broken_verdict file (part_sizes_of t) e) (ap tell_read_part is) (refused_keeps (part_in file) t (refusal 13 place))
 
   module _ {l : Layout} (k : Laid file l) {fits : Bool} (r : fits ≡ read_part_room_for (counted_sizes l) (part_sizes_of t)) where
     pub reads_short : fits ≡ false → ReadsPart file t (Err (Room 0)) t

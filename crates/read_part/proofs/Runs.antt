@@ -16,7 +16,8 @@ use Rattle.file_formats.specs.NumberLaws.{signed_parsed, signed_refused}
 use Rattle.file_formats.specs.PartFile.{signed_run, plain_run}
 use Rattle.file_formats.specs.Positions.{number_at, extent, extent_at}
 use Rattle.file_formats.specs.PositionLaws.{took, not_took, number_breaks}
-use Rattle.file_formats.specs.SequenceLaws.{extent_mapped, SequenceCheck, sequence_check, check_bad, check_next, check_end, FirstParsed, first_parsed, none, parsed_length}
+use Rattle.file_formats.specs.SequenceLaws.{extent_mapped, SequenceCheck, sequence_check, check_bad, check_next, check_end, FirstParsed, first_parsed, none}
+use Rattle.file_formats.specs.SequenceLaws.{parsed_length}
 use Rattle.file_formats.specs.EmitLaws.{Emit, emit_start, emit_one, emit_end}
 use Rattle.file_formats.specs.declared.Broken.{Broken}
 use Rattle.read_part.specs.declared.unchecked.FileRun.{FileRun}
@@ -82,7 +83,12 @@ module _ {A : Type 0} (F : Format A) (file : List ℕ) (zs l : List A) where
   fill_start at count rest e h =
       let n : length zs ≡ count = parsed_length (alike F) stay count tt (drop at file) zs rest e in
       let m : count - 0 ≡ count = omega arith in
-      record { qs = zs; rest = rest; parses = ap (λ (left : ℕ). parse_all (alike F) stay left tt (drop at file)) m ∙ e; table = emit_start l 0 zs (omega arith) }
+      record {
+        qs = zs;
+        rest = rest;
+        parses = ap (λ (left : ℕ). parse_all (alike F) stay left tt (drop at file)) m ∙ e;
+        table = emit_start l 0 zs (omega arith);
+      }
 
 module _ {A : Type 0} {F : Format A} {file : List ℕ} {zs l : List A} {count : ℕ} {m : List A} {i k : ℕ} (w : RunFilling F file zs l count m i k) where
   pub fill_end : count ≤ k → m ≡ overwrite zs l
