@@ -18,7 +18,7 @@ use Rattle.cut_points.specs.Points.{points_of}
 use Rattle.cut_points.specs.Climbs.{Climbs}
 use Rattle.cut_trace.specs.Traces.{trace_answer, zeroed, names_after, ends_after}
 use Rattle.cut_trace.specs.Walks.{Traceable}
-use Rattle.cut_trace.specs.declared.Met.{Met}
+use Rattle.cut_trace.specs.declared.UsedCrossing.{UsedCrossing}
 use Rattle.std.specs.Prelude.{Result, Ok, Err}
 use Rattle.polygons.specs.declared.LayerCounts.{LayerCounts}
 use Rattle.cut.specs.Cut.{CutTables, lent, lengths_of, contours_of, tables_after_cut}
@@ -55,7 +55,7 @@ module _ (m : Mesh) (h : ℤ) (tables : CutTables) (o : Outlined m h tables.mark
   names_few = begun_few (has_link marks) (link_of marks) n o.leads n rs all.1
 
   -- what tracing has left
-  module _ {r : Result LayerCounts Met} {names₁ ends₁ marks₁ : List ℕ}
+  module _ {r : Result LayerCounts UsedCrossing} {names₁ ends₁ marks₁ : List ℕ}
       (left : (r ≡ trace_answer t) × ((names₁ ≡ names_after t n tables.names) × ((ends₁ ≡ ends_after t n tables.ends) × (marks₁ ≡ zeroed n marks)))) where
     names_is : names₁ ≡ overwrite (names_of rs) tables.names
     names_is = left.1.0 ∙ (unfold names_after in (ap (λ (u : Traced). names_after u n tables.names) is))
@@ -70,10 +70,10 @@ module _ (m : Mesh) (h : ℤ) (tables : CutTables) (o : Outlined m h tables.mark
     found_is : r ≡ Ok all_counted
     found_is = left.0 ∙ (unfold trace_answer in (ap trace_answer is))
 
-    pub never_stuck : {met : Met} → r ≡ Err met → ⊥
+    pub never_stuck : {met : UsedCrossing} → r ≡ Err met → ⊥
     never_stuck e = absurd (let z : ◌≡◌ {A = ℕ} 0 1 = apart (sym found_is ∙ e) in omega arith)
       where
-        apart : {v : LayerCounts} {met : Met} → ◌≡◌ {A = Result LayerCounts Met} (Ok v) (Err met) → ◌≡◌ {A = ℕ} 0 1
+        apart : {v : LayerCounts} {met : UsedCrossing} → ◌≡◌ {A = Result LayerCounts UsedCrossing} (Ok v) (Err met) → ◌≡◌ {A = ℕ} 0 1
         apart e = cc
 
     module _ {v : LayerCounts} (e : r ≡ Ok v) {h' : ℤ} (eh : h' ≡ h) where
@@ -83,7 +83,7 @@ module _ (m : Mesh) (h : ℤ) (tables : CutTables) (o : Outlined m h tables.mark
       counts : v ≡ all_counted
       counts = the_same (sym e ∙ found_is)
         where
-          the_same : {a b : LayerCounts} → ◌≡◌ {A = Result LayerCounts Met} (Ok a) (Ok b) → a ≡ b
+          the_same : {a b : LayerCounts} → ◌≡◌ {A = Result LayerCounts UsedCrossing} (Ok a) (Ok b) → a ≡ b
           the_same e = cc
 
       few : k ≡ length (names_of rs)

@@ -24,7 +24,7 @@ use Rattle.cut_trace.specs.Traces.{trace_answer, zeroed, names_after, ends_after
 use Rattle.cut_trace.specs.Walks.{ring_of, strike, Walkable, Traceable, NoLinks, Sought}
 use Rattle.std.specs.Prelude.{Result, Ok}
 use Rattle.polygons.specs.declared.LayerCounts.{LayerCounts}
-use Rattle.cut_trace.specs.declared.Met.{Met}
+use Rattle.cut_trace.specs.declared.UsedCrossing.{UsedCrossing}
 use Rattle.cut_trace.proofs.Strikes.{length_strike, strike_join, strike_other, strike_same, strike_behind}
 use Rattle.cut_trace.proofs.RingWalking.{ring_is}
 
@@ -44,7 +44,7 @@ orbit_equal f g (suc m) c h =
 -- ---- the pass
 
 -- so many contours with so many names together
-abbrev pub counted : ℕ → ℕ → Result LayerCounts Met
+abbrev pub counted : ℕ → ℕ → Result LayerCounts UsedCrossing
 counted j k = Ok (record { contours = j; points = k })
 
 pub record RingsTraced (n : ℕ) (links₀ names₀ ends₀ links names ends : List ℕ) (c k j : ℕ) : Type 0 where

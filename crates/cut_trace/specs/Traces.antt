@@ -4,10 +4,10 @@ use Rattle.std.specs.Prelude.{ℕ, List, length, replicate, Result, Ok, Err}
 use Rattle.laws.specs.Tables.{overwrite}
 use Rattle.section.specs.Contours.{Traced, contours, stuck, names_of, ends_of}
 use Rattle.polygons.specs.declared.LayerCounts.{LayerCounts}
-use Rattle.cut_trace.specs.declared.Met.{Met}
+use Rattle.cut_trace.specs.declared.UsedCrossing.{UsedCrossing}
 
 -- the counts of contours and points, or the crossing of refusal 16
-unfoldable pub trace_answer : Traced → Result LayerCounts Met
+unfoldable pub trace_answer : Traced → Result LayerCounts UsedCrossing
 trace_answer (contours rs) = Ok (record { contours = length rs; points = length (names_of rs) })
 trace_answer (stuck p) = Err (record { at = p })
 

@@ -5,6 +5,6 @@ pub mod unchecked_rings;
 
 // A crossing already used, which is not the start of the walk that came to it.
 #[derive(Clone, Copy, Debug, PartialEq, Eq)]
-pub struct Met {
+pub struct UsedCrossing {
     pub at: usize,
 }

@@ -7,13 +7,13 @@ ghost use Rattle.cut_trace.specs.Traces.{trace_answer, zeroed, names_after, ends
 ghost use Rattle.cut_trace.specs.Walks.{ring_of, strike, NoLinks, Sought, Seekable, Walkable, Traceable};
 ghost use Rattle.mesh.specs.Corners.{most_corners};
 
-use crate::Met;
+use crate::UsedCrossing;
 use mesh::unchecked::fill;
 use polygons::LayerCounts;
 use section::NO_CORNER;
 
 // Writes the ring of `start` into names, from place `at` on, and takes its links out: the place after the last name.
-fn walk(links: &mut [u32], names: &mut [u32], start: usize, at: usize) -> Result<usize, Met>
+fn walk(links: &mut [u32], names: &mut [u32], start: usize, at: usize) -> Result<usize, UsedCrossing>
     requires { Walkable links.old names.old start at }
     ensures value { result ≡ Ok (at + length (ring_of links.old start)) }
     ensures names_left { names.new ≡ sets names.old at (ring_of links.old start) }
@@ -31,7 +31,7 @@ fn walk(links: &mut [u32], names: &mut [u32], start: usize, at: usize) -> Result
             return Ok(k);
         }
         if links[d] == NO_CORNER {
-            return Err(Met { at: d });
+            return Err(UsedCrossing { at: d });
         }
         c = d;
     }
@@ -91,7 +91,7 @@ pub fn trace(
     links: &mut [u32],
     names: &mut [u32],
     ends: &mut [u32],
-) -> Result<LayerCounts, Met>
+) -> Result<LayerCounts, UsedCrossing>
     requires { Traceable n links.old names.old ends.old }
     ensures value { result ≡ trace_answer (trace_links n links.old) }
     ensures names_left { names.new ≡ names_after (trace_links n links.old) n

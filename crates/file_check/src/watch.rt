@@ -17,15 +17,15 @@ pub trait Watch: Copy {
 
     // Before the first point.
     fn start() -> Self
-        ensures { seen result ≡ unseen };
+        ensures value { seen result ≡ unseen };
 
     // After one more point, (x, y), where (px, py) came before.
     fn pass(self, px: i32, py: i32, x: i32, y: i32) -> Self
-        ensures { seen result ≡ seeing_in profile (seen self) (point px py) (point x y) };
+        ensures value { seen result ≡ seeing_in profile (seen self) (point px py) (point x y) };
 
     // After the last point, (x, y): whether the contour may stand in the profile.
     fn fits(self, x: i32, y: i32) -> bool
-        ensures { result ≡ seen_fits profile (seen self) (point x y) };
+        ensures value { result ≡ seen_fits profile (seen self) (point x y) };
 }
 
 // That of the full profile, in which any contour may stand.

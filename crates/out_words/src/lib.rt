@@ -24,7 +24,7 @@ pub trait Words {
 
     // Puts them into the first entries; the others stay.
     fn put(self, out: &mut [u64; 4])
-        ensures { out.new ≡ sets out.old 0 (words self) };
+        ensures left { out.new ≡ sets out.old 0 (words self) };
 }
 
 // Check, Nesting.
@@ -130,7 +130,7 @@ pub fn word_of(z: i64) -> u64
 }
 
 // Tells what an operation answers.
-pub fn tell<V: Words>(answer: Result<V, Refusal>, out: &mut [u64; 4]) -> u32
+pub fn tell_answer<V: Words>(answer: Result<V, Refusal>, out: &mut [u64; 4]) -> u32
     ensures outcome { Says V.words (tell (λ v. v) answer) out.old result out.new }
 {
     match answer {

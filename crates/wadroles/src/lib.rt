@@ -16,7 +16,7 @@ ghost use Rattle.preview.specs.Preview.{call_tables};
 ghost use Rattle.nesting.specs.Nesting.{nest_tables};
 
 use cleaning::Profile;
-use out_words::{tell, tell_preview, tell_step};
+use out_words::{tell_answer, tell_preview, tell_step};
 use preview_floats::Origin;
 use sweep::State;
 
@@ -33,7 +33,7 @@ pub extern "C" fn wadroles_check(
         (check_tables pairing.new order.new) out.new }
 {
     let checked = check_mesh::check(coords, corners, pairing, order);
-    tell(checked, out)
+    tell_answer(checked, out)
 }
 
 #[unsafe(no_mangle)]
@@ -53,7 +53,7 @@ pub extern "C" fn wadroles_cut(
         (lent names.new points.new ends.new marks.new) out.new }
 {
     let layer = cut::cut(coords, corners, pairing, h, names, points, ends, marks);
-    tell(layer, out)
+    tell_answer(layer, out)
 }
 
 #[unsafe(no_mangle)]
@@ -78,7 +78,7 @@ pub extern "C" fn wadroles_area(points: &[i32], out: &mut [u64; 4]) -> u32
     ensures outcome { AreaC points.now out.old result out.new }
 {
     let measured = contours::area(points);
-    tell(measured, out)
+    tell_answer(measured, out)
 }
 
 #[unsafe(no_mangle)]
@@ -92,7 +92,7 @@ pub extern "C" fn wadroles_start(
         out.old result ring.new out.new }
 {
     let started = sweep::start(coords, corners, ring);
-    tell(started, out)
+    tell_answer(started, out)
 }
 
 #[unsafe(no_mangle)]
@@ -140,7 +140,7 @@ pub extern "C" fn wadroles_layer(
     let risen = sweep_layer::layer(
         coords, corners, pairing, order, ring, s, h, names, points, ends, marks,
     );
-    tell(risen, out)
+    tell_answer(risen, out)
 }
 
 #[unsafe(no_mangle)]
@@ -156,7 +156,7 @@ pub extern "C" fn wadroles_clean(
         (flat cleanpoints.new cleanends.new) out.new }
 {
     let cleaned = clean::clean(points, ends, cleanpoints, cleanends);
-    tell(cleaned, out)
+    tell_answer(cleaned, out)
 }
 
 #[unsafe(no_mangle)]
@@ -196,7 +196,7 @@ pub extern "C" fn wadroles_all_layers(
         ring,
         output,
     );
-    tell(filed, out)
+    tell_answer(filed, out)
 }
 
 #[unsafe(no_mangle)]
@@ -236,7 +236,7 @@ pub extern "C" fn wadroles_all_layers_clean(
         ring,
         output,
     );
-    tell(filed_clean, out)
+    tell_answer(filed_clean, out)
 }
 
 #[unsafe(no_mangle)]
@@ -252,7 +252,7 @@ pub extern "C" fn wadroles_read_layer(
         (flat points.new ends.new) out.new }
 {
     let read = read_layer::read_layer(Profile::Full, file, i, points, ends);
-    tell(read, out)
+    tell_answer(read, out)
 }
 
 #[unsafe(no_mangle)]
@@ -268,7 +268,7 @@ pub extern "C" fn wadroles_read_layer_clean(
         (flat points.new ends.new) out.new }
 {
     let read_clean = read_layer::read_layer(Profile::Clean, file, i, points, ends);
-    tell(read_clean, out)
+    tell_answer(read_clean, out)
 }
 
 #[unsafe(no_mangle)]
@@ -284,7 +284,7 @@ pub extern "C" fn wadroles_read_part(
         (part coords.new corners.new heights.new) out.new }
 {
     let part = read_part::read_part(file, coords, corners, heights);
-    tell(part, out)
+    tell_answer(part, out)
 }
 
 #[unsafe(no_mangle)]
@@ -322,7 +322,7 @@ pub extern "C" fn wadroles_preview_run(
 {
     let o = Origin { x, y };
     let drawn = preview::preview_run(points, ends, o, number, kinds, xy);
-    tell(drawn, out)
+    tell_answer(drawn, out)
 }
 
 #[unsafe(no_mangle)]
@@ -330,7 +330,7 @@ pub extern "C" fn wadroles_ink(file: &[u8], thickness: u32, out: &mut [u64; 4]) 
     ensures outcome { InkC file.now thickness out.old result out.new }
 {
     let charged = ink::ink(file, thickness);
-    tell(charged, out)
+    tell_answer(charged, out)
 }
 
 #[unsafe(no_mangle)]
@@ -346,5 +346,5 @@ pub extern "C" fn wadroles_nesting(
         (nest_tables depths.new parents.new) out.new }
 {
     let nested = nesting::nesting(points, ends, depths, parents);
-    tell(nested, out)
+    tell_answer(nested, out)
 }

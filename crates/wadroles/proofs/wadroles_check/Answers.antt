@@ -8,5 +8,5 @@ use Rattle.wadroles.proofs.wadroles_check.Goals as goal
 pub returns : goal.returns
 returns c = record {
   outcome = exports_told c.check-checked.ensures.outcome
-      (says_told {words = no_words} (λ _. tt) _ c.tell.ensures.outcome);
+      (says_told {words = no_words} (λ _. tt) _ c.tell_answer.ensures.outcome);
 }

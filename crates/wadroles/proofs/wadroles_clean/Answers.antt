@@ -8,5 +8,5 @@ use Rattle.wadroles.proofs.wadroles_clean.Goals as goal
 pub returns : goal.returns
 returns c = record {
   outcome = exports_told c.clean-cleaned.ensures.outcome
-      (says_told {words = cut_words} (λ c. (c.contours, c.points)) _ c.tell.ensures.outcome);
+      (says_told {words = cut_words} (λ c. (c.contours, c.points)) _ c.tell_answer.ensures.outcome);
 }

@@ -9,5 +9,5 @@ use Rattle.wadroles.proofs.wadroles_cut.Goals as goal
 pub returns : goal.returns
 returns c = record {
   outcome = exports_told (at_height c.ranges.h c.cut-layer.ensures.outcome)
-      (says_told {words = cut_words} (λ c. (c.contours, c.points)) _ c.tell.ensures.outcome);
+      (says_told {words = cut_words} (λ c. (c.contours, c.points)) _ c.tell_answer.ensures.outcome);
 }

@@ -9,5 +9,5 @@ use Rattle.wadroles.proofs.wadroles_layer.Goals as goal
 pub returns : goal.returns
 returns c = record {
   outcome = exports_told (rises_at_height c.ranges.h c.layer-risen.ensures.outcome)
-      (says_told {words = layer_words} (λ r. (r.state.passed, (r.counts.contours, r.counts.points))) _ c.tell.ensures.outcome);
+      (says_told {words = layer_words} (λ r. (r.state.passed, (r.counts.contours, r.counts.points))) _ c.tell_answer.ensures.outcome);
 }

@@ -8,5 +8,5 @@ use Rattle.wadroles.proofs.wadroles_preview_run.Goals as goal
 pub returns : goal.returns
 returns c = record {
   outcome = exports_told c.preview_run-drawn.ensures.outcome
-      (says_told {words = one_word} (λ v. v) _ c.tell.ensures.outcome);
+      (says_told {words = one_word} (λ v. v) _ c.tell_answer.ensures.outcome);
 }

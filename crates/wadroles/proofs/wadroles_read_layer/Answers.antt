@@ -8,5 +8,5 @@ use Rattle.wadroles.proofs.wadroles_read_layer.Goals as goal
 pub returns : goal.returns
 returns c = record {
   outcome = exports_told c.read_layer-read.ensures.outcome
-      (says_told {words = read_layer_words} (λ l. (l.layers, l.height, l.counts.contours, l.counts.points)) _ c.tell.ensures.outcome);
+      (says_told {words = read_layer_words} (λ l. (l.layers, l.height, l.counts.contours, l.counts.points)) _ c.tell_answer.ensures.outcome);
 }

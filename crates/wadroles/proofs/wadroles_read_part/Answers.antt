@@ -8,5 +8,5 @@ use Rattle.wadroles.proofs.wadroles_read_part.Goals as goal
 pub returns : goal.returns
 returns c = record {
   outcome = exports_told c.read_part-part.ensures.outcome
-      (says_told {words = read_part_words} (λ c. (c.vertices, c.triangles, c.heights)) _ c.tell.ensures.outcome);
+      (says_told {words = read_part_words} (λ c. (c.vertices, c.triangles, c.heights)) _ c.tell_answer.ensures.outcome);
 }

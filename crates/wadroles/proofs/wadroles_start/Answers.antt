@@ -8,5 +8,5 @@ use Rattle.wadroles.proofs.wadroles_start.Goals as goal
 pub returns : goal.returns
 returns c = record {
   outcome = exports_told c.start-started.ensures.outcome
-      (says_told {words = one_word} (λ s. s.passed) _ c.tell.ensures.outcome);
+      (says_told {words = one_word} (λ s. s.passed) _ c.tell_answer.ensures.outcome);
 }

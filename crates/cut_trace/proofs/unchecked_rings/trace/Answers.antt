@@ -4,12 +4,12 @@ use mathlib.Core.Path.{◌≡◌}
 use native.Mathlib.Omega.{arith}
 use lib.ListN.{set}
 use Rattle.std.specs.Prelude.{Result, Ok}
-use Rattle.cut_trace.specs.declared.Met.{Met}
+use Rattle.cut_trace.specs.declared.UsedCrossing.{UsedCrossing}
 use Rattle.cut_trace.proofs.RingsTraced.{RingsTraced, tracing_start, tracing_pass, links_length, walkable, end_few, tracing_ring, traced}
 use Rattle.cut_trace.proofs.unchecked_rings.trace.Goals as goal
 use Rattle.cut_trace.proofs.unchecked_rings.trace.Goals.{In-Ok}
 
-end_same : {r : Result ℕ Met} {a b : ℕ} → r ≡ Ok a → r ≡ Ok b → a ≡ b
+end_same : {r : Result ℕ UsedCrossing} {a b : ℕ} → r ≡ Ok a → r ≡ Ok b → a ≡ b
 end_same p q = cc
 
 -- after the walk of corner c

@@ -18,7 +18,7 @@ use Rattle.file_check.proofs.unchecked_position.check_watched.Given.{Over}
 use Rattle.file_check.proofs.unchecked_position.check_watched.Goals.{In_ok-ny}
 
 pub loop-init : goal.loop-init
-loop-init g c = points_checked g.W.Watch.profile _ _ _ c.start-watch.ensures c.sum_none-sum.ensures.value (omega arith) c.requires
+loop-init g c = points_checked g.W.Watch.profile _ _ _ c.start-watch.ensures.value c.sum_none-sum.ensures.value (omega arith) c.requires
 
 pub read_coordinate-requires : goal.read_coordinate-requires
 read_coordinate-requires g c = c.loop.invariant.x_in
@@ -74,7 +74,7 @@ loop-preserved g c =
     let b = (goal.at.loop-preserved g c).In_ok-ny in
     simp (x_is g b, y_is g b)
     (next_point_lem c.loop.invariant (omega arith) (first g b) (second g b) (omega arith)
-    (simp (x_is g b, y_is g b) at c.pass-watch.ensures)
+    (simp (x_is g b, y_is g b) at c.pass-watch.ensures.value)
     (simp (x_is g b, y_is g b) at c.sum_point-sum.ensures.value))
 
 pub sum_closed-requires : goal.sum_closed-requires
@@ -84,6 +84,6 @@ sum_closed-requires g c =
 
 pub returns : goal.returns
 returns g c = record {
-  value = points_done c.loop.invariant (omega arith) refl c.fits.ensures
+  value = points_done c.loop.invariant (omega arith) refl c.fits.ensures.value
       (same w64 c.sum_closed.result c.sum_closed.type_inv ∙ c.sum_closed.ensures.value);
 }
