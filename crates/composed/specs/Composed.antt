@@ -75,7 +75,8 @@ pub record Composed (m : Mesh) (t : CheckTables) : Type 0 where
   pub step : (ring : List ℕ) (n : ℕ) (result : Result (Option State) Refusal) (ring' : List ℕ)
       → Steps (sweep (with_left m t) ring n) result ring' → StepAfter m ring n result
   pub rise : (ring : List ℕ) (n : ℕ) (h : ℤ) (u u' : CutTables) (result : Result Risen Refusal) (ring' : List ℕ)
-      → cut_room_for (length m.corners) (lengths_of u) ≡ true → Rises (sweep (with_left m t) ring n) h u result ring' u' → RiseAfter (with_left m t) ring n h result
+      → cut_room_for (length m.corners) (lengths_of u) ≡ true → Rises (sweep (with_left m t) ring n) h u result ring' u'
+      → RiseAfter (with_left m t) ring n h result
   -- calls of Step and Layer after an unrefused Start leave no more passed than vertices, and a ring table as defined for them
   pub onward : (ring : List ℕ) (result : Result State Refusal) (k : ℕ) (ring₀ : List ℕ) → Starts m ring result ring₀ → tell_start result ≡ gives k
       → (calls : List Call) (n : ℕ) (ring' : List ℕ) → Run (with_left m t) k ring₀ calls n ring'

@@ -92,7 +92,8 @@ module _ {s : Sweep} {h : ℤ} {t t' : CutTables} {ring' : List ℕ} {result : R
   pub layer_given : (tell_layer result ≡ gives (layering (s, h, t)).values) ↔ None (layering (s, h, t)).refusals
   layer_given = given_exactly d
 
-  pub layer_only : {other : Result Risen Refusal} {ring'' : List ℕ} {t'' : CutTables} → Rises s h t other ring'' t'' → (result ≡ other) × (ring' ≡ ring'') × (t' ≡ t'')
+  pub layer_only : {other : Result Risen Refusal} {ring'' : List ℕ} {t'' : CutTables} → Rises s h t other ring'' t''
+      → (result ≡ other) × (ring' ≡ ring'') × (t' ≡ t'')
   layer_only e = let p = only_outcome layer_recovers d e in (p.0, (λ i. (p.1 i).0), (λ i. (p.1 i).1))
 
 -- ---- what an unrefused call has tested

@@ -156,7 +156,8 @@ module _ (s : Sweep) {h : ℤ} (f : SFits w32 h) where
   pub held_tested : RiseTested s h → RiseTested s (to_z w32 (of_z w32 h))
   held_tested = subst (RiseTested s) (sym (to_z-of_z w32 h f))
 
-  pub at_height : {t t' : CutTables} {result : Result Risen Refusal} {ring' : List ℕ} → Lifts s (to_z w32 (of_z w32 h)) t result ring' t' → Lifts s h t result ring' t'
+  pub at_height : {t t' : CutTables} {result : Result Risen Refusal} {ring' : List ℕ}
+      → Lifts s (to_z w32 (of_z w32 h)) t result ring' t' → Lifts s h t result ring' t'
   at_height {t} {t'} {result} {ring'} = subst (λ (z : ℤ). Lifts s z t result ring' t') (to_z-of_z w32 h f)
 
   pub held_tests : (l : Lengths) {v : Finding Told} → v ≡ verdict (rise_tests s (to_z w32 (of_z w32 h)) l) → v ≡ verdict (rise_tests s h l)
