@@ -4,6 +4,7 @@ pub mod ListLaws
 pub mod SetLaws
 pub mod Advances
 pub mod Levels
+pub mod LevelHeights
 pub mod LevelLaws
 pub mod Totals
 pub mod TotalLaws

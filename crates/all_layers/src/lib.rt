@@ -9,6 +9,7 @@ ghost use Rattle.cut.specs.Cut.{lengths};
 ghost use Rattle.all_sweep.specs.AllLayers.{work, work_room_for, layers_tests, Files};
 
 use crate::unchecked::{clear_work, put_file};
+use all_active::levels::Levels;
 use all_heights::{base_z, few_heights, heights_test, taken_count};
 use cleaning::Profile;
 use cut::cut_room_for;
@@ -94,9 +95,13 @@ pub fn all_layers(
     )?;
     let low = base_z(coords, heights);
     let count = taken_count(coords, heights);
+    let levels = Levels {
+        low,
+        given: heights,
+        count,
+    };
     let f = put_file(
-        profile, coords, corners, pairing, low, heights, count, names, points, ends, marks, ring,
-        output,
+        profile, coords, corners, pairing, levels, names, points, ends, marks, ring, output,
     );
     clear_work(corners.len(), names, points, ends, marks, ring);
     f

@@ -5,9 +5,10 @@ ghost use Rattle.mesh.specs.Meshes.{paired};
 ghost use Rattle.cut.specs.Cut.{lent, lengths_of};
 ghost use Rattle.cut.specs.Outlines.{Long};
 ghost use Rattle.all_sweep.specs.AllLayers.{work};
-ghost use Rattle.all_sweep.specs.Works.{Works, Zeroed, PutsFile, taken_heights, taken_file};
+ghost use Rattle.all_sweep.specs.Works.{Works, Zeroed, PutsFile, taken, taken_file};
 ghost use Rattle.all_sweep.specs.Sweeps.{LayersTested};
 
+use all_active::levels::Levels;
 use all_output::unchecked::put_layers;
 use cleaning::Profile;
 use file_formats::MOST_LAYERS;
@@ -20,9 +21,7 @@ pub fn put_file(
     coords: &[i32],
     corners: &[u32],
     pairing: &[u32],
-    low: i32,
-    heights: &[i32],
-    count: usize,
+    levels: Levels<'_>,
     names: &mut [u32],
     points: &mut [i32],
     ends: &mut [u32],
@@ -30,19 +29,19 @@ pub fn put_file(
     ring: &mut [u32],
     output: &mut [u8],
 ) -> Result<usize, Refusal>
-    requires { LayersTested (paired coords.now corners.now pairing.now) (taken_heights low heights.now count)
+    requires { LayersTested (paired coords.now corners.now pairing.now) (taken levels)
         (work names.old points.old ends.old marks.old ring.old) }
     ensures outcome { PutsFile (taken_file profile
         (paired coords.now corners.now pairing.now)
-        (taken_heights low heights.now count)) output.old result output.new }
+        (taken levels.entry)) output.old result output.new }
     ensures work { Works (length corners.now)
         (work names.old points.old ends.old marks.old ring.old)
         (work names.new points.new ends.new marks.new ring.new) }
 {
     let mut heads = [0u32; MOST_LAYERS];
     put_layers(
-        profile, coords, corners, pairing, low, heights, count, names, points, ends, marks, ring,
-        &mut heads, output,
+        profile, coords, corners, pairing, levels, names, points, ends, marks, ring, &mut heads,
+        output,
     )
 }
 

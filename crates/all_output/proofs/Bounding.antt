@@ -1,7 +1,7 @@
 -- The longest that a layer file can be: added up over the heights, and not less than the file.
 use Prim.Native.Nat.{ℕ, zero, suc, ◌+◌, ◌*◌, ◌^◌, ◌≤◌, ◌<◌}
 use mathlib.Core.Path.{◌≡◌, sym, ap, ◌∙◌, subst}
-use mathlib.Core.List.{List, map}
+use mathlib.Core.List.{map}
 use native.Mathlib.Omega.{arith}
 use native.Mathlib.Numerals.{add-one}
 use lib.ListN.{length, take}
@@ -16,7 +16,7 @@ use Rattle.all_heights.specs.Heights.{heights_taken}
 use Rattle.file_write.specs.Written.{layer_bytes, total_of}
 use Rattle.all_active.specs.Lists.{active_at}
 use Rattle.all_active.specs.Totals.{sum_to, CrossingTotal}
-use Rattle.all_sweep.specs.Works.{TakenHeights, taken_heights, taken_at, ListedHeights, taken_file}
+use Rattle.all_sweep.specs.Works.{TakenHeights, taken_at, ListedHeights, taken_file}
 use Rattle.all_sweep.specs.CutLayerLaws.{cut_in, layer_bound}
 use Rattle.all_sweep.specs.PassLaws.{total_next, total_all}
 use Rattle.all_output.specs.Bounds.{longest_file}
@@ -46,14 +46,11 @@ module _ {t : TakenHeights} {crossings : ℕ} where
       subst (λ (i : ℕ). Bounding t crossings i (total + (n + 3))) (sym (add-one k))
       (record { upto = l; sum = omega (arith, b.sum, ap (λ (z : ℤ). length (encode_number (zigzag z))) eh); few = omega (arith, b.few) })
 
-pub bounding_end : {heights : List ℤ} {low low₀ : ℤ} {count crossings k total : ℕ} → low ≡ low₀ → Bounding (taken_heights low heights count) crossings k total
-    → count ≤ k → total ≡ longest_file (taken_heights low₀ heights count) crossings
+pub bounding_end : {t : TakenHeights} {crossings k total : ℕ} → Bounding t crossings k total → t.count ≤ k → total ≡ longest_file t crossings
 unfolding longest_file
-bounding_end {heights} {count = count} {crossings} {k} el b l =
-    let e : k ≡ count = omega (arith, b.upto) in
-    b.sum
-    ∙ (λ x. length (encode_number count) + 10 * crossings
-    + sum_to (e x) (λ j. length (encode_number (zigzag (taken_at (taken_heights (el x) heights count) j))) + 3))
+bounding_end {t} {crossings} {k} b l =
+    let e : k ≡ t.count = omega (arith, b.upto) in
+    b.sum ∙ (λ x. length (encode_number t.count) + 10 * crossings + sum_to (e x) (λ j. length (encode_number (zigzag (taken_at t j))) + 3))
 
 -- ---- not less than the file, in either profile
 

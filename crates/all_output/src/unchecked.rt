@@ -2,15 +2,14 @@
 ghost use Rattle.std.specs.Prelude.{◌≡◌, ◌*◌, ◌≤◌, false, ltb, length};
 ghost use Rattle.mesh.specs.Corners.{most_corners};
 ghost use Rattle.mesh.specs.Meshes.{mesh, paired};
-ghost use Rattle.all_active.specs.Levels.{Climbing};
 ghost use Rattle.file_formats.specs.Numbers.{encode_number, zigzag};
 ghost use Rattle.file_formats.specs.LayerFile.{most_layers};
 ghost use Rattle.all_sweep.specs.AllLayers.{work};
-ghost use Rattle.all_sweep.specs.Works.{Works, PutsFile, taken_heights, taken_file};
+ghost use Rattle.all_sweep.specs.Works.{Works, PutsFile, taken, taken_file};
 ghost use Rattle.all_sweep.specs.Sweeps.{LayersTested, corner_lists, Sweeping};
 ghost use Rattle.all_output.specs.Bounds.{longest_file};
 
-use all_heights::unchecked::taken_height;
+use all_active::levels::Levels;
 use all_sweep::unchecked_sweep::{begin, layers_length, write_layers};
 use cleaning::Profile;
 use file_formats::numbers::{number_length, unsigned_of};
@@ -24,14 +23,13 @@ fn height_length(h: i32) -> usize
 }
 
 // How many bytes the layer file takes at most, by how many crossings all heights have.
-fn longest(low: i32, heights: &[i32], count: usize, crossings: usize) -> usize
-    requires fact_1 { Climbing low heights.now count }
-    requires fact_2 { crossings ≤ most_corners * most_layers }
-    ensures value { result ≡ longest_file (taken_heights low heights.now count) crossings }
+fn longest(levels: Levels<'_>, crossings: usize) -> usize
+    requires { crossings ≤ most_corners * most_layers }
+    ensures value { result ≡ longest_file (taken levels.entry) crossings }
 {
-    let mut total = number_length(count as u64) + 10 * crossings;
-    for k in 0..count {
-        let h = taken_height(low, heights, k);
+    let mut total = number_length(levels.count as u64) + 10 * crossings;
+    for k in 0..levels.count {
+        let h = levels.height(k);
         total += height_length(h) + 3;
     }
     total
@@ -43,9 +41,7 @@ fn is_short(
     coords: &[i32],
     corners: &[u32],
     pairing: &[u32],
-    low: i32,
-    heights: &[i32],
-    count: usize,
+    levels: Levels<'_>,
     names: &mut [u32],
     points: &mut [i32],
     ends: &mut [u32],
@@ -55,35 +51,33 @@ fn is_short(
     bound: usize,
     room: usize,
 ) -> bool
-    requires fact_1 { LayersTested (paired coords.now corners.now pairing.now)
-        (taken_heights low heights.now count)
+    requires fact_1 { LayersTested (paired coords.now corners.now pairing.now) (taken levels)
         (work names.old points.old ends.old marks.old ring.old) }
-    requires fact_2 { Sweeping (mesh coords.now corners.now) (taken_heights low heights.now count) 0
+    requires fact_2 { Sweeping (mesh coords.now corners.now) (taken levels) 0
         (corner_lists ring.old heads.old marks.old (length corners.now)) }
     requires fact_3 { length
-        (taken_file profile (paired coords.now corners.now pairing.now) (taken_heights low heights.now count))
+        (taken_file profile (paired coords.now corners.now pairing.now) (taken levels))
         ≤ bound }
     ensures value { result ≡ ltb room
         (length (taken_file profile (paired coords.now corners.now pairing.now)
-        (taken_heights low heights.now count))) }
+        (taken levels.entry))) }
     ensures work { Works (length corners.now)
         (work names.old points.old ends.old marks.old ring.old)
         (work names.new points.new ends.new marks.new ring.new) }
     ensures outcome { result ≡ false → Sweeping (mesh coords.now corners.now)
-        (taken_heights low heights.now count) 0
+        (taken levels.entry) 0
         (corner_lists ring.new heads.new marks.new (length corners.now)) }
 {
     if bound <= room {
         return false;
     }
     let n = layers_length(
-        profile, coords, corners, pairing, low, heights, count, names, points, ends, marks, ring,
-        heads,
+        profile, coords, corners, pairing, levels, names, points, ends, marks, ring, heads,
     );
     if room < n {
         return true;
     }
-    begin(coords, corners, low, heights, count, marks, ring, heads);
+    begin(coords, corners, levels, marks, ring, heads);
     false
 }
 
@@ -93,9 +87,7 @@ pub fn put_layers(
     coords: &[i32],
     corners: &[u32],
     pairing: &[u32],
-    low: i32,
-    heights: &[i32],
-    count: usize,
+    levels: Levels<'_>,
     names: &mut [u32],
     points: &mut [i32],
     ends: &mut [u32],
@@ -104,26 +96,24 @@ pub fn put_layers(
     heads: &mut [u32],
     output: &mut [u8],
 ) -> Result<usize, Refusal>
-    requires fact_1 { LayersTested (paired coords.now corners.now pairing.now) (taken_heights low heights.now count)
+    requires fact_1 { LayersTested (paired coords.now corners.now pairing.now) (taken levels)
         (work names.old points.old ends.old marks.old ring.old) }
-    requires fact_2 { count ≤ length heads.old }
+    requires fact_2 { levels.count ≤ length heads.old }
     ensures outcome { PutsFile (taken_file profile
         (paired coords.now corners.now pairing.now)
-        (taken_heights low heights.now count)) output.old result output.new }
+        (taken levels.entry)) output.old result output.new }
     ensures work { Works (length corners.now)
         (work names.old points.old ends.old marks.old ring.old)
         (work names.new points.new ends.new marks.new ring.new) }
 {
-    let crossings = begin(coords, corners, low, heights, count, marks, ring, heads);
-    let bound = longest(low, heights, count, crossings);
+    let crossings = begin(coords, corners, levels, marks, ring, heads);
+    let bound = longest(levels, crossings);
     let short = is_short(
         profile,
         coords,
         corners,
         pairing,
-        low,
-        heights,
-        count,
+        levels,
         names,
         points,
         ends,
@@ -137,7 +127,6 @@ pub fn put_layers(
         return Err(Refusal::Output(0));
     }
     Ok(write_layers(
-        profile, coords, corners, pairing, low, heights, count, names, points, ends, marks, ring,
-        heads, output,
+        profile, coords, corners, pairing, levels, names, points, ends, marks, ring, heads, output,
     ))
 }

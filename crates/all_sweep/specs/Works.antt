@@ -10,6 +10,7 @@ use Rattle.file_formats.specs.LayerFile.{most_layers, layer_in}
 use Rattle.sweep.specs.Operations.{unless_refused}
 use Rattle.all_heights.specs.Heights.{heights_taken}
 use Rattle.all_heights.specs.Taking.{RisingHeights, base_z, height_at, Takable}
+use Rattle.all_active.specs.declared.levels.Levels.{Levels}
 use Rattle.file_write.specs.Written.{layer_of}
 use Rattle.file_write.specs.LayerTables.{LayerTables}
 use Rattle.all_sweep.specs.AllLayers.{cut_layer, cut_file, WorkTables, work_after, short_output, tell_all_layers}
@@ -48,6 +49,10 @@ pub record TakenHeights : Type 0 where
 
 abbrev pub taken_heights : ℤ → List ℤ → ℕ → TakenHeights
 taken_heights low heights count = record { low = low; heights = heights; count = count }
+
+-- those of the code's `Levels`
+abbrev pub taken : Levels → TakenHeights
+taken l = taken_heights l.low l.given.now l.count
 
 -- height k of them
 abbrev pub taken_at : TakenHeights → ℕ → ℤ

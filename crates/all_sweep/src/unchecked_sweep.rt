@@ -5,16 +5,15 @@ ghost use Rattle.mesh.specs.Meshes.{mesh, paired};
 ghost use Rattle.section.specs.Section.{Right};
 ghost use Rattle.cut.specs.Cut.{lent, lengths_of};
 ghost use Rattle.cut.specs.Outlines.{Long};
-ghost use Rattle.all_active.specs.Levels.{Climbing};
+ghost use Rattle.all_active.specs.LevelHeights.{level_at};
 ghost use Rattle.all_active.specs.Totals.{CrossingTotal};
-ghost use Rattle.all_heights.specs.Taking.{height_at};
 ghost use Rattle.all_sweep.specs.AllLayers.{work};
-ghost use Rattle.all_sweep.specs.Works.{Spent, Works, HoldsLayer, taken_heights, taken_file};
+ghost use Rattle.all_sweep.specs.Works.{Spent, Works, HoldsLayer, taken, taken_file};
 ghost use Rattle.all_sweep.specs.Sweeps.{Ranged, LayersTested, corner_lists, Sweeping};
 
+use all_active::levels::Levels;
 use all_active::unchecked_lists::{advance, deal_lists};
 use all_contours::unchecked_contours::outline_crossings;
-use all_heights::unchecked::taken_height;
 use clean_layers::unchecked::bring_into;
 use cleaning::Profile;
 use cut_points::unchecked_points::put_points;
@@ -34,26 +33,23 @@ struct Level {
 pub fn begin(
     coords: &[i32],
     corners: &[u32],
-    low: i32,
-    heights: &[i32],
-    count: usize,
+    levels: Levels<'_>,
     marks: &mut [u32],
     ring: &mut [u32],
     heads: &mut [u32],
 ) -> usize
     requires fact_1 { Ranged (mesh coords.now corners.now) }
-    requires fact_2 { Climbing low heights.now count }
-    requires fact_3 { (length corners.now ≤ length marks.old) × (length corners.now ≤ length ring.old)
-        × (count ≤ length heads.old) }
+    requires fact_2 { (length corners.now ≤ length marks.old) × (length corners.now ≤ length ring.old)
+        × (levels.count ≤ length heads.old) }
     ensures lists { Sweeping (mesh coords.now corners.now)
-        (taken_heights low heights.now count) 0
+        (taken levels.entry) 0
         (corner_lists ring.new heads.new marks.new (length corners.now)) }
     ensures spent { Spent (length corners.now) marks.old marks.new
         × Spent (length corners.now) ring.old ring.new }
     ensures total { CrossingTotal coords.now corners.now
-        (height_at low heights.now) count result }
+        (level_at levels.entry) levels.entry.count result }
 {
-    deal_lists(coords, corners, low, heights, count, ring, heads, marks)
+    deal_lists(coords, corners, levels, ring, heads, marks)
 }
 
 // The layer of height k in the profile, put into the tables of points and ends.
@@ -62,9 +58,7 @@ fn next_layer(
     coords: &[i32],
     corners: &[u32],
     pairing: &[u32],
-    low: i32,
-    heights: &[i32],
-    count: usize,
+    levels: Levels<'_>,
     k: usize,
     active: usize,
     heads: &[u32],
@@ -76,21 +70,20 @@ fn next_layer(
 ) -> Level
     requires fact_1 { Right (paired coords.now corners.now pairing.now) }
     requires fact_2 { Long (length corners.now) (lengths_of (lent names.old points.old ends.old marks.old)) }
-    requires fact_3 { Climbing low heights.now count }
-    requires fact_4 { Sweeping (mesh coords.now corners.now) (taken_heights low heights.now count) k
+    requires fact_3 { Sweeping (mesh coords.now corners.now) (taken levels) k
         (corner_lists ring.old heads.now marks.old active) }
-    requires fact_5 { k < count }
+    requires fact_4 { k < levels.count }
     ensures layer { HoldsLayer profile
         (paired coords.now corners.now pairing.now)
-        (height_at low heights.now k) points.new ends.new result.contours }
+        (level_at levels.entry k) points.new ends.new result.contours }
     ensures work { Works (length corners.now)
         (work names.old points.old ends.old marks.old ring.old)
         (work names.new points.new ends.new marks.new ring.new) }
     ensures lists { Sweeping (mesh coords.now corners.now)
-        (taken_heights low heights.now count) (k + 1)
+        (taken levels.entry) (k + 1)
         (corner_lists ring.new heads.now marks.new result.active) }
 {
-    let h = taken_height(low, heights, k);
+    let h = levels.height(k);
     let b = heads[k] as usize;
     let a = advance(coords, corners, h, ring, active, b);
     let s = (k + 1) as u32;
@@ -109,9 +102,7 @@ pub fn layers_length(
     coords: &[i32],
     corners: &[u32],
     pairing: &[u32],
-    low: i32,
-    heights: &[i32],
-    count: usize,
+    levels: Levels<'_>,
     names: &mut [u32],
     points: &mut [i32],
     ends: &mut [u32],
@@ -119,25 +110,25 @@ pub fn layers_length(
     ring: &mut [u32],
     heads: &[u32],
 ) -> usize
-    requires fact_1 { LayersTested (paired coords.now corners.now pairing.now) (taken_heights low heights.now count)
+    requires fact_1 { LayersTested (paired coords.now corners.now pairing.now) (taken levels)
         (work names.old points.old ends.old marks.old ring.old) }
-    requires fact_2 { Sweeping (mesh coords.now corners.now) (taken_heights low heights.now count) 0
+    requires fact_2 { Sweeping (mesh coords.now corners.now) (taken levels) 0
         (corner_lists ring.old heads.now marks.old (length corners.now)) }
     ensures value { result ≡ length (taken_file profile
         (paired coords.now corners.now pairing.now)
-        (taken_heights low heights.now count)) }
+        (taken levels.entry)) }
     ensures work { Works (length corners.now)
         (work names.old points.old ends.old marks.old ring.old)
         (work names.new points.new ends.new marks.new ring.new) }
 {
-    let mut total = number_length(count as u64);
+    let mut total = number_length(levels.count as u64);
     let mut active = corners.len();
-    for k in 0..count {
+    for k in 0..levels.count {
         let s = next_layer(
-            profile, coords, corners, pairing, low, heights, count, k, active, heads, names,
-            points, ends, marks, ring,
+            profile, coords, corners, pairing, levels, k, active, heads, names, points, ends,
+            marks, ring,
         );
-        let h = taken_height(low, heights, k);
+        let h = levels.height(k);
         total += layer_length(h, points, ends, s.contours);
         active = s.active;
     }
@@ -150,9 +141,7 @@ pub fn write_layers(
     coords: &[i32],
     corners: &[u32],
     pairing: &[u32],
-    low: i32,
-    heights: &[i32],
-    count: usize,
+    levels: Levels<'_>,
     names: &mut [u32],
     points: &mut [i32],
     ends: &mut [u32],
@@ -161,32 +150,31 @@ pub fn write_layers(
     heads: &[u32],
     output: &mut [u8],
 ) -> usize
-    requires fact_1 { LayersTested (paired coords.now corners.now pairing.now)
-        (taken_heights low heights.now count)
+    requires fact_1 { LayersTested (paired coords.now corners.now pairing.now) (taken levels)
         (work names.old points.old ends.old marks.old ring.old) }
-    requires fact_2 { Sweeping (mesh coords.now corners.now) (taken_heights low heights.now count) 0
+    requires fact_2 { Sweeping (mesh coords.now corners.now) (taken levels) 0
         (corner_lists ring.old heads.now marks.old (length corners.now)) }
     requires fact_3 { length
-        (taken_file profile (paired coords.now corners.now pairing.now) (taken_heights low heights.now count))
+        (taken_file profile (paired coords.now corners.now pairing.now) (taken levels))
         ≤ length output.old }
     ensures value { result ≡ length (taken_file profile
         (paired coords.now corners.now pairing.now)
-        (taken_heights low heights.now count)) }
+        (taken levels.entry)) }
     ensures output_left { output.new ≡ overwrite (taken_file profile
         (paired coords.now corners.now pairing.now)
-        (taken_heights low heights.now count)) output.old }
+        (taken levels.entry)) output.old }
     ensures work { Works (length corners.now)
         (work names.old points.old ends.old marks.old ring.old)
         (work names.new points.new ends.new marks.new ring.new) }
 {
-    let mut p = write_number(output, 0, count as u64);
+    let mut p = write_number(output, 0, levels.count as u64);
     let mut active = corners.len();
-    for i in 0..count {
+    for i in 0..levels.count {
         let s = next_layer(
-            profile, coords, corners, pairing, low, heights, count, i, active, heads, names,
-            points, ends, marks, ring,
+            profile, coords, corners, pairing, levels, i, active, heads, names, points, ends,
+            marks, ring,
         );
-        let h = taken_height(low, heights, i);
+        let h = levels.height(i);
         p = write_layer(h, points, ends, s.contours, output, p);
         active = s.active;
     }

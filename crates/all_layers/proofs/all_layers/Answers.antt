@@ -5,6 +5,7 @@ use Rattle.mesh.specs.Meshes.{ordered}
 use Rattle.mesh.specs.Refusals.{tell_verdict}
 use Rattle.mesh.proofs.Raising.{raised}
 use Rattle.all_sweep.specs.AllLayers.{work}
+use Rattle.all_sweep.specs.SweepLaws.{climbing}
 use Rattle.all_sweep.specs.PassLaws.{works_long, held_word_is}
 use Rattle.all_sweep.specs.LayersLaws.{FileTested}
 use Rattle.all_layers.proofs.Filing.{layers_tested, files_refused, files_tested, files_put}
@@ -28,6 +29,12 @@ returns-in_err-layers_test c =
           (work a.names.now a.points.now a.ends.now a.marks.now a.ring.now) a.output.now c.layers_test.ensures.told (raised _ c.from_residual.ensures.1)
           (ap tell_verdict c.in_err-layers_test.was);
     }
+
+pub invariant_of-levels : goal.invariant_of-levels
+invariant_of-levels c =
+    let low_is = held_word_is c.base_z-low.type_inv c.base_z-low.ensures.value in
+    let t = layers_tested (tested (goal.at.invariant_of-levels c).In_ok-layers_test) low_is c.taken_count-count.ensures.value in
+    record { climbing = climbing t.listed }
 
 pub put_file-f-requires : goal.put_file-f-requires
 put_file-f-requires c =

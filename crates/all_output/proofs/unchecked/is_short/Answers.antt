@@ -1,11 +1,8 @@
 -- `unchecked::is_short` meets its contract.
-use mathlib.Core.Path.{refl, sym}
-use mir.Syntax.{w32}
-use mir.ValLaws.{to_z-of_z}
+use mathlib.Core.Path.{refl}
 use Rattle.laws.specs.Booleans.{clash}
-use Rattle.all_sweep.specs.SweepLaws.{climbing}
 use Rattle.all_sweep.specs.PassLaws.{works_none, works_begun, works_more}
-use Rattle.all_sweep.specs.StepLaws.{right_ranged, tested_held, tested_more, sweeping_held}
+use Rattle.all_sweep.specs.StepLaws.{right_ranged, tested_more}
 use Rattle.all_output.proofs.Putting.{room_bound, room_short, not_short}
 use Rattle.all_output.proofs.unchecked.is_short.Goals as goal
 
@@ -17,11 +14,10 @@ returns-then-bound-room c = record {
 }
 
 pub layers_length-n-requires : goal.layers_length-n-requires
-layers_length-n-requires c =
-    let e = to_z-of_z w32 c.args.low c.ranges.low in record {
-      fact_1 = tested_held e c.requires.fact_1;
-      fact_2 = sweeping_held e c.requires.fact_2;
-    }
+layers_length-n-requires c = record {
+  fact_1 = c.requires.fact_1;
+  fact_2 = c.requires.fact_2;
+}
 
 pub returns-then-room-n : goal.returns-then-room-n
 returns-then-room-n c = record {
@@ -33,16 +29,14 @@ returns-then-room-n c = record {
 pub begin-requires : goal.begin-requires
 begin-requires c =
     let spent = c.layers_length-n.ensures.work in
-    let t = tested_more (tested_held (to_z-of_z w32 c.args.low c.ranges.low) c.requires.fact_1) spent in record {
+    let t = tested_more c.requires.fact_1 spent in record {
       fact_1 = right_ranged t.right;
-      fact_2 = climbing t.listed;
-      fact_3 = (t.long.marks_long, t.ring_long, c.requires.fact_2.heads_room);
+      fact_2 = (t.long.marks_long, t.ring_long, c.requires.fact_2.heads_room);
     }
 
 pub returns : goal.returns
-returns c =
-    let e = to_z-of_z w32 c.args.low c.ranges.low in record {
-      value = not_short c.layers_length-n.ensures.value c.if-room-n.false;
-      work = works_more c.layers_length-n.ensures.work (works_begun c.begin.ensures.spent);
-      outcome = (λ q. sweeping_held (sym e) c.begin.ensures.lists);
-    }
+returns c = record {
+  value = not_short c.layers_length-n.ensures.value c.if-room-n.false;
+  work = works_more c.layers_length-n.ensures.work (works_begun c.begin.ensures.spent);
+  outcome = (λ q. c.begin.ensures.lists);
+}

@@ -1,33 +1,25 @@
 -- `unchecked::put_layers` meets its contract.
 use mathlib.Core.Path.{sym, ◌∙◌}
 use borrow.Author.Tests.{ltb-false}
-use mir.Syntax.{w32}
-use mir.ValLaws.{to_z-of_z}
-use Rattle.all_sweep.specs.SweepLaws.{climbing}
 use Rattle.all_sweep.specs.PassLaws.{works_begun, works_more}
-use Rattle.all_sweep.specs.StepLaws.{right_ranged, tested_held, tested_more}
+use Rattle.all_sweep.specs.StepLaws.{right_ranged, tested_more}
 use Rattle.all_output.proofs.Bounding.{file_bound}
 use Rattle.all_output.proofs.Putting.{puts_short, puts_whole}
 use Rattle.all_output.proofs.unchecked.put_layers.Goals as goal
 
 pub begin-crossings-requires : goal.begin-crossings-requires
 begin-crossings-requires c =
-    let t = tested_held (to_z-of_z w32 c.args.low c.ranges.low) c.requires.fact_1 in record {
+    let t = c.requires.fact_1 in record {
       fact_1 = right_ranged t.right;
-      fact_2 = climbing t.listed;
-      fact_3 = (t.long.marks_long, t.ring_long, c.requires.fact_2);
+      fact_2 = (t.long.marks_long, t.ring_long, c.requires.fact_2);
     }
 
 pub longest-bound-requires : goal.longest-bound-requires
-longest-bound-requires c =
-    let t = tested_held (to_z-of_z w32 c.args.low c.ranges.low) c.requires.fact_1 in record {
-      fact_1 = climbing t.listed;
-      fact_2 = c.begin-crossings.ensures.total.few;
-    }
+longest-bound-requires c = c.begin-crossings.ensures.total.few
 
 pub is_short-short-requires : goal.is_short-short-requires
 is_short-short-requires c =
-    let t = tested_held (to_z-of_z w32 c.args.low c.ranges.low) c.requires.fact_1 in
+    let t = c.requires.fact_1 in
     let bound = file_bound c.args.profile _ t.right t.listed c.begin-crossings.ensures.total c.longest-bound.ensures.value in record {
       fact_1 = tested_more t (works_begun c.begin-crossings.ensures.spent);
       fact_2 = c.begin-crossings.ensures.lists;
@@ -42,7 +34,7 @@ returns-then-short c = record {
 
 pub write_layers-requires : goal.write_layers-requires
 write_layers-requires c =
-    let t = tested_held (to_z-of_z w32 c.args.low c.ranges.low) c.requires.fact_1 in record {
+    let t = c.requires.fact_1 in record {
       fact_1 = tested_more t (works_more (works_begun c.begin-crossings.ensures.spent) c.is_short-short.ensures.work);
       fact_2 = c.is_short-short.ensures.outcome c.if-short.false;
       fact_3 = ltb-false _ _ (sym c.is_short-short.ensures.value ∙ c.if-short.false);

@@ -1,46 +1,40 @@
 -- `unchecked_sweep::next_layer` meets its contract: the height is read once, and every later place has it; the layer that was cut is brought into the
 -- profile.
 use mathlib.Core.Path.{refl}
-use mir.Syntax.{w32}
-use mir.ValLaws.{to_z-of_z}
 use Rattle.mesh.specs.Meshes.{paired}
-use Rattle.all_active.specs.LevelLaws.{climbing_held}
-use Rattle.all_sweep.specs.Works.{taken_heights}
+use Rattle.all_sweep.specs.Works.{taken}
 use Rattle.all_sweep.specs.Sweeps.{corner_lists}
 use Rattle.all_sweep.specs.SweepLaws.{AtHeight, advancing, outlinable}
-use Rattle.all_sweep.specs.PassLaws.{held, held_word}
-use Rattle.all_sweep.specs.StepLaws.{height_held, points_asked, points_climb, level_tables, level_brought, level_holds, level_works, level_sweeps}
+use Rattle.all_sweep.specs.PassLaws.{held, held_word_is, held_word}
+use Rattle.all_sweep.specs.StepLaws.{points_asked, points_climb, level_tables, level_brought, level_holds, level_works, level_sweeps}
 use Rattle.all_sweep.proofs.unchecked_sweep.next_layer.Goals as goal
-use Rattle.all_sweep.proofs.unchecked_sweep.next_layer.Goals.{After-taken_height-h}
+use Rattle.all_sweep.proofs.unchecked_sweep.next_layer.Goals.{After-height-h}
 
 -- the sweep at the height that was read
-level : (c : After-taken_height-h)
+level : (c : After-height-h)
     → let args = c.args in
-    AtHeight (paired args.coords.now args.corners.now args.pairing.now) (taken_heights args.low args.heights.now args.count) args.k
-    (corner_lists args.ring.now args.heads.now args.marks.now args.active) (held c.taken_height-h.result)
+    AtHeight (paired args.coords.now args.corners.now args.pairing.now) (taken args.levels) args.k
+    (corner_lists args.ring.now args.heads.now args.marks.now args.active) (held c.height-h.result)
 level c =
     record {
       right = c.requires.fact_1;
-      climbs = c.requires.fact_3;
-      sweeps = c.requires.fact_4;
-      less = c.requires.fact_5;
-      is = height_held (to_z-of_z w32 c.args.low c.ranges.low) c.args.heights.now c.args.k c.taken_height-h.type_inv c.taken_height-h.ensures.value;
-      fits = held_word c.taken_height-h.result c.taken_height-h.type_inv;
+      climbs = c.args.levels.climbing;
+      sweeps = c.requires.fact_3;
+      less = c.requires.fact_4;
+      is = held_word_is c.height-h.type_inv c.height-h.ensures.value;
+      fits = held_word c.height-h.result c.height-h.type_inv;
     }
 
-pub taken_height-h-requires : goal.taken_height-h-requires
-taken_height-h-requires c = (climbing_held (to_z-of_z w32 c.args.low c.ranges.low) c.requires.fact_3).each c.args.k c.requires.fact_5
-
 pub advance-a-requires : goal.advance-a-requires
-advance-a-requires c = advancing (level (goal.at.advance-a-requires c).After-taken_height-h) refl
+advance-a-requires c = advancing (level (goal.at.advance-a-requires c).After-height-h) refl
 
 pub outline_crossings-f-requires : goal.outline_crossings-f-requires
 outline_crossings-f-requires c =
-    outlinable (level (goal.at.outline_crossings-f-requires c).After-taken_height-h) c.advance-a.ensures.outcome c.requires.fact_2 refl
+    outlinable (level (goal.at.outline_crossings-f-requires c).After-height-h) c.advance-a.ensures.outcome c.requires.fact_2 refl
 
 pub put_points-requires : goal.put_points-requires
 put_points-requires c =
-    let here = level (goal.at.put_points-requires c).After-taken_height-h in
+    let here = level (goal.at.put_points-requires c).After-height-h in
     let contours = c.outline_crossings-f.ensures.outcome in record {
       fact_1 = points_asked here c.args.points.now c.requires.fact_2 contours;
       fact_2 = points_climb here c.args.points.now c.requires.fact_2 contours;
@@ -48,12 +42,12 @@ put_points-requires c =
 
 pub bring_into-contours-requires : goal.bring_into-contours-requires
 bring_into-contours-requires c =
-    let here = level (goal.at.bring_into-contours-requires c).After-taken_height-h in
+    let here = level (goal.at.bring_into-contours-requires c).After-height-h in
     level_tables here c.args.points.now c.requires.fact_2 c.outline_crossings-f.ensures.outcome c.put_points.ensures.left
 
 pub returns : goal.returns
 returns c =
-    let here = level (goal.at.returns c).After-taken_height-h in
+    let here = level (goal.at.returns c).After-height-h in
     let points = c.args.points.now in
     let long = c.requires.fact_2 in
     let contours = c.outline_crossings-f.ensures in
