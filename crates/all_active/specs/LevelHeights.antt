@@ -1,7 +1,7 @@
 -- The heights that a value of the code's `Levels` stands for.
 use Rattle.std.specs.Prelude.{ℕ, ℤ}
 use Rattle.all_heights.specs.Taking.{height_at}
-use Rattle.all_active.specs.declared.levels.Levels.{Levels}
+use Rattle.all_active.specs.declared.unchecked_levels.Levels.{Levels}
 
 -- height k of them
 abbrev pub level_at : Levels → ℕ → ℤ

@@ -9,7 +9,7 @@ ghost use Rattle.cut.specs.Cut.{lengths};
 ghost use Rattle.all_sweep.specs.AllLayers.{work, work_room_for, layers_tests, Files};
 
 use crate::unchecked::{clear_work, put_file};
-use all_active::levels::Levels;
+use all_active::unchecked_levels::Levels;
 use all_heights::{base_z, few_heights, heights_test, taken_count};
 use cleaning::Profile;
 use cut::cut_room_for;

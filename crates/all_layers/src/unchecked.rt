@@ -8,7 +8,7 @@ ghost use Rattle.all_sweep.specs.AllLayers.{work};
 ghost use Rattle.all_sweep.specs.Works.{Works, Zeroed, PutsFile, taken, taken_file};
 ghost use Rattle.all_sweep.specs.Sweeps.{LayersTested};
 
-use all_active::levels::Levels;
+use all_active::unchecked_levels::Levels;
 use all_output::unchecked::put_layers;
 use cleaning::Profile;
 use file_formats::MOST_LAYERS;

@@ -9,7 +9,7 @@ ghost use Rattle.all_sweep.specs.Works.{Works, PutsFile, taken, taken_file};
 ghost use Rattle.all_sweep.specs.Sweeps.{LayersTested, corner_lists, Sweeping};
 ghost use Rattle.all_output.specs.Bounds.{longest_file};
 
-use all_active::levels::Levels;
+use all_active::unchecked_levels::Levels;
 use all_sweep::unchecked_sweep::{begin, layers_length, write_layers};
 use cleaning::Profile;
 use file_formats::numbers::{number_length, unsigned_of};

@@ -10,7 +10,7 @@ use Rattle.file_formats.specs.LayerFile.{most_layers, layer_in}
 use Rattle.sweep.specs.Operations.{unless_refused}
 use Rattle.all_heights.specs.Heights.{heights_taken}
 use Rattle.all_heights.specs.Taking.{RisingHeights, base_z, height_at, Takable}
-use Rattle.all_active.specs.declared.levels.Levels.{Levels}
+use Rattle.all_active.specs.declared.unchecked_levels.Levels.{Levels}
 use Rattle.file_write.specs.Written.{layer_of}
 use Rattle.file_write.specs.LayerTables.{LayerTables}
 use Rattle.all_sweep.specs.AllLayers.{cut_layer, cut_file, WorkTables, work_after, short_output, tell_all_layers}

@@ -11,7 +11,7 @@ ghost use Rattle.all_sweep.specs.AllLayers.{work};
 ghost use Rattle.all_sweep.specs.Works.{Spent, Works, HoldsLayer, taken, taken_file};
 ghost use Rattle.all_sweep.specs.Sweeps.{Ranged, LayersTested, corner_lists, Sweeping};
 
-use all_active::levels::Levels;
+use all_active::unchecked_levels::Levels;
 use all_active::unchecked_lists::{advance, deal_lists};
 use all_contours::unchecked_contours::outline_crossings;
 use clean_layers::unchecked::bring_into;

@@ -13,7 +13,12 @@ use polygons::LayerCounts;
 use section::NO_CORNER;
 
 // Writes the ring of `start` into names, from place `at` on, and takes its links out: the place after the last name.
-fn walk(links: &mut [u32], names: &mut [u32], start: usize, at: usize) -> Result<usize, UsedCrossing>
+fn walk(
+    links: &mut [u32],
+    names: &mut [u32],
+    start: usize,
+    at: usize,
+) -> Result<usize, UsedCrossing>
     requires { Walkable links.old names.old start at }
     ensures value { result ≡ Ok (at + length (ring_of links.old start)) }
     ensures names_left { names.new ≡ sets names.old at (ring_of links.old start) }

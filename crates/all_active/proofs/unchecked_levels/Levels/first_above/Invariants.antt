@@ -2,7 +2,7 @@
 use Prim.Native.Nat.{◌-◌}
 use Rattle.all_active.specs.LevelHeights.{level_at}
 use Rattle.all_active.specs.LevelLaws.{Halved}
-use Rattle.all_active.proofs.levels.Levels.first_above.Given as goal
+use Rattle.all_active.proofs.unchecked_levels.Levels.first_above.Given as goal
 
 abbrev pub invariant-loop-a : goal.invariant-loop-a
 invariant-loop-a l = Halved (level_at l.self) l.self.count 0 l.z l.a l.b

@@ -1,6 +1,6 @@
 -- `Levels::edge_rise` meets its contract.
 use Rattle.all_active.proofs.Searches.{edge_flat, edge_none, edge_here, held}
-use Rattle.all_active.proofs.levels.Levels.edge_rise.Goals as goal
+use Rattle.all_active.proofs.unchecked_levels.Levels.edge_rise.Goals as goal
 
 pub returns-then-y-z : goal.returns-then-y-z
 returns-then-y-z c = record { result = edge_flat c.args.self.climbing (held c.ranges.z) (held c.ranges.y) c.if-y-z.true }

@@ -4,7 +4,7 @@ use native.Mathlib.Omega.{arith}
 use mir.Syntax.{w32}
 use Rattle.laws.specs.Machine.{same}
 use Rattle.all_active.proofs.Searches.{halve_high}
-use Rattle.all_active.proofs.levels.Levels.first_above.Goals as goal
+use Rattle.all_active.proofs.unchecked_levels.Levels.first_above.Goals as goal
 
 pub loop-a-preserved : goal.loop-a-preserved
 loop-a-preserved c =

@@ -1,4 +1,4 @@
-// The heights taken as the code has them, and where an edge rises among them.
+// The heights taken as one value, and where an edge rises among them. The `requires` say that a number is one of theirs.
 ghost use Rattle.all_active.specs.Levels.{Climbing};
 
 use all_heights::unchecked::taken_height;
