@@ -1,18 +1,18 @@
 -- Layer: what its tests establish, and what each return leaves, by the verdict of its tests.
-use Prim.Native.Nat.{ℕ, ◌≤◌}
+use Prim.Native.Nat.{ℕ}
 use Rattle.std.specs.Prelude.{Result, Ok, Err}
 use mathlib.Core.Path.{◌≡◌, refl, sym, ap, ◌∙◌, subst}
 use mathlib.Core.Bool.{Bool, false}
-use mathlib.Core.List.{List, [], ◌∷◌, ◌++◌}
+use mathlib.Core.List.{List, [], ◌∷◌}
 use native.Mathlib.Omega.{arith}
 use borrow.Author.Tests.{ltb-false, not-false}
-use lib.ListN.{length, take, drop}
+use lib.ListN.{length, get_or}
 use lib.IntN.{ℤ}
 use mir.Syntax.{w32}
 use mir.Val.{SFits, to_z, of_z}
 use mir.ValLaws.{to_z-of_z}
-use Rattle.laws.specs.Tables.{tabulate, overwrite, refill}
-use Rattle.laws.specs.TableLaws.{length_tabulate, length_refill, overwrite_front}
+use Rattle.laws.specs.Tables.{refill}
+use Rattle.laws.specs.TableLaws.{refill_same, refill_at}
 use Rattle.mesh.specs.Corners.{vertex_count}
 use Rattle.mesh.specs.Meshes.{PairedMesh, OrderedMesh}
 use Rattle.mesh.specs.Operation.{Condition, Finding, gives, refuses, fine, verdict}
@@ -99,23 +99,15 @@ module _ (s : Sweep) (h : ℤ) (r : RiseTested s h) where
   entry = ring_entry (under (mesh_of s).coords h 0) (mesh_of s).corners (sweep_pairing s)
 
   -- the ring table in one pass, and its copy in the marks
-  module _ (marks : List ℕ) {ring₁ copy : List ℕ}
+  module _ (marks : List ℕ) {ring₁ marks₁ : List ℕ}
       (er : ring₁ ≡ refill (length (mesh_of s).corners) (ring_entry (under (mesh_of s).coords h 0) (mesh_of s).corners (sweep_pairing s)) s.ring)
-      (ec : copy ≡ take (length (mesh_of s).corners) ring₁) where
-    abbrev marks₁ : List ℕ
-    marks₁ = copy ++ drop (length (mesh_of s).corners) marks
-
+      (em : marks₁ ≡ refill (length (mesh_of s).corners) (λ c. get_or ring₁ c 0) marks) where
     copied : marks₁ ≡ refill (length (mesh_of s).corners) entry marks
-    unfolding overwrite
     copied =
-        let n = length (mesh_of s).corners in
-        let l = length_tabulate n entry in
-        λ i. (ec ∙ ap (take n) er ∙ overwrite_front (tabulate n entry) s.ring l) i ++ drop (sym l i) marks
+        em ∙ refill_same (length (mesh_of s).corners) (λ c. get_or ring₁ c 0) entry marks
+        (λ c k. ap (λ (t : List ℕ). get_or t c 0) er ∙ refill_at (length (mesh_of s).corners) entry s.ring c 0 k)
 
-    pub copied_long : length (mesh_of s).corners ≤ length marks → length (copy ++ drop (length (mesh_of s).corners) marks) ≡ length marks
-    copied_long h = ap length copied ∙ length_refill (length (mesh_of s).corners) entry marks h
-
-    pub raise_outlined : Outlined (mesh_of s) h (copy ++ drop (length (mesh_of s).corners) marks)
+    pub raise_outlined : Outlined (mesh_of s) h marks₁
     raise_outlined = outlined s.ordered.paired h right marks₁ marks copied
 
     risen : ring₁ ≡ risen_table s h
@@ -131,8 +123,7 @@ module _ (s : Sweep) (h : ℤ) (r : RiseTested s h) where
     traced = sym (section_is s.ordered.paired h right ring₁ s.ring er) ∙ ap (trace_links (length (mesh_of s).corners)) risen
 
     module _ {names : List ℕ} {points : List ℤ} {ends : List ℕ} {result : Result LayerCounts Refusal} {t' : CutTables}
-        (d : Traces (trace_links (length (mesh_of s).corners) (copy ++ drop (length (mesh_of s).corners) marks)) (mesh_of s) h
-        (lent names points ends (copy ++ drop (length (mesh_of s).corners) marks)) result t') where
+        (d : Traces (trace_links (length (mesh_of s).corners) marks₁) (mesh_of s) h (lent names points ends marks₁) result t') where
       cut : Traces (section s.ordered.paired h) (mesh_of s) h (lent names points ends marks) result t'
       cut = sliced s.ordered.paired h right marks₁ marks copied d
 

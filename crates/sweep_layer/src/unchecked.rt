@@ -1,5 +1,6 @@
 // The parts of Layer. Each `requires` says what the tests before it establish.
-ghost use Rattle.std.specs.Prelude.{◌≡◌, ◌≤◌, length};
+ghost use Rattle.std.specs.Prelude.{◌≡◌, ◌≤◌, length, get_or};
+ghost use Rattle.laws.specs.Tables.{refill};
 ghost use Rattle.mesh.specs.Corners.{vertex_count};
 ghost use Rattle.mesh.specs.Meshes.{ordered, paired};
 ghost use Rattle.mesh.specs.Operation.{verdict};
@@ -37,6 +38,16 @@ pub fn risen_to(coords: &[i32], order: &[u32], n: usize, h: i32) -> usize
     vertices
 }
 
+// Copies the first n entries, one by one: `copy_from_slice` would have the archive ask for memmove.
+pub fn copy_front(from: &[u32], to: &mut [u32], n: usize)
+    requires { (n ≤ length from.now) × (n ≤ length to.old) }
+    ensures left { to.new ≡ refill n (λ c. get_or from.now c 0) to.old }
+{
+    for i in 0..n {
+        to[i] = from[i];
+    }
+}
+
 // Rises to h from n passed vertices, and writes the layer there from a copy of the ring table.
 pub fn raise(
     coords: &[i32],
@@ -61,7 +72,7 @@ pub fn raise(
 {
     let passed = risen_to(coords, order, n, h);
     link_at(coords, corners, pairing, h, ring);
-    marks[..corners.len()].copy_from_slice(&ring[..corners.len()]);
+    copy_front(ring, marks, corners.len());
     match outline_rings(coords, corners, h, names, points, ends, marks) {
         Ok(counts) => Ok(Risen {
             state: State { passed },

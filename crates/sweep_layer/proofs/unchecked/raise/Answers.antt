@@ -6,7 +6,7 @@ use Rattle.mesh.specs.Meshes.{ordered}
 use Rattle.cut.specs.OutlineLaws.{long_links}
 use Rattle.sweep.specs.Sweep.{Sweep, sweep}
 use Rattle.sweep.specs.Places.{RiseTested}
-use Rattle.sweep_layer.proofs.Lifting.{held_tested, at_height, raise_outlined, copied_long, never_refused, lifts}
+use Rattle.sweep_layer.proofs.Lifting.{held_tested, at_height, raise_outlined, never_refused, lifts}
 use Rattle.sweep_layer.proofs.unchecked.raise.Goals as goal
 use Rattle.sweep_layer.proofs.unchecked.raise.Goals.{In-Err, Start}
 
@@ -27,16 +27,14 @@ never : In-Err → ⊥
 never c =
     let s : Sweep = sweep (ordered c.args.coords.now c.args.corners.now c.args.pairing.now c.args.order.now) c.args.ring.now c.args.n in
     never_refused s (to_z w32 (of_z w32 c.args.h)) (held_tested s c.ranges.h c.requires.fact_1) c.args.marks.now
-    c.link_at.ensures.left c.copy_from_slice.ensures.after c.outline_rings.ensures.outcome c.in-Err.is
+    c.link_at.ensures.left c.copy_front.ensures.left c.outline_rings.ensures.outcome c.in-Err.is
 
 pub outline_rings-requires : goal.outline_rings-requires
 outline_rings-requires c =
     let start = (goal.at.outline_rings-requires c).Start in
     record {
-      fact_1 = raise_outlined (sweep_of start) (height_of start) (tested start) c.args.marks.now c.link_at.ensures.left c.copy_from_slice.ensures.after;
-      fact_2 = long_links c.requires.fact_2
-          (copied_long (sweep_of start) (height_of start) (tested start) c.args.marks.now c.link_at.ensures.left c.copy_from_slice.ensures.after
-          c.requires.fact_2.marks_long);
+      fact_1 = raise_outlined (sweep_of start) (height_of start) (tested start) c.args.marks.now c.link_at.ensures.left c.copy_front.ensures.left;
+      fact_2 = long_links c.requires.fact_2 c.copy_front.auto.to;
     }
 
 pub height_behind-z-requires : goal.height_behind-z-requires
@@ -50,7 +48,7 @@ returns-in-Ok c =
     let start = (goal.at.returns-in-Ok c).Start in
     record {
       outcome = at_height (sweep_of start) c.ranges.h
-          (lifts (sweep_of start) (height_of start) (tested start) c.args.marks.now c.link_at.ensures.left c.copy_from_slice.ensures.after
+          (lifts (sweep_of start) (height_of start) (tested start) c.args.marks.now c.link_at.ensures.left c.copy_front.ensures.left
           c.outline_rings.ensures.outcome c.in-Ok.is c.risen_to-passed.ensures.value);
     }
 
