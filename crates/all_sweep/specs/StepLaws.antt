@@ -1,6 +1,8 @@
 -- The sweep begun, and one height of it: one lemma for each need of the code.
 use Rattle.std.specs.Prelude.{ℕ, ◌+◌, ◌*◌, ◌≤◌, ◌<◌, ◌≡◌, refl, List, length, get_or, take, ℤ}
-use Rattle.std.proofs.Common.{subst, arith}
+use Rattle.std.proofs.Common.{sym, ap, ◌∙◌, subst, arith, to_z, of_z}
+use Rattle.std.specs.Int.{w32}
+use Rattle.laws.specs.Machine.{same}
 use Rattle.laws.specs.Tables.{overwrite}
 use Rattle.mesh.specs.Meshes.{Mesh, PairedMesh}
 use Rattle.polygons.specs.Flat.{flat}
@@ -9,21 +11,43 @@ use Rattle.cleaning.specs.declared.Profile.TheVariants.{Full}
 use Rattle.section.specs.Section.{Right}
 use Rattle.cut_points.specs.Climbs.{Climbs}
 use Rattle.cut_points.specs.Points.{points_of}
+use Rattle.file_formats.specs.Numbers.{Word}
 use Rattle.file_write.specs.LayerTables.{LayerTables}
 use Rattle.clean_layers.specs.Layers.{LeftIn}
 use Rattle.cut.specs.Cut.{lent, lengths_of}
 use Rattle.cut.specs.Outlines.{Long}
+use Rattle.all_heights.specs.Taking.{height_at}
 use Rattle.all_active.specs.Lists.{active_at}
 use Rattle.all_active.specs.Advances.{ListRelinked}
 use Rattle.all_active.specs.Levels.{Dealt, KeptFrom}
+use Rattle.all_active.specs.Totals.{CrossingTotal}
 use Rattle.all_contours.specs.Rounds.{Followed, Marked}
 use Rattle.all_sweep.specs.AllLayers.{WorkTables, work}
-use Rattle.all_sweep.specs.Works.{Spent, Works, HoldsLayer, TakenHeights, taken_at}
+use Rattle.all_sweep.specs.Works.{Spent, Works, HoldsLayer, TakenHeights, taken_heights, taken_at}
 use Rattle.all_sweep.specs.Sweeps.{Ranged, LayersTested, CornerLists, corner_lists, Sweeping}
 use Rattle.all_sweep.specs.CutLayerLaws.{spent_more, spent_kept, k_names, k_points, names_climb, names_spent, ends_spent, points_spent, followed_holds}
 use Rattle.all_sweep.specs.CutLayerLaws.{Brought, brought}
 use Rattle.all_sweep.specs.PassLaws.{works_long}
 use Rattle.all_sweep.specs.SweepLaws.{sweeping_start, AtHeight, ring_kept, sweeping_next}
+
+-- ---- the lowest z and a height, as the code holds them
+
+module _ {low low' : ℤ} (e : low' ≡ low) where
+  pub sweeping_held : {m : Mesh} {heights : List ℤ} {count k : ℕ} {l : CornerLists} → Sweeping m (taken_heights low heights count) k l
+      → Sweeping m (taken_heights low' heights count) k l
+  sweeping_held {m} {heights} {count} {k} {l} = subst (λ (z : ℤ). Sweeping m (taken_heights z heights count) k l) (sym e)
+
+  pub tested_held : {m : PairedMesh} {heights : List ℤ} {count : ℕ} {w : WorkTables} → LayersTested m (taken_heights low heights count) w
+      → LayersTested m (taken_heights low' heights count) w
+  tested_held {m} {heights} {count} {w} = subst (λ (z : ℤ). LayersTested m (taken_heights z heights count) w) (sym e)
+
+  -- a height as the code has got it
+  pub height_held : (heights : List ℤ) (k : ℕ) {r : ℤ} → Word r → r ≡ height_at low' heights k → to_z w32 (of_z w32 r) ≡ height_at low heights k
+  height_held heights k {r} w is = same w32 r w ∙ is ∙ ap (λ (z : ℤ). height_at z heights k) e
+
+  pub crossings_held : (heights : List ℤ) {coords : List ℤ} {corners : List ℕ} {count crossings : ℕ}
+      → CrossingTotal coords corners (height_at low' heights) count crossings → CrossingTotal coords corners (height_at low heights) count crossings
+  crossings_held heights {coords} {corners} {count} {crossings} = subst (λ (z : ℤ). CrossingTotal coords corners (height_at z heights) count crossings) e
 
 -- ---- what the tests establish
 
@@ -42,11 +66,23 @@ module _ {m : Mesh} (ranged : Ranged m) (t : TakenHeights) (heads : List ℕ) {m
     (d : Dealt m.coords m.corners (taken_at t) t.count 0 ring₁ heads₁ marks₁ × KeptFrom (length m.corners) ring ring₁
     × KeptFrom (length m.corners) marks marks₁)
     (eh : length heads₁ ≡ length heads) where
-  pub begun_sweep : Sweeping m t 0 (corner_lists ring₁ heads₁ marks₁ (length m.corners))
-  begun_sweep = sweeping_start m ranged d.0 (omega (arith, d.1.size)) (omega arith)
+  pub begun_at : Sweeping m t 0 (corner_lists ring₁ heads₁ marks₁ (length m.corners))
+  begun_at = sweeping_start m ranged d.0 (omega (arith, d.1.size)) (omega arith)
+
+  pub spent_at : Spent (length m.corners) marks marks₁ × Spent (length m.corners) ring ring₁
+  spent_at = (spent_kept d.2, spent_kept d.1)
+
+-- the same over a lowest z by another name
+module _ {m : Mesh} (ranged : Ranged m) {low low' : ℤ} (heights : List ℤ) {count : ℕ} (el : low' ≡ low) (heads : List ℕ)
+    {marks marks₁ ring ring₁ heads₁ : List ℕ} (ring_long : length m.corners ≤ length ring) (heads_long : count ≤ length heads)
+    (d : Dealt m.coords m.corners (height_at low' heights) count 0 ring₁ heads₁ marks₁ × KeptFrom (length m.corners) ring ring₁
+    × KeptFrom (length m.corners) marks marks₁)
+    (eh : length heads₁ ≡ length heads) where
+  pub begun_sweep : Sweeping m (taken_heights low heights count) 0 (corner_lists ring₁ heads₁ marks₁ (length m.corners))
+  begun_sweep = sweeping_held (sym el) (begun_at ranged (taken_heights low' heights count) heads ring_long heads_long d eh)
 
   pub begun_spent : Spent (length m.corners) marks marks₁ × Spent (length m.corners) ring ring₁
-  begun_spent = (spent_kept d.2, spent_kept d.1)
+  begun_spent = spent_at ranged (taken_heights low' heights count) heads ring_long heads_long d eh
 
 -- ---- next_layer
 

@@ -30,7 +30,7 @@ use Rattle.file_formats.specs.declared.Broken.{Broken}
 use Rattle.file_check.specs.declared.PointsEnd.{PointsEnd}
 use Rattle.file_check.specs.declared.ContoursEnd.{ContoursEnd}
 use Rattle.file_check.specs.Answers.{points_at, points_end, contour_told_at, contour_end, contours_at, contours_end, counts_at, counts_end}
-use Rattle.file_check.specs.AnswerLaws.{told_parsed, told_off, told_bad, from_ok, from_off, contour_read, contour_off, contours_read_lem}
+use Rattle.file_check.specs.AnswerLaws.{told_parsed, told_off, told_bad, from_ok, broken_off, contour_read, contour_off, contours_read_lem}
 use Rattle.file_check.specs.AnswerLaws.{ContoursTold, contours_off, room_left_lem, contours_by_count}
 use Rattle.file_check.specs.RunLaws.{Running, run_off, run_next, run_end, running_of, state_of}
 use Rattle.file_check.specs.AreaLaws.{contour_in_room, contour_sum_le}
@@ -108,7 +108,7 @@ module _ (p : Profile) (room : ℕ) (file : List ℕ) (at : ℕ) (h : at ≤ len
 
       pub points_stop : {b : Broken} → points_at p n file next ≡ Err b → Err b ≡ contour_told_at p room file at
       points_stop f =
-          let q = from_off (points_end p) (sequence point_format latest n origin) file next f in
+          let q = broken_off (points_end p) (sequence point_format latest n origin) file next f in
           told_off (λ c next. Ok (contour_end room c next)) (λ q. Err (breaks_at q)) (contour_in p room) file at
           (record { rest = q.rest; parses = refused_in p room (drop at file) (by_points ∙ q.parses); place = q.place })
 

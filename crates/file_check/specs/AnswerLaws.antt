@@ -53,6 +53,36 @@ module _ {A B : Type 0} (good : A → ℕ → B) (bad : ℕ → B) (F : Format A
 
 -- ---- and back
 
+-- answers of two kinds, by a key of the value and the position after it, or by a refused position
+pub record Kinds {K B : Type 0} (good : K → ℕ → B) (bad : ℕ → B) : Type 0 where
+  pub apart : {k : K} {n p : ℕ} → good k n ≡ bad p → ⊥
+  pub key_told : {k l : K} {n m : ℕ} → good k n ≡ good l m → k ≡ l
+  pub next_told : {k l : K} {n m : ℕ} → good k n ≡ good l m → n ≡ m
+
+module _ {K A B : Type 0} {good : K → ℕ → B} {bad : ℕ → B} (kinds : Kinds good bad) (key : A → K) (F : Format A) (file : List ℕ) (at : ℕ) where
+  pub from_good : Tails F → at ≤ length file → (k : K) (next : ℕ) → told_at (λ a. good (key a)) bad F file at ≡ good k next
+      → (a : A) × ParsedAt F file at a next × (key a ≡ k)
+  unfolding told_at
+  from_good T h k next e = by (F.parse (drop at file)) refl
+    where
+      by : (d : Parse A) → F.parse (drop at file) ≡ d → (a : A) × ParsedAt F file at a next × (key a ≡ k)
+      by (parsed a r) p =
+          let f : good (key a) (length file - length r) ≡ good k next = simp p at e in
+          (a, subst (ParsedAt F file at a) (kinds.next_told f) (parsed_at T file at h a r p), kinds.key_told f)
+      by (refused r) p = absurd (kinds.apart (sym (simp p at e)))
+
+  pub from_bad : (i : ℕ) → told_at (λ a. good (key a)) bad F file at ≡ bad i
+      → (r : List ℕ) × (F.parse (drop at file) ≡ refused r) × (bad (length file - length r) ≡ bad i)
+  unfolding told_at
+  from_bad i e = by (F.parse (drop at file)) refl
+    where
+      by : (d : Parse A) → F.parse (drop at file) ≡ d → (r : List ℕ) × (F.parse (drop at file) ≡ refused r) × (bad (length file - length r) ≡ bad i)
+      by (parsed a r) p = absurd (kinds.apart (simp p at e))
+      by (refused r) p = (r, p, simp p at e)
+
+  pub from_off : ((p q : ℕ) → bad p ≡ bad q → p ≡ q) → (i : ℕ) → told_at (λ a. good (key a)) bad F file at ≡ bad i → Off F file at i
+  from_off same i e = let g = from_bad i e in record { rest = g.0; parses = g.1; place = sym (same (length file - length g.0) i g.2) }
+
 -- a value, or how one is refused, by an answer that tells of either in its own way
 module _ {A B : Type 0} (good : A → ℕ → B) (bad : ℕ → Broken) (F : Format A) (file : List ℕ) (at : ℕ) where
   -- `next` is the position after a value that was told of so
@@ -80,8 +110,8 @@ module _ {A B : Type 0} (good : A → ℕ → B) (bad : ℕ → Broken) (F : For
       by (refused r) p = let f : Err (bad (length file - length r)) ≡ Err b = simp p at e in (r, p, cc)
 
 -- a value that breaks where its first refused position is
-pub from_off : {A B : Type 0} (good : A → ℕ → B) (F : Format A) (file : List ℕ) (at : ℕ) {b : Broken} → end_at good F file at ≡ Err b → Off F file at b.at
-from_off good F file at e =
+pub broken_off : {A B : Type 0} (good : A → ℕ → B) (F : Format A) (file : List ℕ) (at : ℕ) {b : Broken} → end_at good F file at ≡ Err b → Off F file at b.at
+broken_off good F file at e =
     let g = from_err good breaks_at F file at e in
     record { rest = g.0; parses = g.1; place = ap (λ (b : Broken). b.at) (sym g.2) }
 
@@ -146,7 +176,7 @@ module _ (p : Profile) (file : List ℕ) (at : ℕ) where
         (g.0, record { stands = g.1; room_after_lem = ap (λ (b : ContoursEnd). b.room) g.2; area_is = ap (λ (b : ContoursEnd). b.area) g.2 })
 
     pub contour_off : {b : Broken} → contour_told_at p room file at ≡ Err b → Off (contour_in p room) file at b.at
-    contour_off e = from_off (contour_end room) (contour_in p room) file at e
+    contour_off e = broken_off (contour_end room) (contour_in p room) file at e
 
   module _ (n : ℕ) where
     pub record ContoursTold (cs : List (List Point)) (next r : ℕ) (sum : ℤ) : Type 0 where
@@ -162,7 +192,7 @@ module _ (p : Profile) (file : List ℕ) (at : ℕ) where
         (g.0, record { stands = g.1; room_after_lem = ap (λ (b : ContoursEnd). b.room) g.2; area_is = ap (λ (b : ContoursEnd). b.area) g.2 })
 
     pub contours_off : {b : Broken} → contours_at p n file at ≡ Err b → Off (sequence (contour_in p) room_after n most_points) file at b.at
-    contours_off e = from_off (contours_end p) (sequence (contour_in p) room_after n most_points) file at e
+    contours_off e = broken_off (contours_end p) (sequence (contour_in p) room_after n most_points) file at e
 
 -- ---- the contours of a layer, by their counts and their areas
 
@@ -187,7 +217,7 @@ module _ (p : Profile) (file : List ℕ) (at : ℕ) where
       )
 
   pub counts_off : {b : Broken} → counts_at p file at ≡ Err b → Off (contour_list_in p) file at b.at
-  counts_off e = from_off counts_end (contour_list_in p) file at e
+  counts_off e = broken_off counts_end (contour_list_in p) file at e
 
 -- ---- a layer, by its height and its areas
 
@@ -203,7 +233,7 @@ module _ (p : Profile) (low : ℤ) (file : List ℕ) (at : ℕ) where
       (g.0, record { stands = g.1; height_is = ap (λ (b : LayerEnd). b.height) g.2; area_is = ap (λ (b : LayerEnd). b.area) g.2 })
 
   pub layer_off : {b : Broken} → layer_told_at p low file at ≡ Err b → Off (layer_format_in p low) file at b.at
-  layer_off e = from_off layer_end (layer_format_in p low) file at e
+  layer_off e = broken_off layer_end (layer_format_in p low) file at e
 
 -- ---- layers, by the height of the last
 
@@ -217,7 +247,7 @@ module _ (p : Profile) (file : List ℕ) (at n : ℕ) (low : ℤ) where
       (g.0, g.1, ap (λ (b : LevelsEnd). b.height) g.2)
 
   pub levels_off : {b : Broken} → levels_at p n low file at ≡ Err b → Off (sequence (layer_format_in p) height_of n low) file at b.at
-  levels_off e = from_off (levels_end p low) (sequence (layer_format_in p) height_of n low) file at e
+  levels_off e = broken_off (levels_end p low) (sequence (layer_format_in p) height_of n low) file at e
 
 -- ---- a value with which the file ends
 

@@ -13,7 +13,7 @@ use Rattle.file_formats.specs.Positions.{breaks_at, number_at}
 use Rattle.file_formats.specs.PositionLaws.{took, not_took, number_breaks, sequence_tails, ParsedAt}
 use Rattle.file_formats.specs.declared.Broken.{Broken}
 use Rattle.file_check.specs.Answers.{final}
-use Rattle.file_check.specs.AnswerLaws.{Off, from_ok, from_off, final_off, final_over, final_whole}
+use Rattle.file_check.specs.AnswerLaws.{Off, from_ok, broken_off, final_off, final_over, final_whole}
 use Rattle.ink.specs.Charges.{job_charge}
 use Rattle.ink.specs.Steps.{charges_at, charge_of}
 
@@ -40,7 +40,7 @@ module _ (t : ℕ) (file : List ℕ) where
         ap (charge_of t) (sym b)
 
     pub layers_refused : {b : Broken} → charges_at t n file start ≡ Err b → Err b ≡ charge_of t (layers_of file)
-    layers_refused {b} f = off_broken (final_off layers file start b.at (from_off (λ ls next. (job_charge t ls, next)) layers file start f))
+    layers_refused {b} f = off_broken (final_off layers file start b.at (broken_off (λ ls next. (job_charge t ls, next)) layers file start f))
 
     module _ {c i : ℕ} (f : charges_at t n file start ≡ Ok (c, i)) where
       passed : (ls : List Layer) × ParsedAt layers file start ls i × (◌≡◌ {A = ℕ × ℕ} (job_charge t ls, i) (c, i))

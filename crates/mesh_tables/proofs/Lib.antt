@@ -1,3 +1,4 @@
 -- Lemmas that belong to no one function.
 pub mod OrderTest
 pub mod PairingTest
+pub mod Openings
