@@ -16,7 +16,14 @@ pub fn is_passed(coords: &[i32], h: i32, k: usize, v: usize) -> bool
 {
     let i = 3 * v + 2;
     let z = coords[i];
-    z < h || (z <= h && v < k)
+    // By cases, as most vertices stand off the plane: joined by && and || the test of a whole ring took up to half as long again.
+    if z < h {
+        true
+    } else if h < z {
+        false
+    } else {
+        v < k
+    }
 }
 
 // Whether the start of corner c is passed.

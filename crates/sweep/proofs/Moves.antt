@@ -1,8 +1,9 @@
 -- What the branches and loops of the sweep's parts say, in the definitions' terms.
-use Prim.Native.Nat.{ℕ, zero, suc, ◌+◌, ◌-◌, ◌*◌, ◌/◌, ◌^◌, ◌≤◌, ◌<◌}
+use Prim.Native.Nat.{ℕ, zero, suc, ◌+◌, ◌-◌, ◌*◌, ◌/◌, ◌^◌, ◌≤◌, ◌<◌, min}
 use mathlib.Core.Path.{◌≡◌, refl, sym, ap, ◌∙◌}
 use mathlib.Core.Bool.{Bool, true, false, not, cond, ◌&&◌, ◌||◌}
 use mathlib.Core.List.{List}
+use mathlib.Core.Logic.{⊎_elim}
 use native.Mathlib.Omega.{arith}
 use borrow.Author.Tests.{lt-ltb, le-ltb, eq-eqb, ne_eqb, not-true}
 use lib.Dec.{ltb, eqb}
@@ -12,10 +13,10 @@ use lib.Signed.{lt_z, mag}
 use mir.Syntax.{w32}
 use mir.Val.{SFits, to_z, of_z}
 use mir.ValLaws.{to_z-of_z}
-use Rattle.laws.specs.Booleans.{clash, is_false}
+use Rattle.laws.specs.Booleans.{clash, is_false, split_lt}
 use Rattle.laws.specs.Integers.{abs_is}
 use Rattle.laws.specs.Least.{least}
-use Rattle.laws.specs.LeastLaws.{least_same, some_of, some_at}
+use Rattle.laws.specs.LeastLaws.{Scanned, scan_hit, scan_end, least_same, some_of, some_at}
 use Rattle.laws.specs.Machine.{same}
 use Rattle.laws.specs.Tables.{refill}
 use Rattle.laws.specs.TableLaws.{refill_more, refill_kept}
@@ -138,6 +139,12 @@ module _ (passed : VertexSet) (corners pairing ring : List ℕ) (c : ℕ) where
   pub wrong_missing : length ring ≤ c → true ≡ wrong_for passed corners pairing ring c
   unfolding wrong_for
   wrong_missing h = simp (le-ltb c (length ring) h)
+
+  -- none is wrong before a corner past which either table ends
+  pub wrong_over : Scanned (length corners) (wrong_for passed corners pairing ring) c → min (length corners) (length ring) ≤ c
+      → c ≡ least (length corners) (wrong_for passed corners pairing ring)
+  wrong_over s h =
+      ⊎_elim (λ l. scan_hit s l (sym (wrong_missing (omega (arith, l, h))))) (λ m. scan_end s m) (split_lt c (length corners))
 
   pub wrong_as : c < length ring → (e : ℕ) → e ≡ ring_entry passed corners pairing c → not (eqb (get_or ring c 0) e) ≡ wrong_for passed corners pairing ring c
   unfolding wrong_for

@@ -106,12 +106,14 @@ fn first_wrong(
     ensures value { result ≡ least (length corners.now)
         (wrong_for (under coords.now h k) corners.now pairing.now ring.now) }
 {
-    for c in 0..corners.len() {
+    // Where the table ends, the next corner's entry is missing.
+    let end = corners.len().min(ring.len());
+    for c in 0..end {
         if is_wrong(coords, corners, pairing, h, k, ring, c) {
             return c;
         }
     }
-    corners.len()
+    end
 }
 
 // Refusal 11 of Layer (LAYER-5).

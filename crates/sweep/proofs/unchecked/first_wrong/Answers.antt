@@ -1,14 +1,14 @@
 -- `unchecked::first_wrong` meets its contract.
 use Prim.Native.Nat.{ℕ}
-use mathlib.Core.Path.{sym, ap, ◌∙◌}
+use mathlib.Core.Path.{◌≡◌, sym, ap, ◌∙◌}
 use native.Mathlib.Omega.{arith}
 use lib.ListN.{length}
 use lib.IntN.{ℤ}
 use Rattle.laws.specs.Least.{least}
-use Rattle.laws.specs.LeastLaws.{scan_hit, scan_miss, scan_over}
+use Rattle.laws.specs.LeastLaws.{scan_hit, scan_miss}
 use Rattle.section.specs.Section.{under}
 use Rattle.sweep.specs.Places.{wrong_for}
-use Rattle.sweep.proofs.Moves.{back}
+use Rattle.sweep.proofs.Moves.{back, wrong_over}
 use Rattle.sweep.proofs.unchecked.first_wrong.Goals as goal
 use Rattle.sweep.proofs.unchecked.first_wrong.Goals.{Start}
 
@@ -20,12 +20,15 @@ first start z =
 
 pub returns-then-is_wrong : goal.returns-then-is_wrong
 returns-then-is_wrong c = record {
-  value = scan_hit c.loop-c.invariant c.loop-c-test.true (sym c.is_wrong.ensures.value ∙ c.if-is_wrong.true)
+  value = scan_hit c.loop-c.invariant (omega arith) (sym c.is_wrong.ensures.value ∙ c.if-is_wrong.true)
       ∙ ap (first (goal.at.returns-then-is_wrong c).Start) (back c.ranges.h);
 }
 
 pub loop-c-preserved : goal.loop-c-preserved
-loop-c-preserved c = scan_miss c.loop-c.invariant c.loop-c-test.true (sym c.is_wrong.ensures.value ∙ c.if-is_wrong.false)
+loop-c-preserved c = scan_miss c.loop-c.invariant (omega arith) (sym c.is_wrong.ensures.value ∙ c.if-is_wrong.false)
 
 pub returns : goal.returns
-returns c = record { value = scan_over c.loop-c.invariant (omega arith) ∙ ap (first (goal.at.returns c).Start) (back c.ranges.h) }
+returns c =
+    let done : c.min-end.result ≡ c.loop-c.c = omega arith in record {
+      value = done ∙ wrong_over _ _ _ _ _ c.loop-c.invariant (omega arith) ∙ ap (first (goal.at.returns c).Start) (back c.ranges.h);
+    }
