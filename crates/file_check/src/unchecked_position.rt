@@ -35,7 +35,7 @@ fn check_watched<W: Watch>(file: &[u8], at: usize, count: u64) -> Result<PointsE
     requires { (at ≤ length file.now) × (count ≤ most_points) }
     ensures value { result ≡ points_at W.profile count file.now at }
 {
-    let mut watch = W::start();
+    let mut watch = W::watch_none();
     let mut sum = sum_none();
     let mut x: i32 = 0;
     let mut y: i32 = 0;

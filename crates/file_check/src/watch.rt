@@ -16,7 +16,7 @@ pub trait Watch: Copy {
     ghost seen: { Self → ContourSeen };
 
     // Before the first point.
-    fn start() -> Self
+    fn watch_none() -> Self
         ensures value { seen result ≡ unseen };
 
     // After one more point, (x, y), where (px, py) came before.
@@ -37,7 +37,7 @@ impl Watch for Unwatched {
 
     ghost seen = { λ s. unseen };
 
-    fn start() -> Unwatched {
+    fn watch_none() -> Unwatched {
         Unwatched
     }
 
@@ -56,7 +56,7 @@ impl Watch for ContourSeen {
 
     ghost seen = { λ s. s };
 
-    fn start() -> ContourSeen {
+    fn watch_none() -> ContourSeen {
         see_none()
     }
 

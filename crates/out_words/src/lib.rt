@@ -19,72 +19,72 @@ use read_part::PartCounts;
 use sweep::{Risen, State};
 
 // What an operation gives, as words of `out`.
-pub trait Words {
+pub trait ValueWords {
     ghost words: { Self → List ℕ };
 
     // Puts them into the first entries; the others stay.
-    fn put(self, out: &mut [u64; 4])
+    fn put_values(self, out: &mut [u64; 4])
         ensures left { out.new ≡ sets out.old 0 (words self) };
 }
 
 // Check, Nesting.
-impl Words for () {
+impl ValueWords for () {
     ghost words = { no_words };
 
-    fn put(self, _out: &mut [u64; 4]) {}
+    fn put_values(self, _out: &mut [u64; 4]) {}
 }
 
 // All layers, the run of Preview.
-impl Words for usize {
+impl ValueWords for usize {
     ghost words = { one_word };
 
-    fn put(self, out: &mut [u64; 4]) {
+    fn put_values(self, out: &mut [u64; 4]) {
         out[0] = self as u64;
     }
 }
 
 // Ink.
-impl Words for u64 {
+impl ValueWords for u64 {
     ghost words = { one_word };
 
-    fn put(self, out: &mut [u64; 4]) {
+    fn put_values(self, out: &mut [u64; 4]) {
         out[0] = self;
     }
 }
 
 // Area.
-impl Words for i64 {
+impl ValueWords for i64 {
     ghost words = { signed_word };
 
-    fn put(self, out: &mut [u64; 4]) {
+    fn put_values(self, out: &mut [u64; 4]) {
         out[0] = word_of(self);
     }
 }
 
 // Cut, Clean.
-impl Words for LayerCounts {
+impl ValueWords for LayerCounts {
     ghost words = { λ c. cut_words (c.contours, c.points) };
 
-    fn put(self, out: &mut [u64; 4]) {
+    fn put_values(self, out: &mut [u64; 4]) {
         out[0] = self.contours as u64;
         out[1] = self.points as u64;
     }
 }
 
 // Start.
-impl Words for State {
+impl ValueWords for State {
     ghost words = { λ s. one_word s.passed };
 
-    fn put(self, out: &mut [u64; 4]) {
+    fn put_values(self, out: &mut [u64; 4]) {
         out[0] = self.passed as u64;
     }
 }
 
 // Layer.
-impl Words for Risen {
+impl ValueWords for Risen {
     ghost words = { λ r. layer_words (r.state.passed, (r.counts.contours, r.counts.points)) };
 
-    fn put(self, out: &mut [u64; 4]) {
+    fn put_values(self, out: &mut [u64; 4]) {
         out[0] = self.state.passed as u64;
         out[1] = self.counts.contours as u64;
         out[2] = self.counts.points as u64;
@@ -92,10 +92,10 @@ impl Words for Risen {
 }
 
 // Read layer.
-impl Words for LayerRead {
+impl ValueWords for LayerRead {
     ghost words = { λ l. read_layer_words (l.layers, l.height, l.counts.contours, l.counts.points) };
 
-    fn put(self, out: &mut [u64; 4]) {
+    fn put_values(self, out: &mut [u64; 4]) {
         out[0] = self.layers as u64;
         out[1] = word_of(self.height as i64);
         out[2] = self.counts.contours as u64;
@@ -104,10 +104,10 @@ impl Words for LayerRead {
 }
 
 // Read part.
-impl Words for PartCounts {
+impl ValueWords for PartCounts {
     ghost words = { λ c. read_part_words (c.vertices, c.triangles, c.heights) };
 
-    fn put(self, out: &mut [u64; 4]) {
+    fn put_values(self, out: &mut [u64; 4]) {
         out[0] = self.vertices as u64;
         out[1] = self.triangles as u64;
         out[2] = self.heights as u64;
@@ -130,12 +130,12 @@ pub fn word_of(z: i64) -> u64
 }
 
 // Tells what an operation answers.
-pub fn tell_answer<V: Words>(answer: Result<V, Refusal>, out: &mut [u64; 4]) -> u32
+pub fn tell_answer<V: ValueWords>(answer: Result<V, Refusal>, out: &mut [u64; 4]) -> u32
     ensures outcome { Says V.words (tell (λ v. v) answer) out.old result out.new }
 {
     match answer {
         Ok(values) => {
-            values.put(out);
+            values.put_values(out);
             0
         }
         Err(refusal) => refuse(refusal, out),

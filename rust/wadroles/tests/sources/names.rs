@@ -1,6 +1,6 @@
-//! One name, one thing: an enum, a struct, a record, a data type, a function of the code and a
-//! definition of `specs` outside files of laws and of worked values are each defined once. Only a
-//! function has the name of a definition that it computes, and its contract says so.
+//! One name, one thing: an enum, a struct, a trait, a record, a data type, a function or method of
+//! the code and a definition of `specs` outside files of laws and of worked values are each defined
+//! once. Only a function has the name of a definition that it computes, and its contract says so.
 
 use crate::definitions::is_definition_file;
 use crate::tree;
@@ -34,23 +34,37 @@ enum Kind {
 /// A name, what it is and the line that defines it.
 type Item<'a> = (usize, Kind, &'a str);
 
-/// The types and functions of a file of code. They stand at the start of a line.
+/// The types, traits and functions of a file of code, which stand at the start of a line, and the
+/// methods of a trait and of a type, which stand in its block. An `impl` of a trait has the names of
+/// the trait's methods, which count there.
 fn code_items(text: &str) -> Vec<Item<'_>> {
-    (1..)
-        .zip(text.lines())
-        .filter_map(|(number, line)| {
-            let line = line.strip_prefix("pub ").unwrap_or(line);
-            let line = line.strip_prefix("extern \"C\" ").unwrap_or(line);
-            let (word, rest) = line.split_once(' ')?;
-            let kind = match word {
-                "enum" | "struct" => Kind::Type,
-                "fn" => Kind::Function,
-                _ => return None,
-            };
-            let name = rest.split(|c: char| !c.is_alphanumeric() && c != '_');
-            Some((number, kind, name.into_iter().next()?))
-        })
-        .collect()
+    let mut items = Vec::new();
+    let mut in_block = false;
+    for (number, line) in (1..).zip(text.lines()) {
+        let body = line
+            .strip_prefix("    ")
+            .filter(|_| in_block)
+            .unwrap_or(line);
+        let body = body.strip_prefix("pub ").unwrap_or(body);
+        let body = body.strip_prefix("extern \"C\" ").unwrap_or(body);
+        if !line.starts_with(' ') && !line.is_empty() {
+            let of_a_type = body.starts_with("impl") && !body.contains(" for ");
+            in_block = body.starts_with("trait ") || of_a_type;
+        }
+        let Some((word, rest)) = body.split_once(' ') else {
+            continue;
+        };
+        let kind = match word {
+            "enum" | "struct" | "trait" => Kind::Type,
+            "fn" => Kind::Function,
+            _ => continue,
+        };
+        let name = rest
+            .split(|c: char| !c.is_alphanumeric() && c != '_')
+            .next();
+        items.extend(name.map(|name| (number, kind, name)));
+    }
+    items
 }
 
 /// The types and definitions of a file of definitions or proofs: those of the file itself and those
@@ -113,10 +127,20 @@ fn used_as<'a>(code: &'a str, path: &str, name: &str) -> Option<&'a str> {
     })
 }
 
-/// The promises of a function of a file of code, from its first `ensures` to its body.
+/// The promises of a function or method of a file of code, from its first `ensures` to its body, or to
+/// the end of what a trait says of it.
 fn promises<'a>(code: &'a str, name: &str) -> Option<&'a str> {
     let (_, text) = code.split_once(&format!("fn {name}("))?;
-    let (contract, _) = text.split_once("\n{")?;
+    let mut length = 0;
+    for line in text.split_inclusive('\n') {
+        length += line.len();
+        let line = line.trim_end();
+        let says = line.contains("ensures") || line.contains("requires");
+        if line.ends_with(';') || line.ends_with('{') && !says {
+            break;
+        }
+    }
+    let contract = &text[..length];
     let at = contract.find("ensures")?;
     Some(&contract[at..])
 }
@@ -220,6 +244,25 @@ struct Place {
 pub extern \"C\" fn wadroles_walk<'a>(fn_of: usize) -> usize {
     let first = 0;
 }
+
+pub trait Seen {
+    ghost seen: { Self → ℕ };
+
+    fn see(self) -> usize
+        ensures value { result ≡ seen self };
+}
+
+impl Seen for Place {
+    fn see(self) -> usize {
+        self.first
+    }
+}
+
+impl Place {
+    pub fn after(self) -> usize {
+        self.first + 1
+    }
+}
 ";
 
 #[test]
@@ -239,6 +282,9 @@ fn items_are_seen() {
             (2, Kind::Type, "Answer"),
             (6, Kind::Type, "Place"),
             (10, Kind::Function, "wadroles_walk"),
+            (14, Kind::Type, "Seen"),
+            (17, Kind::Function, "see"),
+            (28, Kind::Function, "after"),
         ]
     );
 }
@@ -303,4 +349,28 @@ fn a_function_has_the_name_of_what_it_computes() {
     assert!(seen("A.{few as A·few}", says));
     assert!(seen("A.{few}", "ensures value { result ≡ fewer n }"));
     assert!(seen("A.{few}", "requires { few n }"));
+}
+
+#[test]
+fn a_method_ends_its_own_promises() {
+    let code = "\
+trait Counting {
+    fn few(self) -> bool;
+    fn more(self) -> bool
+        ensures value { result ≡ many self };
+    fn most(self) -> bool;
+}
+
+impl Count {
+    fn all(self) -> bool
+        ensures value { result ≡ every self }
+    {
+        few(self)
+    }
+}
+";
+    assert_eq!(promises(code, "few"), None);
+    assert!(promises(code, "more").is_some_and(|text| text.ends_with("many self };\n")));
+    assert_eq!(promises(code, "most"), None);
+    assert!(promises(code, "all").is_some_and(|text| text.ends_with("every self }\n    {\n")));
 }

@@ -18,7 +18,7 @@ use Rattle.file_check.proofs.unchecked_position.check_watched.Given.{Over}
 use Rattle.file_check.proofs.unchecked_position.check_watched.Goals.{In_ok-ny}
 
 pub loop-init : goal.loop-init
-loop-init g c = points_checked g.W.Watch.profile _ _ _ c.start-watch.ensures.value c.sum_none-sum.ensures.value (omega arith) c.requires
+loop-init g c = points_checked g.W.Watch.profile _ _ _ c.watch_none-watch.ensures.value c.sum_none-sum.ensures.value (omega arith) c.requires
 
 pub read_coordinate-requires : goal.read_coordinate-requires
 read_coordinate-requires g c = c.loop.invariant.x_in
