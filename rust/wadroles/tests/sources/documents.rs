@@ -10,8 +10,9 @@ const SPECIFICATION: &str = "docs/SPECIFICATION.md";
 const PROMISES: &str = "docs/PROMISES.md";
 /// It tells what was, as the landings do, and so names what is gone.
 const PORT: &str = "docs/PORT.md";
-/// So does this one.
+/// So do these two.
 const DESIGN_PASS: &str = "docs/DESIGN-PASS.md";
+const LOOK_BACK: &str = "docs/LOOK-BACK.md";
 const MOST_CHARACTERS: usize = 120;
 
 /// Endings of files that a document may name without their directory.
@@ -541,7 +542,7 @@ fn what_documents_cite_is_there() {
     let sources = Sources::of_the_repository();
     let mut faults = Vec::new();
     let mut paths = documents("docs");
-    paths.retain(|path| ![PROMISES, PORT, DESIGN_PASS].contains(&path.as_str()));
+    paths.retain(|path| ![PROMISES, PORT, DESIGN_PASS, LOOK_BACK].contains(&path.as_str()));
     for path in [vec!["README.md".to_owned()], paths].concat() {
         let directory = path.rsplit_once('/').map_or("", |(directory, _)| directory);
         let found = document_faults(directory, &tree::read(&path), &sources);
