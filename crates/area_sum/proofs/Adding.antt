@@ -1,6 +1,6 @@
 -- One trapezoid more: points made wider, the result of `trapezoid`, and the sum with it.
 use Prim.Native.Nat.{ℕ, ◌+◌, ◌*◌, ◌^◌, ◌≤◌, ◌<◌}
-use mathlib.Core.Path.{◌≡◌, refl, ◌∙◌}
+use mathlib.Core.Path.{◌≡◌, refl, ap, ◌∙◌}
 use mathlib.Core.Bool.{true, false}
 use lib.IntN.{ℤ, pos, nat_abs, ◌+ℤ◌, ◌-ℤ◌, ◌*ℤ◌}
 use lib.Signed.{mag}
@@ -22,6 +22,18 @@ held z = to_z w64 (of_z w64 z)
 pub narrow_is : (z : ℤ) → nat_abs z ≤ largest → to_z w32 (of_z w32 z) ≡ z
 narrow_is z h = same_in w32 z largest h tt
 
+-- the number of 64 bits that a coordinate is widened to
+abbrev pub widened : ℤ → ℤ
+widened z = held (to_z w32 (of_z w32 z))
+
+pub wide_is : (z : ℤ) → nat_abs z ≤ largest → widened z ≡ z
+wide_is z h = ap held (narrow_is z h) ∙ same_in w64 z largest h tt
+
+-- what `trapezoid` asks of the edge from p to q
+pub edge_near : (p q : Point) → PointNear p → PointNear q
+    → (nat_abs (widened p.x) ≤ largest) × (nat_abs (widened p.y) ≤ largest) × (nat_abs (widened q.x) ≤ largest) × (nat_abs (widened q.y) ≤ largest)
+edge_near p q h k = (rw (wide_is p.x h.0) h.0, rw (wide_is p.y h.1) h.1, rw (wide_is q.x k.0) k.0, rw (wide_is q.y k.1) k.1)
+
 -- x and y are the coordinates of p, a point in range
 pub record Wider (p : Point) (x y : ℤ) : Type 0 where
   pub near : PointNear p
@@ -34,9 +46,9 @@ made_wider {p} {x} {y} h f g d e =
     record { near = h; x_is = same w64 x f ∙ d ∙ narrow_is p.x h.0; y_is = same w64 y g ∙ e ∙ narrow_is p.y h.1 }
 
 module _ {p q : Point} {x y u v : ℤ} (a : Wider p x y) (b : Wider q u v) where
-  -- what `trapezoid` asks of the edge from p to q
-  pub edge_near : (nat_abs (held x) ≤ largest) × (nat_abs (held y) ≤ largest) × (nat_abs (held u) ≤ largest) × (nat_abs (held v) ≤ largest)
-  edge_near = (rw a.x_is a.near.0, rw a.y_is a.near.1, rw b.x_is b.near.0, rw b.y_is b.near.1)
+  -- the same of the edge as it is held
+  pub wider_near : (nat_abs (held x) ≤ largest) × (nat_abs (held y) ≤ largest) × (nat_abs (held u) ≤ largest) × (nat_abs (held v) ≤ largest)
+  wider_near = (rw a.x_is a.near.0, rw a.y_is a.near.1, rw b.x_is b.near.0, rw b.y_is b.near.1)
 
   -- and what it promises of its result
   abbrev pub Trapezoid : ℤ → Type 0

@@ -2,7 +2,7 @@
 use native.Mathlib.Omega.{arith}
 use Rattle.polygons.specs.Flat.{point}
 use Rattle.area_sum.specs.Summing.{first_summed}
-use Rattle.area_sum.proofs.Adding.{Wider, made_wider, edge_near, sum_ok, sum_twice_ok, closes}
+use Rattle.area_sum.proofs.Adding.{Wider, made_wider, wider_near, sum_ok, sum_twice_ok, closes}
 use Rattle.area_sum.proofs.unchecked.sum_closed.Goals as goal
 use Rattle.area_sum.proofs.unchecked.sum_closed.Goals.{After-from-2}
 
@@ -15,7 +15,7 @@ module _ (c : After-from-2) where
   last = made_wider c.requires.1 c.from.type_inv c.from-2.type_inv c.from.ensures c.from-2.ensures
 
 pub trapezoid-requires : goal.trapezoid-requires
-trapezoid-requires c = edge_near (last c) (first c)
+trapezoid-requires c = wider_near (last c) (first c)
 
 pub overflow_add-result : goal.overflow_add-result
 overflow_add-result c =
@@ -25,7 +25,7 @@ overflow_add-result c =
 pub trapezoid-requires-2 : goal.trapezoid-requires-2
 trapezoid-requires-2 c =
     let near = first (goal.at.trapezoid-requires-2 c).After-from-2 in
-    let e = edge_near near near in
+    let e = wider_near near near in
     (e.0, e.1, omega arith, omega arith)
 
 pub overflow_add-result-2 : goal.overflow_add-result-2

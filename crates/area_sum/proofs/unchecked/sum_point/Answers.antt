@@ -5,7 +5,7 @@ use mir.Syntax.{w64}
 use mir.Val.{to_z}
 use Rattle.polygons.specs.Flat.{point}
 use Rattle.area_sum.specs.Summing.{trapezoid_points}
-use Rattle.area_sum.proofs.Adding.{narrow_is, Wider, made_wider, edge_near, trapezoid_is, sum_ok, sum_with, point_later, point_first}
+use Rattle.area_sum.proofs.Adding.{narrow_is, Wider, made_wider, wider_near, trapezoid_is, sum_ok, sum_with, point_later, point_first}
 use Rattle.area_sum.proofs.unchecked.sum_point.Goals as goal
 use Rattle.area_sum.proofs.unchecked.sum_point.Goals.{After-from-4, After-trapezoid}
 
@@ -27,7 +27,7 @@ sum_told c =
     ∙ ap (λ (z : ℤ). c.args.s.sum +ℤ z) (trapezoid_is (prior c.before) (next c.before) t.ensures.result.0)
 
 pub trapezoid-requires : goal.trapezoid-requires
-trapezoid-requires c = edge_near (prior c) (next c)
+trapezoid-requires c = wider_near (prior c) (next c)
 
 pub overflow_add-sum : goal.overflow_add-sum
 overflow_add-sum c = let t = c.trapezoid in sum_ok c.requires.0 t.result t.type_inv t.ensures.result.1
