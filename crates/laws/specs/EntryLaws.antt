@@ -2,11 +2,10 @@
 use Rattle.std.specs.Prelude.{ℕ, zero, suc, ◌+◌, ◌≤◌, ◌<◌, ◌≡◌, refl, List, [], ◌∷◌, ◌++◌, map, ◌↔◌, length, get_or, take, drop}
 use Rattle.std.specs.Prelude.{slice_get, option_map, Some, None}
 use Rattle.std.proofs.Common.{sym, ap, ◌∙◌, arith, not-suc-le-zero, zero-add, suc-add}
+use Rattle.std.proofs.lemmas.Option.{slice_get-map}
 
 pub entry_map : {A B : Type 0} (f : A → B) (l : List A) (k : ℕ) → slice_get (map f l) k ≡ option_map f (slice_get l k)
-entry_map f [] k = refl
-entry_map f (a ∷ l) zero = refl
-entry_map f (a ∷ l) (suc k) = entry_map f l k
+entry_map = slice_get-map
 
 module _ {A : Type 0} where
   pub entry_front : (l r : List A) (d : A) (k : ℕ) → k < length l → slice_get (l ++ r) k ≡ Some (get_or l k d)

@@ -16,7 +16,7 @@ pub fn is_passed(coords: &[i32], h: i32, k: usize, v: usize) -> bool
 {
     let i = 3 * v + 2;
     let z = coords[i];
-    // By cases, as most vertices stand off the plane: joined by && and || the test of a whole ring took up to half as long again.
+    // By cases: joined by && and ||, Layer over vertices that are passed already takes a fifth more instructions.
     if z < h {
         true
     } else if h < z {
